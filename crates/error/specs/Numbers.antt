@@ -1,0 +1,26 @@
+-- The numbers of paper 01, "What turns a call away": a refusal carries only its number. Assumes nothing.
+use Prim.Native.Nat.{ℕ}
+use Rattle.error.specs.declared.Refusal.{Refusal}
+use Rattle.error.specs.declared.Refusal.the-variants.{CoordinatesLength, NodesLength, NoBasis, BasisCode, Regularization, ExternalLength, TooFewWells, NodeExternalLength, TooMany, Tolerance, NotFinite, Model, Dimension, TooFewSamples, Bins, SurveyFile, WorkArea, AnswerArea, Singular}
+
+-- each line is a line of the paper's list
+abbrev pub numberOf : Refusal → ℕ
+numberOf CoordinatesLength = 1
+numberOf NodesLength = 2
+numberOf NoBasis = 3
+numberOf BasisCode = 4
+numberOf Regularization = 5
+numberOf ExternalLength = 6
+numberOf TooFewWells = 7
+numberOf NodeExternalLength = 8
+numberOf TooMany = 9
+numberOf Tolerance = 10
+numberOf NotFinite = 11
+numberOf Model = 12
+numberOf Dimension = 13
+numberOf TooFewSamples = 14
+numberOf Bins = 15
+numberOf SurveyFile = 16
+numberOf WorkArea = 17
+numberOf AnswerArea = 18
+numberOf Singular = 19
