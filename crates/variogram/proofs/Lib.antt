@@ -1,1 +1,4 @@
 pub mod Model
+pub mod Zero
+pub mod Squares
+pub mod Distance

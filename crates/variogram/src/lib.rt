@@ -1,7 +1,12 @@
 // The variogram models, and the distances at which they are evaluated.
 ghost use mathlib.Core.Path.{_≡_};
+ghost use mathlib.Core.Bool.{_&&_};
+ghost use Prim.Native.Nat.{_+_, _*_, _≤_};
+ghost use lib.Dec.{leb};
+ghost use lib.ListN.{length};
 ghost use lib.Ieee.{nan};
 ghost use Rattle.variogram.specs.Model.{variogram, semivariance};
+ghost use Rattle.variogram.specs.Distance.{squaredDistance2d, offered, axisFrom, squares};
 
 // Variogram models, in the Rust's order. The base offers Spherical and Linear.
 pub enum VariogramModel {
@@ -67,4 +72,43 @@ impl Variogram {
             }
         }
     }
+}
+
+// Squared Euclidean distance between two `(x, y)` points.
+pub fn squared_distance_2d(ax: f64, ay: f64, bx: f64, by: f64) -> f64
+    ensures { λ r. ⌜ r ≡ squaredDistance2d ax ay bx by ⌝ }
+{
+    let dx = ax - bx;
+    let dy = ay - by;
+    dx * dx + dy * dy
+}
+
+// Whether points of d numbers are offered, and the point i of such lies in the list p.
+fn has_point(p: &[f64], i: usize, d: usize) -> bool
+    ensures { λ r. ⌜ r ≡ (offered d && leb (i * d + d) (length (now (p .entry)))) ⌝ }
+{
+    if d < 1 {
+        return false;
+    }
+    if d > 3 {
+        return false;
+    }
+    if i >= p.len() {
+        return false;
+    }
+    i * d + d <= p.len()
+}
+
+// The squared differences of two points, added by rising axis: the points begin at a and at b.
+fn sum_of_squares(p1: &[f64], a: usize, p2: &[f64], b: usize, d: usize) -> f64
+    requires { ⌜ a + d ≤ length (now p1) ⌝ }
+    requires { ⌜ b + d ≤ length (now p2) ⌝ }
+    ensures { λ r. ⌜ r ≡ squares (axisFrom (now (p1 .entry)) a) (axisFrom (now (p2 .entry)) b) d ⌝ }
+{
+    let mut dist_sq = 0.0;
+    for k in 0..d {
+        let diff = p1[a + k] - p2[b + k];
+        dist_sq = dist_sq + diff * diff;
+    }
+    dist_sq
 }
