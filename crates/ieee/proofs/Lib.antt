@@ -5,3 +5,5 @@ pub mod RootDigits
 pub mod Normal
 pub mod RootRound
 pub mod RootBits
+pub mod RootCall
+pub mod RootCases
