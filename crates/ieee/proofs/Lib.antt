@@ -1,2 +1,9 @@
 pub mod Zero
 pub mod Fields
+pub mod WholeRoot
+pub mod RootDigits
+pub mod Normal
+pub mod RootRound
+pub mod RootBits
+pub mod RootCall
+pub mod RootCases
