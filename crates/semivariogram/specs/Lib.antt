@@ -1,0 +1,4 @@
+pub mod Pairs
+pub mod Call
+pub mod Refusals
+pub mod Semivariogram
