@@ -1,1 +1,6 @@
+pub mod Lists
+pub mod Pairs
+pub mod Bins
+pub mod Ruling
+pub mod Calculated
 pub mod Sounding

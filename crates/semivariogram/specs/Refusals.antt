@@ -45,7 +45,6 @@ tooMany q = ltb mostSamples (samples q)
 
 -- 11: "a value, coordinate .. not finite, as far as the call takes them"
 abbrev pub notFinite : Samples → Bool
-unfolding allFinite
 notFinite q = not (allFinite (q .values) && allFinite (q .points))
 
 -- 18: "an answer area too short: .. for bins, the bin count, three times"
@@ -54,7 +53,6 @@ shortAnswer q a = ltb (length (a .distances)) (q .bins) || ltb (length (a .semiv
 
 -- the tests in the paper's order
 abbrev pub tests : Samples → Areas → List Test
-unfolding allFinite
 tests q a =
     test 13 (wrongDimension q)
     ∷ test 1 (wrongPoints q)
