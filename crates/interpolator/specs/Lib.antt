@@ -1,0 +1,4 @@
+pub mod Call
+pub mod System
+pub mod Refusals
+pub mod Interpolation
