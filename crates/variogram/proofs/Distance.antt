@@ -1,13 +1,13 @@
 -- Laws of the distances: which dimensions are offered, a point past the end of its list, the distance back, and that the two distances agree. Assumes nothing.
-use Prim.Native.Nat.{ℕ, zero, suc, _+_, _-_, _*_, _≤_, _<_}
+use Prim.Native.Nat.{ℕ, zero, suc, _+_, _*_, _≤_, _<_}
 use native.Mathlib.Nat.{mul-le-mul-left, mul-one}
 use native.Mathlib.Omega.{arith}
-use mathlib.Core.Path.{_≡_, refl, ap, sym, _∙_, subst}
-use mathlib.Core.Bool.{Bool, true, false, _&&_, cond}
+use mathlib.Core.Path.{_≡_, refl, _∙_, subst}
+use mathlib.Core.Bool.{Bool, true, false, _&&_}
 use mathlib.Core.List.{List}
 use lib.Dec.{leb}
 use lib.ListN.{length, getD, List·getD-eq-default}
-use lib.Ieee.{Float, nan, inf, fin, binary64, add, sub, mul, neg, ofBits}
+use lib.Ieee.{Float, nan, inf, fin, binary64, add, sub, mul, neg}
 use borrow.Author.Tests.{le-leb, lt-leb, leb-true, leb-false}
 use Rattle.ieee.specs.Root.{sqrtOf}
 use Rattle.variogram.specs.Distance.{square, squaredDistance2d, distance2d, squares, axisFrom, offered, hasPoint, distance}

@@ -1,5 +1,5 @@
 -- Laws of a word's bytes and of the patterns of floats. Assumes nothing.
-use Prim.Native.Nat.{ℕ, zero, suc, _+_, _-_, _*_, _%_, _^_, _<_, _≤_}
+use Prim.Native.Nat.{ℕ, suc, _+_, _*_, _%_, _^_, _<_, _≤_}
 use native.Mathlib.Nat.{add-comm, mul-comm}
 use native.Mathlib.Omega.{arith}
 use native.Mathlib.Numerals.{add-one}
@@ -10,10 +10,10 @@ use lib.Dec.{T}
 use borrow.Author.Tests.{lt-ltb, le-ltb}
 use lib.ListN.{getD}
 use lib.Pow.{pow-add}
-use lib.Ieee.{Float, nan, inf, fin, binary64, ofBits, toBits, nanBits, isNan, eq, ne}
+use lib.Ieee.{Float, nan, inf, fin, binary64, ofBits, nanBits, isNan, eq, ne}
 use lib.Ieee.Bits.{nanBits-is, nanBits-above}
 use lib.Ieee.Compare.{differs-from-itself}
-use Rattle.vectors_variogram.specs.Words.{wordAt, isPattern}
+use Rattle.vectors_variogram.specs.Words.{wordAt}
 
 -- one byte more, below those that a word has already
 pub byte-more : (xs : List ℕ) (at k w : ℕ) → w ≡ wordAt xs (suc at) k → w * 256 + getD xs at 0 ≡ wordAt xs at (k + 1)

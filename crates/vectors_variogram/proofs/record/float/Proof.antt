@@ -1,5 +1,5 @@
 -- `vectors_variogram::record::float` meets its contract: past the test no pattern is a NaN's, and what the test takes is. Assumes nothing.
-use mathlib.Core.Path.{refl, sym}
+use mathlib.Core.Path.{sym}
 use borrow.Author.Needs.{needs}
 use lib.Ieee.{ofBits, div}
 use Rattle.vectors_variogram.proofs.Words.{nan-pattern, no-nan-pattern}

@@ -1,5 +1,5 @@
 -- `vectors_variogram::record::is` meets its contract: only the NaN differs from itself. Assumes nothing.
-use mathlib.Core.Path.{refl, sym, ap, _∙_}
+use mathlib.Core.Path.{refl}
 use lib.Ieee.{toBits}
 use Rattle.vectors_variogram.specs.Words.{isPattern}
 use Rattle.vectors_variogram.proofs.Words.{differs, same}

@@ -8,9 +8,6 @@ use Rattle.vectors_variogram.specs.Words.{wordAt}
 use Rattle.vectors_variogram.proofs.Words.{byte-more, room-more}
 use Rattle.vectors_variogram.proofs.record.word.Statement.{statement}
 use Rattle.vectors_variogram.proofs.record.word.Tie as tie
-use Rattle.vectors_variogram.proofs.record.word.Reads as reads
-use Rattle.vectors_variogram.proofs.record.word.Lts as lts
-use Rattle.vectors_variogram.proofs.record.wide.Reads as wide-reads
 
 abbrev Inv-loop : tie.InvT-loop
 Inv-loop bytes i w₀ k₀ w k = (k ≤ 8) × (w ≡ wordAt bytes (8 * i + 8 - k) k) × (w < 2 ^ (8 * k))
