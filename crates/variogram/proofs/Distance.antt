@@ -6,7 +6,7 @@ use mathlib.Core.Path.{_≡_, refl, _∙_, subst}
 use mathlib.Core.Bool.{Bool, true, false, _&&_}
 use mathlib.Core.List.{List}
 use lib.Dec.{leb}
-use lib.ListN.{length, getD, List·getD-eq-default}
+use lib.ListN.{length, List·getD-eq-default}
 use lib.Ieee.{Float, nan, inf, fin, binary64, add, sub, mul, neg}
 use borrow.Author.Tests.{le-leb, lt-leb, leb-true, leb-false}
 use Rattle.ieee.specs.Root.{sqrtOf}
@@ -47,9 +47,9 @@ distance-back xs i ys j d = rw (squares-opposite (axisFrom xs (i * d)) (axisFrom
 
 -- ---- over two axes the two distances agree
 pub distance-plane : (xs : List Float) (i : ℕ) (ys : List Float) (j : ℕ)
-    → distance xs i ys j 2 ≡ distance2d (getD xs (i * 2 + 0) nan) (getD xs (i * 2 + 1) nan) (getD ys (j * 2 + 0) nan) (getD ys (j * 2 + 1) nan)
+    → distance xs i ys j 2 ≡ distance2d (axisFrom xs (i * 2) 0) (axisFrom xs (i * 2) 1) (axisFrom ys (j * 2) 0) (axisFrom ys (j * 2) 1)
 unfolding distance distance2d squaredDistance2d squares
-distance-plane xs i ys j = rw (plus-square (sub binary64 (getD xs (i * 2 + 0) nan) (getD ys (j * 2 + 0) nan)))
+distance-plane xs i ys j = rw (plus-square (sub binary64 (axisFrom xs (i * 2) 0) (axisFrom ys (j * 2) 0)))
 
 -- ---- a point past the end of its list
 add-nan : (x : Float) → add binary64 x nan ≡ nan
@@ -66,10 +66,6 @@ sub-nan x = add-nan x
 square-nan : (x : Float) → square (sub binary64 x nan) ≡ nan
 unfolding mul
 square-nan x = rw (sub-nan x)
-
-nan-square : (x : Float) → square (sub binary64 nan x) ≡ nan
-unfolding mul sub add
-nan-square x = refl
 
 -- Where the last axis of one of the points is a NaN, so is the sum.
 last-nan : (a b : ℕ → Float) (k : ℕ) → b k ≡ nan → squares a b (suc k) ≡ nan

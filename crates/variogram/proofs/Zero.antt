@@ -75,4 +75,4 @@ unfolding add ofBits
 plus-zero nan f h = refl
 plus-zero (inf s) f h = refl
 plus-zero (fin true m e) f h = cc
-plus-zero (fin false m e) f h = rw (zero-mul, zero-add, mul-one, one-mul) (round-fitting false m e f)
+plus-zero (fin false m e) f h = rw (zero-mul (down e), zero-add, mul-one, one-mul) (round-fitting false m e f)
