@@ -1,2 +1,4 @@
 pub mod Zero
 pub mod RoundingGrid
+pub mod RoundingWhole
+pub mod RoundingSigned
