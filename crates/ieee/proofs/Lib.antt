@@ -2,3 +2,4 @@ pub mod Zero
 pub mod RoundingGrid
 pub mod RoundingWhole
 pub mod RoundingSigned
+pub mod RoundingNearest
