@@ -1,4 +1,10 @@
 pub mod Zero
+pub mod Fields
+pub mod WholeRoot
+pub mod RootDigits
+pub mod Normal
+pub mod RootRound
+pub mod RootBits
 pub mod RoundingGrid
 pub mod RoundingWhole
 pub mod RoundingSigned

@@ -1,6 +1,6 @@
 -- The value of a finite f64 as a whole multiple of 2^-1074, the smallest f64 above zero, in the kit's account of a float: `fin s m e` is m * 2^e with the sign s.
 -- Every finite f64 is such a multiple (proofs/Fields.antt). Assumes nothing.
-use Prim.Native.Nat.{ℕ, _*_, _/_, _^_}
+use Prim.Native.Nat.{ℕ, zero, suc, _+_, _*_, _/_, _^_}
 use mathlib.Core.Bool.{Bool, true, false}
 use lib.IntN.{ℤ, pos, negℤ}
 use lib.Ieee.{Float, nan, inf, fin, up, down}
@@ -25,3 +25,8 @@ signed true n = negℤ (pos n)
 -- the value
 abbrev pub valueOf : Float → ℤ
 valueOf x = signed (signOf x) (multiple x)
+
+-- the magnitude that an exponent field e and a 52-bit fraction f stand for: "f if e = 0, else (2^52 + f)·2^(e−1)"
+abbrev pub fieldsMultiple : ℕ → ℕ → ℕ
+fieldsMultiple zero f = f
+fieldsMultiple (suc e) f = (2 ^ 52 + f) * 2 ^ e
