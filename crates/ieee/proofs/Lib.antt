@@ -11,3 +11,4 @@ pub mod RoundingSigned
 pub mod RoundingNearest
 pub mod RoundingSum
 pub mod RoundingProduct
+pub mod RoundingUnique

@@ -51,7 +51,7 @@ module _ (a z : ℕ) (t : Top a z) where
         value =
             ap (λ (n : ℕ). n * 2 ^ (1074 - (z - 11))) whole
             ∙ mul-assoc a (2 ^ (z - 11)) (2 ^ (1074 - (z - 11)))
-            ∙ ap (λ (n : ℕ). a * n) (sym (pow-add 2 (z - 11) (1074 - (z - 11))) ∙ ap (λ (k : ℕ). 2 ^ k) (let e : z - 11 + (1074 - (z - 11)) ≡ 1074 = omega arith in e))
+            ∙ ap (λ (n : ℕ). a * n) (sym (pow-add 2 (z - 11) (1074 - (z - 11))) ∙ ap (λ (k : ℕ). 2 ^ k) (let e : z - 11 + (1074 - (z - 11)) ≡ 1074 = omega arith in e));
       }
 
 pub normal : (e t : ℕ) → e < 2046 → t < 2 ^ 52 → Normalised (suc e) t (2 ^ 52 + t) (1073 + suc e)
@@ -64,5 +64,5 @@ normal e t small h =
       value =
           ap (λ (k : ℕ). (2 ^ 52 + t) * 2 ^ k) (let x : 1073 + suc e ≡ e + 1074 = omega arith in x)
           ∙ ap (λ (n : ℕ). (2 ^ 52 + t) * n) (pow-add 2 e 1074)
-          ∙ sym (mul-assoc (2 ^ 52 + t) (2 ^ e) (2 ^ 1074))
+          ∙ sym (mul-assoc (2 ^ 52 + t) (2 ^ e) (2 ^ 1074));
     }

@@ -38,9 +38,9 @@ pattern-value e r small lo hi =
     let fraction : b % 2 ^ 52 ≡ t = omega arith in
     let whole : 2 ^ 52 + t ≡ r = omega arith in
     let is : ofFields binary64 (leb (2 ^ 63) b) (b % 2 ^ 63 / 2 ^ 52) (b % 2 ^ 52) ≡ ofFields binary64 false (suc e) t =
-          ap (λ (s : Bool). ofFields binary64 s (b % 2 ^ 63 / 2 ^ 52) (b % 2 ^ 52)) sign
-          ∙ ap (λ (n : ℕ). ofFields binary64 false n (b % 2 ^ 52)) field
-          ∙ ap (λ (n : ℕ). ofFields binary64 false (suc e) n) fraction in
+    ap (λ (s : Bool). ofFields binary64 s (b % 2 ^ 63 / 2 ^ 52) (b % 2 ^ 52)) sign
+    ∙ ap (λ (n : ℕ). ofFields binary64 false n (b % 2 ^ 52)) field
+    ∙ ap (λ (n : ℕ). ofFields binary64 false (suc e) n) fraction in
     subst (λ (x : Float). HasValue x false (r * 2 ^ e) (2 ^ 1074)) (sym is)
     (subst (λ (n : ℕ). HasValue (ofFields binary64 false (suc e) t) false (n * 2 ^ e) (2 ^ 1074)) whole (fields-value false (suc e) t (field-finite e t small)))
 

@@ -69,7 +69,7 @@ module _ (n digits rest root i : ℕ) (d : Digits n digits rest root i) (more : 
         small = omega arith;
         below = room (root * 2 + 1) (omega arith);
         fits = omega arith;
-        within = omega arith
+        within = omega arith;
       }
 
   -- the next digit is 0
@@ -88,7 +88,7 @@ module _ (n digits rest root i : ℕ) (d : Digits n digits rest root i) (more : 
         small = omega arith;
         below = room (root * 2) (omega arith);
         fits = omega arith;
-        within = omega arith
+        within = omega arith;
       }
 
 -- after 54 digits nothing of the operand is left, and the root is that of n * 2^54

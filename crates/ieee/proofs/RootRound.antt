@@ -117,8 +117,8 @@ module _ (q h w : ℕ) (q-lo : 2 ^ 53 ≤ q) (q-hi : q < 2 ^ 54) (w-lo : q * 2 ^
   pub root-value : h ≤ 1533 → HasValue (round binary64 false (2 * w + 1) (2 * 2 ^ 1074)) false ((q + 1) / 2 * 2 ^ (h + 1)) (2 ^ 1074)
   root-value small =
       let is : round binary64 false (2 * w + 1) (2 * 2 ^ 1074) ≡ units binary64 false ((q + 1) / 2) (h + 1) =
-            round-is binary64 false (2 * w + 1) (2 * 2 ^ 1074)
-            ∙ ap (λ (k : ℕ). units binary64 false (closest ((2 * w + 1) * 2 ^ 1074) (2 * 2 ^ 1074 * 2 ^ k)) k) dropped
-            ∙ ap (λ (n : ℕ). units binary64 false n (h + 1)) rounds in
+      round-is binary64 false (2 * w + 1) (2 * 2 ^ 1074)
+      ∙ ap (λ (k : ℕ). units binary64 false (closest ((2 * w + 1) * 2 ^ 1074) (2 * 2 ^ 1074 * 2 ^ k)) k) dropped
+      ∙ ap (λ (n : ℕ). units binary64 false n (h + 1)) rounds in
       let fine : (q + 1) / 2 * 2 ^ (h + 1) < 2 ^ 2098 = lt-of-lt-of-le (shl-lt 54 (h + 1) (omega arith)) (pow-mono {i = 54 + (h + 1)} {j = 2098} (omega arith)) in
       subst (λ (x : Float). HasValue x false ((q + 1) / 2 * 2 ^ (h + 1)) (2 ^ 1074)) (sym is) (units-val binary64 false ((q + 1) / 2) (h + 1) fine)

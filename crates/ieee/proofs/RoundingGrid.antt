@@ -1,31 +1,17 @@
 -- A finite value that fits its format is a whole multiple of the format's smallest value, 2 ^ -low: m * 2 ^ j of them, with m below 2 ^ prec. Assumes nothing.
 use Prim.Native.Nat.{ℕ, zero, suc, _+_, _-_, _*_, _/_, _%_, _^_, _≤_, _<_}
-use native.Mathlib.Nat.{le-refl, lt-irrefl, lt-of-lt-of-le, le-of-suc-le-suc, lt-of-not-le, sub-add-cancel, zero-lt-suc, zero-mul, mul-one, one-mul, mul-assoc, mul-comm, mul-right-comm, mul-pos, mul-lt-mul-of-pos-right, lt-of-mul-lt-mul-right, mul-div-cancel, pow-succ'}
-use native.Mathlib.Omega.{arith}
-use mathlib.Core.Path.{_≡_, refl, sym, ap, _∙_, subst}
+use native.Mathlib.Nat.{lt-irrefl, lt-of-lt-of-le, le-of-suc-le-suc, lt-of-not-le, sub-add-cancel, zero-mul, mul-one, one-mul, mul-assoc, mul-comm, mul-right-comm, mul-pos, mul-lt-mul-of-pos-right, lt-of-mul-lt-mul-right, mul-div-cancel}
+use mathlib.Core.Path.{_≡_, sym, ap, _∙_, subst}
 use mathlib.Core.Bool.{Bool, _&&_}
 use lib.IntN.{ℤ, pos, negsuc}
-use lib.Dec.{T, leb, ltb, eqb, eqb→eq, ltb→lt, leb→le}
+use lib.Dec.{T, leb, ltb, eqb, ltb→lt, leb→le}
 use lib.Pow.{pow-add, pow-pos, pow-lt}
-use lib.Ieee.{Float, fin, Format, binary64, prec, emax, low, up, down, fits}
+use lib.Ieee.{fin, Format, binary64, prec, emax, low, up, down, fits}
 use lib.Ieee.Fits.{down-pos, and-l, and-r}
 use Rattle.ieee.specs.Values.{multiple}
+use Rattle.ieee.proofs.Zero.{zero-exponent}
 
 -- ---- what `fits` says of a finite value, a zero too
-
-twice : (p : ℕ) → 0 < p → 2 * p ≡ 1 → ⊥
-twice p h e = omega arith
-
--- 2 ^ e is 1 / 1 only for e = 0
-flat : (e : ℤ) → up e * down e ≡ 1 → e ≡ pos 0
-flat (pos zero) h = refl
-flat (pos (suc k)) h = absurd (twice (2 ^ k) (pow-pos k) (sym (pow-succ' 2 k) ∙ sym (mul-one (2 ^ suc k)) ∙ h))
-flat (negsuc k) h = absurd (twice (2 ^ k) (pow-pos k) (sym (pow-succ' 2 k) ∙ sym (one-mul (2 ^ suc k)) ∙ h))
-
--- a zero that fits is written in one way
-pub zero-exponent : (f : Format) (s : Bool) (e : ℤ) → T (fits f (fin s 0 e)) → e ≡ pos 0
-unfolding fits
-zero-exponent f s e h = flat e (eqb→eq (up e * down e) 1 h)
 
 -- the digits are few, the exponent is not too low, and the magnitude is below 2 ^ (emax + 1)
 pub record Held (f : Format) (m : ℕ) (e : ℤ) : Type 0 where
@@ -33,24 +19,24 @@ pub record Held (f : Format) (m : ℕ) (e : ℤ) : Type 0 where
   pub exponent : down e ≤ 2 ^ low f
   pub magnitude : m * up e < 2 ^ suc (emax f) * down e
 
-pub held : (f : Format) (s : Bool) (m : ℕ) (e : ℤ) → T (fits f (fin s m e)) → Held f m e
+pub held : (s : Bool) (m : ℕ) (e : ℤ) → T (fits binary64 (fin s m e)) → Held binary64 m e
 unfolding fits
-held f s zero e h =
-    let z : e ≡ pos 0 = zero-exponent f s e h in
+held s zero e h =
+    let z : e ≡ pos 0 = zero-exponent s e h in
     record {
-      digits = pow-pos (prec f);
-      exponent = subst (λ (x : ℤ). down x ≤ 2 ^ low f) (sym z) (pow-pos (low f));
-      magnitude = subst (λ (x : ℕ). x < 2 ^ suc (emax f) * down e) (sym (zero-mul (up e))) (mul-pos (pow-pos (suc (emax f))) (down-pos e));
+      digits = pow-pos (53);
+      exponent = subst (λ (x : ℤ). down x ≤ 2 ^ 1074) (sym z) (pow-pos (1074));
+      magnitude = subst (λ (x : ℕ). x < 2 ^ 1024 * down e) (sym (zero-mul (up e))) (mul-pos (pow-pos (1024)) (down-pos e));
     }
-held f s (suc m) e h =
+held s (suc m) e h =
     let A = eqb (suc m % 2) 1 in
-    let B = ltb (suc m) (2 ^ prec f) in
-    let C = leb (down e) (2 ^ low f) in
-    let D = ltb (suc m * up e) (2 ^ suc (emax f) * down e) in
+    let B = ltb (suc m) (2 ^ 53) in
+    let C = leb (down e) (2 ^ 1074) in
+    let D = ltb (suc m * up e) (2 ^ 1024 * down e) in
     record {
-      digits = ltb→lt (suc m) (2 ^ prec f) (and-r A B (and-l (A && B) C (and-l (A && B && C) D h)));
-      exponent = leb→le (down e) (2 ^ low f) (and-r (A && B) C (and-l (A && B && C) D h));
-      magnitude = ltb→lt (suc m * up e) (2 ^ suc (emax f) * down e) (and-r (A && B && C) D h);
+      digits = ltb→lt (suc m) (2 ^ 53) (and-r A B (and-l (A && B) C (and-l (A && B && C) D h)));
+      exponent = leb→le (down e) (2 ^ 1074) (and-r (A && B) C (and-l (A && B && C) D h));
+      magnitude = ltb→lt (suc m * up e) (2 ^ 1024 * down e) (and-r (A && B && C) D h);
     }
 
 -- ---- 2 ^ e in units of 2 ^ -l, for an e that is not below -l
@@ -95,4 +81,4 @@ on-grid f m e h =
 -- ---- an f64's magnitude is a whole multiple of 2 ^ -1074
 
 pub multiple-exact : (s : Bool) (m : ℕ) (e : ℤ) → T (fits binary64 (fin s m e)) → multiple (fin s m e) * down e ≡ m * up e * 2 ^ 1074
-multiple-exact s m e h = on-grid binary64 m e (held binary64 s m e h) .1 .exact
+multiple-exact s m e h = on-grid binary64 m e (held s m e h) .1 .exact

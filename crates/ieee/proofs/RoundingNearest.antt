@@ -1,20 +1,21 @@
 -- The kit's `round` obeys the rule of specs/Ieee754.antt, at every fraction. Assumes nothing.
 use Prim.Native.Nat.{ℕ, zero, suc, _+_, _-_, _*_, _/_, _%_, _^_, _≤_, _<_}
-use native.Mathlib.Nat.{le-trans, le-of-eq, lt-of-lt-of-le, not-le-of-lt, zero-lt-suc, zero-mul, mul-one, mul-assoc, mul-right-comm, mul-pos, mul-le-mul-right, mul-lt-mul-of-pos-right, add-mul, mul-div-cancel}
+use native.Mathlib.Nat.{le-trans, le-of-eq, lt-of-lt-of-le, not-le-of-lt, zero-lt-suc, mul-one, mul-assoc, mul-right-comm, mul-le-mul-right, mul-lt-mul-of-pos-right, add-mul}
 use native.Mathlib.Omega.{arith}
 use mathlib.Core.Path.{_≡_, refl, sym, ap, ap₂, _∙_, subst}
 use mathlib.Core.Logic.{_≢_, _⊎_, inl, inr}
 use mathlib.Core.Bool.{Bool, true, false, not, cond}
-use lib.IntN.{ℤ, pos, natAbs, _*ℤ_, _-ℤ_}
+use lib.IntN.{ℤ, natAbs, _-ℤ_}
 use lib.Dec.{T, ltb, ltb→lt, nltb→le, lit≤, lit<}
 use lib.Pow.{pow-pos}
-use lib.Ieee.{Float, nan, inf, fin, Format, binary64, prec, emax, low, up, down, size, odd, units, round, le, fits, toBits, top, hid}
-use lib.Ieee.Fits.{down-pos, round-is, round-fits}
+use lib.Ieee.{Float, nan, inf, fin, Format, binary64, prec, low, size, odd, units, round, le, fits, toBits, top}
+use lib.Ieee.Fits.{round-is, round-fits}
 use lib.Ieee.Exact.{HasValue, odd-sign}
 use lib.Ieee.Order.{drop, kept, round-mono}
 use lib.Ieee.Scale.{finite, grid, overflow}
 use Rattle.ieee.specs.Values.{multiple, signOf, signed, valueOf}
 use Rattle.ieee.specs.Ieee754.{apart, overflowBound, Nearest}
+use Rattle.ieee.proofs.Fields.{value-multiple, value-sign, value-finite}
 use Rattle.ieee.proofs.RoundingGrid.{held, on-grid}
 use Rattle.ieee.proofs.RoundingWhole.{gap, kept-le, grid-near, grid-even, last-digit-even}
 use Rattle.ieee.proofs.RoundingSigned.{signed-zero, signed-mul, like-apart, unlike-apart}
@@ -45,13 +46,7 @@ pub record Is (x : Float) (s : Bool) (a : ℕ) : Type 0 where
   pub its-multiple : multiple x ≡ a
 
 pub is : (x : Float) (s : Bool) (a : ℕ) → HasValue x s a (2 ^ 1074) → Is x s a
-is nan s a v = absurd v
-is (inf t) s a v = absurd v
-is (fin t m e) s a v = record {
-  is-finite = tt;
-  its-sign = v .0;
-  its-multiple = ap (λ (z : ℕ). z / down e) (v .1) ∙ mul-div-cancel a (down-pos e);
-}
+is x s a v = record { is-finite = value-finite x s a (2 ^ 1074) v; its-sign = value-sign x s a (2 ^ 1074) v; its-multiple = value-multiple x s a v }
 
 -- ---- the result of `round`: `grid` units below `overflow`, an infinity from there on
 
@@ -128,7 +123,7 @@ pub point : (y : Float) → T (fits binary64 y) → T (finite y) → (c : ℕ) �
 point nan h t = absurd t
 point (inf s) h t = absurd t
 point (fin s m e) h t =
-    let d = held binary64 s m e h in
+    let d = held s m e h in
     let o = on-grid binary64 m e d in
     (m, o .0, d .digits, o .1 .is)
 
@@ -154,10 +149,10 @@ near-zero num den D = le-trans (grid-near 53 (num * 2 ^ 1074) den 0 0 (lit< tt) 
     at-zero : (d n : ℕ) → gap (0 * d) n ≤ n
     at-zero d n = omega arith
 
-finite-is : (s : Bool) (num den : ℕ) → T (finite (round binary64 s num den)) → Is (round binary64 s num den) s (grid binary64 num den)
+pub finite-is : (s : Bool) (num den : ℕ) → T (finite (round binary64 s num den)) → Is (round binary64 s num den) s (grid binary64 num den)
 finite-is s num den t = elim (cases s num den) [ inl c ↦ c .1 | inr c ↦ absurd (subst (λ (x : Float). T (finite x)) (c .1) t) ]
 
-apart-is : (x : Float) (s : Bool) (r num den : ℕ) → Is x s r → apart x s num den ≡ gap (r * den) (num * 2 ^ 1074)
+pub apart-is : (x : Float) (s : Bool) (r num den : ℕ) → Is x s r → apart x s num den ≡ gap (r * den) (num * 2 ^ 1074)
 apart-is x s r num den v = apart-like x s num den (v .its-sign) ∙ ap (λ (z : ℕ). gap (z * den) (num * 2 ^ 1074)) (v .its-multiple)
 
 farther : (g n a : ℕ) → g ≤ n → g ≤ a + n
@@ -176,20 +171,24 @@ nearest-all s num den D t y h u =
 
 -- ---- the last digit of the result's pattern
 
-even-sum : (a b c : ℕ) → a % 2 ≡ 0 → c % 2 ≡ 0 → (a + b * 4503599627370496 + c) % 2 ≡ 0
-even-sum a b c h k = omega arith
+last-of-sum : (a b c : ℕ) → a % 2 ≡ 0 → (a + b * 4503599627370496 + c) % 2 ≡ c % 2
+last-of-sum a b c h = omega arith
 
 sign-even : (s : Bool) → cond s (top binary64) 0 % 2 ≡ 0
 sign-even false = refl
 sign-even true = refl
 
-bits-even : (x : Float) (s : Bool) (q k : ℕ) → Is x s (q * 2 ^ k) → q ≤ 2 ^ 53 → q % 2 ≡ 0 → toBits binary64 x % 2 ≡ 0
+-- the last digit of a pattern is the last one of the 53 digits that are kept of the multiple
+pub last-digit : (x : Float) → T (finite x) → toBits binary64 x % 2 ≡ multiple x / 2 ^ (size (multiple x) - 53) % 2
 unfolding toBits
-bits-even nan s q k v l e = absurd (v .is-finite)
-bits-even (inf t) s q k v l e = absurd (v .is-finite)
-bits-even (fin t m d) s q k v l e =
-    ap (λ (z : ℕ). (cond t (top binary64) 0 + (size z - 53) * hid binary64 + z / 2 ^ (size z - 53)) % 2) (v .its-multiple)
-    ∙ even-sum (cond t (top binary64) 0) (size (q * 2 ^ k) - 53) (q * 2 ^ k / 2 ^ (size (q * 2 ^ k) - 53)) (sign-even t) (last-digit-even 53 q k (lit≤ tt) l e)
+last-digit nan t = absurd t
+last-digit (inf s) t = absurd t
+last-digit (fin s m e) t =
+    let n = multiple (fin s m e) in
+    last-of-sum (cond s (top binary64) 0) (size n - 53) (n / 2 ^ (size n - 53)) (sign-even s)
+
+bits-even : (x : Float) (s : Bool) (q k : ℕ) → Is x s (q * 2 ^ k) → q ≤ 2 ^ 53 → q % 2 ≡ 0 → toBits binary64 x % 2 ≡ 0
+bits-even x s q k v l e = last-digit x (v .is-finite) ∙ ap (λ (z : ℕ). z / 2 ^ (size z - 53) % 2) (v .its-multiple) ∙ last-digit-even 53 q k (lit≤ tt) l e
 
 -- an f64 of the other sign is as near only if it is a zero
 other-sign : (g a n : ℕ) → g ≤ n → g ≡ a + n → a ≡ 0

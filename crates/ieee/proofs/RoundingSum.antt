@@ -1,11 +1,11 @@
 -- The kit's `add` and `sub` on f64 are the sum and the difference of specs/Ieee754.antt, at every operand that is an f64. Assumes nothing.
 use Prim.Native.Nat.{ℕ, zero, suc, _+_, _-_, _*_, _^_, _≤_, _<_}
-use native.Mathlib.Nat.{mul-assoc, mul-comm, mul-right-comm, mul-left-comm, mul-pos, mul-sub, add-mul, mul-lt-mul-of-pos-right, lt-of-mul-lt-mul-right}
+use native.Mathlib.Nat.{mul-assoc, mul-comm, mul-right-comm, mul-pos, mul-sub, add-mul, mul-lt-mul-of-pos-right, lt-of-mul-lt-mul-right}
 use native.Mathlib.Omega.{arith}
 use mathlib.Core.Path.{_≡_, refl, sym, ap, _∙_, subst}
 use mathlib.Core.Logic.{_≢_}
 use mathlib.Core.Bool.{Bool, true, false, not, _&&_, Bool·beq, cond}
-use lib.IntN.{ℤ, pos, negsuc, negℤ, natAbs, subℕ, _+ℤ_, _-ℤ_}
+use lib.IntN.{ℤ, pos, negsuc, negℤ, natAbs, _+ℤ_, _-ℤ_}
 use lib.Dec.{T, ltb, ltb→lt, lt→ltb, nltb→le}
 use lib.Pow.{pow-pos}
 use lib.Ieee.{Float, nan, inf, fin, binary64, up, down, fits, round, sum, add, sub, neg}
@@ -13,6 +13,7 @@ use lib.Ieee.Fits.{down-pos, neg-fits}
 use lib.Ieee.Scale.{finite, round-same}
 use Rattle.ieee.specs.Values.{multiple, signOf, signed, valueOf}
 use Rattle.ieee.specs.Ieee754.{Nearest, negative, Sum, Difference}
+use Rattle.ieee.proofs.Zero.{round-zero}
 use Rattle.ieee.proofs.RoundingGrid.{multiple-exact}
 use Rattle.ieee.proofs.RoundingWhole.{gap}
 use Rattle.ieee.proofs.RoundingSigned.{signed-abs, signed-neg, plus-minus, minus-plus, minus-minus, sub-abs}
@@ -88,12 +89,8 @@ sum-rounds true a false b = subst (λ (z : ℤ). Rounds (sum binary64 true a fal
     go false true h k m n ne = lower b a (m tt)
     go false false h k m n ne = absurd (ne (ap pos (level-is a b (n tt) (k tt))))
 
-round-zero : (s : Bool) → round binary64 s 0 (2 ^ 1074) ≡ fin s 0 (pos 0)
-unfolding round
-round-zero s = refl
-
 rounds-zero : (s : Bool) (a : ℕ) → a ≡ 0 → round binary64 s a (2 ^ 1074) ≡ fin s 0 (pos 0)
-rounds-zero s a h = ap (λ (x : ℕ). round binary64 s x (2 ^ 1074)) h ∙ round-zero s
+rounds-zero s a h = ap (λ (x : ℕ). round binary64 s x (2 ^ 1074)) h ∙ round-zero s (2 ^ 1074) (pow-pos 1074)
 
 gap-zero : (a b : ℕ) → gap a b ≡ 0 → a - b ≡ 0
 gap-zero a b h = omega arith

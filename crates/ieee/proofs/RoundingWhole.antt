@@ -1,16 +1,16 @@
--- Rounding over the whole numbers. `closest a b` is a whole number nearest to a / b, and where another one is as near it is even.
--- `kept * 2 ^ drop` is nearest to n / den among all c * 2 ^ g with c of p binary digits, and where another one is as near its last digit kept is even. Assumes nothing.
-use Prim.Native.Nat.{ℕ, zero, suc, _+_, _-_, _*_, _/_, _%_, _^_, _≤_, _<_, compare, Ordering, Ordering·lt, Ordering·eq, Ordering·gt}
-use native.Mathlib.Nat.{le-trans, le-of-eq, le-of-lt, le-antisymm, lt-suc-self, lt-of-lt-of-le, lt-of-le-of-lt, sub-add-cancel, mul-assoc, mul-right-comm, mul-pos, mul-mod-left, mul-le-mul-right, mul-lt-mul-of-pos-right, div-add-mod', mod-lt, mul-div-cancel, le-div-iff-mul-le, div-div-eq-div-mul, pow-suc}
+-- Rounding over the whole numbers. `closest a b` is a whole number nearest to a / b, and where another one is as near it is even and the other odd.
+-- `kept * 2 ^ drop`, which `round` gives, is nearest to n / den among all c * 2 ^ g with c of p binary digits. Where another one is as near, the last of its p digits is even and the other's is odd. Assumes nothing.
+use Prim.Native.Nat.{ℕ, zero, suc, pred, _+_, _-_, _*_, _/_, _%_, _^_, _≤_, _<_, compare, Ordering, Ordering·lt, Ordering·eq, Ordering·gt}
+use native.Mathlib.Nat.{le-trans, le-of-eq, le-of-lt, le-antisymm, lt-suc-self, lt-of-lt-of-le, lt-of-le-of-lt, lt-of-not-le, not-le-of-lt, zero-lt-suc, suc-pred-eq-of-pos, sub-add-cancel, mul-assoc, mul-right-comm, mul-pos, mul-mod-left, mul-le-mul-right, mul-lt-mul-of-pos-right, div-add-mod', mod-lt, mul-div-cancel, le-div-iff-mul-le, div-div-eq-div-mul, pow-suc}
 use native.Mathlib.Omega.{arith}
-use mathlib.Core.Path.{_≡_, refl, sym, ap, _∙_, subst}
+use mathlib.Core.Path.{_≡_, sym, ap, _∙_, subst}
 use mathlib.Core.Logic.{_≢_, _⊎_, inl, inr}
 use mathlib.Core.Bool.{Bool, true, false, not}
 use lib.Dec.{T, leb, eqb, isLe, isEq, leb→le, nleb→lt, eqb→eq, eqb-refl}
 use lib.Arith.{lt-of-le-ne}
 use lib.Pow.{pow-add, pow-pos, pow-mono, pow-lt, shl-lt}
 use lib.Ieee.{size, nearest}
-use lib.Ieee.Digits.{size-le, size-reaches}
+use lib.Ieee.Digits.{size-lt, size-le, size-reaches}
 use lib.Ieee.Fits.{kept-lt, nearest-le}
 use lib.Ieee.Nearest.{closest}
 use lib.Ieee.Order.{drop, kept}
@@ -133,14 +133,19 @@ above-any g k h = omega arith
 farther : (r b y n : ℕ) → gap r n ≤ gap b n → b ≤ n → y < b → gap r n < gap y n
 farther r b y n h l s = omega arith
 
--- a number on a finer grid lies below 2 ^ (p - 1 + k), which is on this grid too and not above n / den
+-- where digits are dropped, the leading one of the p stands for 2 ^ (p - 1 + k), which is not above n / den
+leading-low : (p n den : ℕ) → 0 < p → 0 < den → 0 < drop p n den → 2 ^ (p - 1) * 2 ^ drop p n den * den ≤ n
+leading-low p n den P D K =
+    let k = drop p n den in
+    let w = n / den in
+    le-div-iff-mul-le D .0 (le-trans (le-of-eq (sym (pow-add 2 (p - 1) k))) (size-reaches w (p - 1 + k) (leading (size w) p P K)))
+
+-- a number on a finer grid lies below 2 ^ (p - 1 + k), which is on this grid too
 finer : (p n den c g : ℕ) → 0 < p → 0 < den → c < 2 ^ p → g < drop p n den → gap (kept p n den * 2 ^ drop p n den * den) n < gap (c * 2 ^ g * den) n
 finer p n den c g P D C G =
     let k = drop p n den in
-    let w = n / den in
     let b = 2 ^ (p - 1) in
-    let low : b * 2 ^ k * den ≤ n =
-    le-div-iff-mul-le D .0 (le-trans (le-of-eq (sym (pow-add 2 (p - 1) k))) (size-reaches w (p - 1 + k) (leading (size w) p P (above-any g k G)))) in
+    let low : b * 2 ^ k * den ≤ n = leading-low p n den P D (above-any g k G) in
     let less : c * 2 ^ g < b * 2 ^ k = lt-of-lt-of-le (shl-lt p g C) (le-trans (pow-mono (finer-place p g k P G)) (le-of-eq (pow-add 2 (p - 1) k))) in
     let near : gap (kept p n den * 2 ^ k * den) n ≤ gap (b * 2 ^ k * den) n =
     subst (λ (x : ℕ). gap x n ≤ gap (b * 2 ^ k * den) n) (sym (unit (kept p n den) k den))
@@ -158,16 +163,24 @@ grid-near p n den c g P D C =
       | inr h ↦ le-of-lt (finer p n den c g P D C h)
     ]
 
+-- a number on a grid that is as coarse, as near and another one, said of the whole multiples of den * 2 ^ k
+tie-on : (p n den c g : ℕ) → drop p n den ≤ g → gap (kept p n den * 2 ^ drop p n den * den) n ≡ gap (c * 2 ^ g * den) n
+    → gap (kept p n den * (den * 2 ^ drop p n den)) n ≡ gap (c * 2 ^ (g - drop p n den) * (den * 2 ^ drop p n den)) n
+tie-on p n den c g h e =
+    let k = drop p n den in
+    subst (λ (x : ℕ). gap x n ≡ gap (c * 2 ^ (g - k) * (den * 2 ^ k)) n) (unit (kept p n den) k den)
+    (subst (λ (x : ℕ). gap (kept p n den * 2 ^ k * den) n ≡ gap x n) (ap (λ (x : ℕ). x * den) (sym (coarser c g k h)) ∙ unit (c * 2 ^ (g - k)) k den) e)
+
+off : (p n den c g : ℕ) → drop p n den ≤ g → c * 2 ^ g ≢ kept p n den * 2 ^ drop p n den → c * 2 ^ (g - drop p n den) ≢ kept p n den
+off p n den c g h ne z = ne (sym (coarser c g (drop p n den) h) ∙ ap (λ (x : ℕ). x * 2 ^ drop p n den) z)
+
 pub grid-even : (p n den c g : ℕ) → 0 < p → 0 < den → c < 2 ^ p → gap (kept p n den * 2 ^ drop p n den * den) n ≡ gap (c * 2 ^ g * den) n
     → c * 2 ^ g ≢ kept p n den * 2 ^ drop p n den → kept p n den % 2 ≡ 0
 grid-even p n den c g P D C e ne =
     let k = drop p n den in
     elim (le-or-lt k g) [
       | inl h ↦
-          closest-even n (den * 2 ^ k) (c * 2 ^ (g - k)) (mul-pos D (pow-pos k))
-          (subst (λ (x : ℕ). gap x n ≡ gap (c * 2 ^ (g - k) * (den * 2 ^ k)) n) (unit (kept p n den) k den)
-          (subst (λ (x : ℕ). gap (kept p n den * 2 ^ k * den) n ≡ gap x n) (ap (λ (x : ℕ). x * den) (sym (coarser c g k h)) ∙ unit (c * 2 ^ (g - k)) k den) e))
-          (λ (z : c * 2 ^ (g - k) ≡ kept p n den). ne (sym (coarser c g k h) ∙ ap (λ (x : ℕ). x * 2 ^ k) z))
+          closest-even n (den * 2 ^ k) (c * 2 ^ (g - k)) (mul-pos D (pow-pos k)) (tie-on p n den c g h e) (off p n den c g h ne)
       | inr h ↦ absurd (ne-of-lt _ _ (finer p n den c g P D C h) e)
     ]
 
@@ -206,4 +219,70 @@ last-digit-even p q k P Q e =
           ∙ ap (λ (x : ℕ). x / 2 ^ suc k % 2) is
           ∙ ap (λ (x : ℕ). x % 2) (mul-div-cancel (2 ^ suc (p - 2)) (pow-pos (suc k)) ∙ pow-suc 2 (p - 2))
           ∙ mul-mod-left (2 ^ (p - 2)) 2
+    ]
+
+-- ---- the other one of a tie is odd
+
+nearest-other : (o : Ordering) (w t b c : ℕ) → Cmp o (t * 2) b → t < b → gap (nearest w o * b) (w * b + t) ≡ gap (c * b) (w * b + t) → c ≢ nearest w o → (w ≤ c) × (c ≤ suc w) × (c % 2 ≡ 1)
+nearest-other Ordering·lt w t b c h g e n = absurd (ne-of-lt _ _ (lower-alone w t b c h n) e)
+nearest-other Ordering·gt w t b c h g e n = absurd (ne-of-lt _ _ (upper-alone w t b c g h n) e)
+nearest-other Ordering·eq w t b c h g e n =
+    let half : gap (c * b) (w * b + t) ≡ t = sym e ∙ at-half in
+    let lo : w ≤ c = elim (le-or-lt w c) [ inl l ↦ l | inr l ↦ absurd (too-low half (mul-le-mul-right b l)) ] in
+    let hi : c ≤ suc w = elim (le-or-lt c (suc w)) [ inl l ↦ l | inr l ↦ absurd (too-high half (mul-le-mul-right b l)) ] in
+    (lo, hi, parity lo hi)
+  where
+    at-half : gap ((w + w % 2) * b) (w * b + t) ≡ t
+    at-half = elim (tie w) [
+      | inl z ↦ subst (λ (x : ℕ). gap (x * b) (w * b + t) ≡ t) (sym z) (omega arith)
+      | inr z ↦ subst (λ (x : ℕ). gap (x * b) (w * b + t) ≡ t) (sym z) (omega arith)
+    ]
+
+    too-low : gap (c * b) (w * b + t) ≡ t → suc c * b ≤ w * b → ⊥
+    too-low q l = omega arith
+
+    too-high : gap (c * b) (w * b + t) ≡ t → suc (suc w) * b ≤ c * b → ⊥
+    too-high q l = omega arith
+
+    parity : w ≤ c → c ≤ suc w → c % 2 ≡ 1
+    parity l u = omega arith
+
+closest-other : (a b c : ℕ) → 0 < b → gap (closest a b * b) a ≡ gap (c * b) a → c ≢ closest a b → (a / b ≤ c) × (c ≤ suc (a / b)) × (c % 2 ≡ 1)
+closest-other a b c B e n =
+    let o = compare (a % b * 2) b in
+    nearest-other o (a / b) (a % b) b c (cmp (a % b * 2) b) (mod-lt a B) (subst (λ (x : ℕ). gap (closest a b * b) x ≡ gap (c * b) x) (sym (div-add-mod' a b)) e) n
+
+odd-under : (p c : ℕ) → 0 < p → c ≤ 2 ^ p → c % 2 ≡ 1 → c < 2 ^ p
+odd-under p c P h o = lt-of-le-ne h (λ (e : c ≡ 2 ^ p). clash (c % 2) o (ap (λ (x : ℕ). x % 2) (e ∙ ap (λ (x : ℕ). 2 ^ x) (sym (suc-pred-eq-of-pos P)) ∙ pow-suc 2 (pred p)) ∙ mul-mod-left (2 ^ pred p) 2))
+  where
+    clash : (x : ℕ) → x ≡ 1 → x ≡ 0 → ⊥
+    clash x h g = omega arith
+
+digits-are : (z p k : ℕ) → 0 < p → z ≤ p + k → (0 < k → p - 1 + k < z) → z - p ≡ k
+digits-are z p zero P h g = omega arith
+digits-are z p (suc k) P h g = let l : p - 1 + suc k < z = g (zero-lt-suc k) in omega arith
+
+last-digit-odd : (p c k : ℕ) → 0 < p → c < 2 ^ p → (0 < k → 2 ^ (p - 1) ≤ c) → c % 2 ≡ 1 → c * 2 ^ k / 2 ^ (size (c * 2 ^ k) - p) % 2 ≡ 1
+last-digit-odd p c k P C L o =
+    let r = c * 2 ^ k in
+    let reach : 0 < k → p - 1 + k < size r = λ K. lt-of-not-le (λ (g : size r ≤ p - 1 + k).
+    not-le-of-lt (lt-of-lt-of-le (size-lt r) (pow-mono g)) (le-trans (le-of-eq (pow-add 2 (p - 1) k)) (mul-le-mul-right (2 ^ k) (L K)))) in
+    let at : size r - p ≡ k = digits-are (size r) p k P (size-le r (p + k) (shl-lt p k C)) reach in
+    ap (λ (x : ℕ). r / 2 ^ x % 2) at ∙ ap (λ (x : ℕ). x % 2) (mul-div-cancel c (pow-pos k)) ∙ o
+
+pub grid-other : (p n den c g : ℕ) → 0 < p → 0 < den → c < 2 ^ p → gap (kept p n den * 2 ^ drop p n den * den) n ≡ gap (c * 2 ^ g * den) n
+    → c * 2 ^ g ≢ kept p n den * 2 ^ drop p n den → c * 2 ^ g / 2 ^ (size (c * 2 ^ g) - p) % 2 ≡ 1
+grid-other p n den c g P D C e ne =
+    let k = drop p n den in
+    let u = den * 2 ^ k in
+    let U : 0 < u = mul-pos D (pow-pos k) in
+    elim (le-or-lt k g) [
+      | inl h ↦
+          let a = c * 2 ^ (g - k) in
+          let o = closest-other n u a U (tie-on p n den c g h e) (off p n den c g h ne) in
+          let few : n / u < 2 ^ p = subst (λ (x : ℕ). x < 2 ^ p) (div-div-eq-div-mul n den (2 ^ k)) (kept-lt p (n / den)) in
+          subst (λ (x : ℕ). x / 2 ^ (size x - p) % 2 ≡ 1) (coarser c g k h)
+          (last-digit-odd p a k P (odd-under p a P (le-trans (o .1) few) (o .2))
+          (λ K. le-trans (le-div-iff-mul-le U .1 (le-trans (le-of-eq (sym (unit (2 ^ (p - 1)) k den))) (leading-low p n den P D K))) (o .0)) (o .2))
+      | inr h ↦ absurd (ne-of-lt _ _ (finer p n den c g P D C h) e)
     ]
