@@ -5,6 +5,8 @@ pub mod RootDigits
 pub mod Normal
 pub mod RootRound
 pub mod RootBits
+pub mod RootCall
+pub mod RootCases
 pub mod RoundingGrid
 pub mod RoundingWhole
 pub mod RoundingSigned

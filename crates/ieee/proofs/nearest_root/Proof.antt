@@ -1,54 +1,65 @@
+-- `ieee::nearest_root` meets its contract: the fields of the pattern, the digits of the root, and the pattern put together. Assumes nothing.
+use Prim.Native.Nat.{ℕ, _<_, _≤_, _+_, _-_, _*_, _/_, _%_, _^_}
+use mathlib.Core.Path.{_≡_, ap, sym, _∙_, subst}
+use native.Mathlib.Omega.{arith}
 use borrow.Author.Needs.{needs}
+use lib.Ieee.{binary64, fits, toBits, ofBits}
+use Rattle.ieee.specs.Values.{multiple}
+use Rattle.ieee.proofs.Zero.{holds}
+use Rattle.ieee.proofs.RootCall.{AboveZero, above-zero, positive-number, doubled, root-bound, no-nan, root-of-normalised}
 use Rattle.ieee.proofs.nearest_root.Statement.{statement}
 use Rattle.ieee.proofs.nearest_root.Tie as tie
-use Rattle.ieee.proofs.nearest_root.Reads as reads
-use Rattle.ieee.proofs.nearest_root.Lts as lts
-use Rattle.ieee.proofs.normalised.Reads as normalised-reads
-use Rattle.ieee.proofs.root_digits.Reads as root-digits-reads
 
--- src/lib.rt:100:16
+fields : (c : tie.Start) → AboveZero (c .args .x) (toBits binary64 (c .args .x))
+fields c = above-zero (c .args .x) (holds (fits binary64 (c .args .x)) (c .good .0 .1)) (c .pre)
+
 float-to-bits-bits : tie.Need-float-to-bits-bits
-float-to-bits-bits c = ?
+float-to-bits-bits c = positive-number (c .args .x) (c .pre)
 
--- src/lib.rt:101:9
 normalised-requires : tie.Need-normalised-requires
-normalised-requires c κs = ?
+normalised-requires c κs = (fields c .field, omega arith, fields c .some)
 
--- src/lib.rt:103:50
 add-root-digits : tie.Need-add-root-digits
 add-root-digits c = search needs
 
--- src/lib.rt:103:28
+bounded : (c : tie.After-struct-known3) → c .before .before .before .normalised .result .significand * (1 + c .before .before .before .normalised .result .exponent % 2) ≤ 2 ^ 54 - 2
+bounded c = let d = c .before .before .before .normalised in doubled (d .result .significand) (d .result .exponent) (d .ensures .upper)
+
 mul-root-digits : tie.Need-mul-root-digits
-mul-root-digits c = ?
+mul-root-digits c = omega (arith, bounded c)
 
--- src/lib.rt:103:9
 root-digits-requires : tie.Need-root-digits-requires
-root-digits-requires c κs = ?
+root-digits-requires c κs = omega (arith, bounded c)
 
--- src/lib.rt:104:21
 sub-result : tie.Need-sub-result
 sub-result c = search needs
 
--- src/lib.rt:104:20
 mul-result : tie.Need-mul-result
 mul-result c = search needs
 
--- src/lib.rt:104:57
-add-result : tie.Need-add-result
-add-result c = ?
+root-small : (c : tie.After-root-digits) → c .root-digits .result < 2 ^ 54
+root-small c =
+    let d = c .before .before .before .before .normalised in
+    subst (λ (n : ℕ). n < 2 ^ 54) (sym (c .root-digits .ensures)) (root-bound (d .result .significand * (1 + d .result .exponent % 2)) (bounded (c .before)))
 
--- src/lib.rt:104:20
+add-result : tie.Need-add-result
+add-result c = omega (arith, root-small c)
+
 add-result-2 : tie.Need-add-result-2
 add-result-2 c = search needs
 
--- src/lib.rt:104:5
 float-from-bits-result : tie.Need-float-from-bits-result
-float-from-bits-result c = ?
+float-from-bits-result c =
+    let d = c .before .before .before .before .normalised in
+    no-nan (d .result .exponent / 2 - 26) ((c .root-digits .result + 1) / 2) (omega (arith, d .ensures .greatest)) (omega (arith, root-small c))
 
--- src/lib.rt:96:1
 returns : tie.Need-returns
-returns c = ?
+returns c =
+    let x = c .before .before .before .before .before .args .x in
+    let b = toBits binary64 x in
+    let d = c .before .before .before .before .normalised in
+    ap (λ (q : ℕ). ofBits binary64 ((d .result .exponent / 2 - 26) * 2 ^ 52 + (q + 1) / 2)) (c .root-digits .ensures)
+    ∙ root-of-normalised (multiple x) (b / 2 ^ 52) (b % 2 ^ 52) (d .result .significand) (d .result .exponent) (d .ensures) (fields (c .before .before .before .before .before) .value)
 
 pub nearest-root-spec : {M : Type 1} → statement M
 nearest-root-spec =
