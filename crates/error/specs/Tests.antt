@@ -1,15 +1,15 @@
--- "What turns a call away", as a list of tests in the paper's order: each with its number, and the first one that holds refuses the call. Assumes nothing.
+-- What turns a call away, as a list of tests in the order in which they count. Assumes nothing.
 use Prim.Native.Nat.{ℕ}
 use mathlib.Core.Bool.{Bool, cond}
 use mathlib.Core.List.{List, [], _∷_}
 
--- a refusal's number, and whether its condition holds
+-- a number of the paper's list, and whether its condition holds
 pub record Test : Type 0 where
   pub number : ℕ
   pub holds : Bool
 
 abbrev pub test : ℕ → Bool → Test
-test n b = record { number = n; holds = b }
+test k b = record { number = k; holds = b }
 
 -- the number of the first test that holds, and 0 where none does
 unfoldable pub firstOf : List Test → ℕ

@@ -1,16 +1,16 @@
 -- Laws of the distances: which dimensions are offered, a point past the end of its list, the distance back, and that the two distances agree. Assumes nothing.
-use Prim.Native.Nat.{ℕ, zero, suc, _+_, _-_, _*_, _≤_, _<_}
+use Prim.Native.Nat.{ℕ, zero, suc, _+_, _*_, _≤_, _<_}
 use native.Mathlib.Nat.{mul-le-mul-left, mul-one}
 use native.Mathlib.Omega.{arith}
-use mathlib.Core.Path.{_≡_, refl, ap, sym, _∙_, subst}
-use mathlib.Core.Bool.{Bool, true, false, _&&_, cond}
+use mathlib.Core.Path.{_≡_, refl, _∙_, subst}
+use mathlib.Core.Bool.{Bool, true, false, _&&_}
 use mathlib.Core.List.{List}
 use lib.Dec.{leb}
-use lib.ListN.{length, getD, List·getD-eq-default}
-use lib.Ieee.{Float, nan, inf, fin, binary64, add, sub, mul, neg, ofBits}
-use borrow.Author.Tests.{le-leb, lt-leb, leb-false}
+use lib.ListN.{length, List·getD-eq-default}
+use lib.Ieee.{Float, nan, inf, fin, binary64, add, sub, mul, neg}
+use borrow.Author.Tests.{le-leb, lt-leb, leb-true, leb-false}
 use Rattle.ieee.specs.Root.{sqrtOf}
-use Rattle.variogram.specs.Distance.{square, squaredDistance2d, distance2d, squares, axisFrom, offered, distance}
+use Rattle.variogram.specs.Distance.{square, squaredDistance2d, distance2d, squares, axisFrom, offered, hasPoint, distance}
 use Rattle.variogram.proofs.Squares.{square-opposite, plus-square}
 
 -- ---- the dimensions
@@ -47,9 +47,9 @@ distance-back xs i ys j d = rw (squares-opposite (axisFrom xs (i * d)) (axisFrom
 
 -- ---- over two axes the two distances agree
 pub distance-plane : (xs : List Float) (i : ℕ) (ys : List Float) (j : ℕ)
-    → distance xs i ys j 2 ≡ distance2d (getD xs (i * 2 + 0) nan) (getD xs (i * 2 + 1) nan) (getD ys (j * 2 + 0) nan) (getD ys (j * 2 + 1) nan)
+    → distance xs i ys j 2 ≡ distance2d (axisFrom xs (i * 2) 0) (axisFrom xs (i * 2) 1) (axisFrom ys (j * 2) 0) (axisFrom ys (j * 2) 1)
 unfolding distance distance2d squaredDistance2d squares
-distance-plane xs i ys j = rw (plus-square (sub binary64 (getD xs (i * 2 + 0) nan) (getD ys (j * 2 + 0) nan)))
+distance-plane xs i ys j = rw (plus-square (sub binary64 (axisFrom xs (i * 2) 0) (axisFrom ys (j * 2) 0)))
 
 -- ---- a point past the end of its list
 add-nan : (x : Float) → add binary64 x nan ≡ nan
@@ -67,10 +67,6 @@ square-nan : (x : Float) → square (sub binary64 x nan) ≡ nan
 unfolding mul
 square-nan x = rw (sub-nan x)
 
-nan-square : (x : Float) → square (sub binary64 nan x) ≡ nan
-unfolding mul sub add
-nan-square x = refl
-
 -- Where the last axis of one of the points is a NaN, so is the sum.
 last-nan : (a b : ℕ → Float) (k : ℕ) → b k ≡ nan → squares a b (suc k) ≡ nan
 unfolding squares
@@ -81,7 +77,7 @@ unfolding sqrtOf
 root-nan = refl
 
 -- A point that does not lie in its list is at a distance that is a NaN, and so is every point where the dimension is not offered.
-pub past-end : (xs : List Float) (i : ℕ) (ys : List Float) (j d : ℕ) → (offered d && leb (j * d + d) (length ys)) ≡ false → distance xs i ys j d ≡ nan
+pub past-end : (xs : List Float) (i : ℕ) (ys : List Float) (j d : ℕ) → hasPoint ys j d ≡ false → distance xs i ys j d ≡ nan
 unfolding distance
 past-end xs i ys j zero h = refl
 past-end xs i ys j (suc k) h = go (offered (suc k)) refl
@@ -93,3 +89,27 @@ past-end xs i ys j (suc k) h = go (offered (suc k)) refl
         let past : length ys < j * suc k + suc k = leb-false (j * suc k + suc k) (length ys) t in
         let last : length ys ≤ j * suc k + k = omega arith in
         rw (e, last-nan (axisFrom xs (i * suc k)) (axisFrom ys (j * suc k)) k (List·getD-eq-default ys nan last)) root-nan
+
+-- and so from either side
+pub past-start : (xs : List Float) (i : ℕ) (ys : List Float) (j d : ℕ) → hasPoint xs i d ≡ false → distance xs i ys j d ≡ nan
+past-start xs i ys j d h = distance-back xs i ys j d ∙ past-end ys j xs i d h
+
+-- ---- a point that lies in its list
+and-first : (a b : Bool) → (a && b) ≡ true → a ≡ true
+and-first true b h = refl
+and-first false b h = h
+
+and-second : (a b : Bool) → (a && b) ≡ true → b ≡ true
+and-second true b h = h
+and-second false b h = cc
+
+module _ (xs : List Float) (i d : ℕ) (h : hasPoint xs i d ≡ true) where
+  pub point-offered : offered d ≡ true
+  point-offered = and-first (offered d) (leb (i * d + d) (length xs)) h
+
+  pub point-within : i * d + d ≤ length xs
+  point-within = leb-true (i * d + d) (length xs) (and-second (offered d) (leb (i * d + d) (length xs)) h)
+
+pub distance-offered : (xs : List Float) (i : ℕ) (ys : List Float) (j d : ℕ) → offered d ≡ true → distance xs i ys j d ≡ sqrtOf (squares (axisFrom xs (i * d)) (axisFrom ys (j * d)) d)
+unfolding distance
+distance-offered xs i ys j d h = rw h

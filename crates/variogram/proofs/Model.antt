@@ -1,7 +1,7 @@
 -- Laws of the variogram: what it is below 2^-52, past it by its model, and sounding F. Assumes nothing.
-use mathlib.Core.Path.{_≡_, refl, ap}
-use mathlib.Core.Bool.{Bool, true, false, cond}
-use lib.Ieee.{Float, nan, binary64, add, sub, mul, div, lt, le, ofBits, round}
+use mathlib.Core.Path.{_≡_, refl}
+use mathlib.Core.Bool.{true, false}
+use lib.Ieee.{Float, binary64, add, sub, mul, div, lt, le, ofBits, round}
 use Rattle.variogram.specs.declared.Variogram.{Variogram}
 use Rattle.variogram.specs.declared.VariogramModel.{VariogramModel}
 use Rattle.variogram.specs.declared.VariogramModel.the-variants.{Spherical, Linear}

@@ -4,9 +4,8 @@ use native.Mathlib.Nat.{mul-comm, add-comm}
 use native.Mathlib.Omega.{arith}
 use mathlib.Core.Path.{_≡_, refl, ap, sym, _∙_}
 use mathlib.Core.Bool.{Bool, true, false, not, cond}
-use lib.IntN.{ℤ}
-use lib.Dec.{T, ltb}
-use lib.Ieee.{Float, nan, inf, fin, binary64, up, down, round, units, odd, sum, add, neg, sub, mul, fits, ofBits}
+use lib.Dec.{ltb}
+use lib.Ieee.{Float, nan, inf, fin, binary64, up, down, round, units, odd, sum, add, neg, sub, mul, ofBits}
 use lib.Ieee.Fits.{mul-fits}
 use borrow.Author.Tests.{ltb-true, ltb-false}
 use Rattle.ieee.specs.Floats.{absOf}

@@ -1,6 +1,6 @@
 -- Rounding a number that fits gives it back, so that +0 added to a number with a clear sign is that number. Assumes nothing.
 use Prim.Native.Nat.{ℕ, zero, suc, _+_, _-_, _*_, _/_, _%_, _^_, _<_, _≤_}
-use native.Mathlib.Nat.{mul-assoc, mul-comm, mul-one, mul-right-comm, one-mul, zero-mul, zero-add, lt-of-not-le, not-le-of-lt, lt-of-lt-of-le, mul-lt-mul-of-pos-right}
+use native.Mathlib.Nat.{mul-assoc, mul-one, mul-right-comm, one-mul, zero-mul, zero-add, lt-of-not-le, not-le-of-lt, lt-of-lt-of-le}
 use native.Mathlib.Omega.{arith}
 use mathlib.Core.Path.{_≡_, refl, ap, sym, _∙_, subst}
 use mathlib.Core.Bool.{Bool, true, false, _&&_}
@@ -13,7 +13,7 @@ use lib.Ieee.Fits.{and-l, and-r, down-pos, round-fits}
 use lib.Ieee.Exact.{HasValue, round-exact}
 use lib.Ieee.Nearest.{div-same}
 use Rattle.ieee.specs.Floats.{absOf}
-use Rattle.ieee.specs.Values.{multiple, signOf}
+use Rattle.ieee.specs.Values.{multiple}
 use Rattle.ieee.proofs.Fields.{value-sign, value-finite, same-value}
 use Rattle.ieee.proofs.Zero.{round-zero, zero-exponent}
 
@@ -75,4 +75,4 @@ unfolding add ofBits
 plus-zero nan f h = refl
 plus-zero (inf s) f h = refl
 plus-zero (fin true m e) f h = cc
-plus-zero (fin false m e) f h = rw (zero-mul, zero-add, mul-one, one-mul) (round-fitting false m e f)
+plus-zero (fin false m e) f h = rw (zero-mul (down e), zero-add, mul-one, one-mul) (round-fitting false m e f)

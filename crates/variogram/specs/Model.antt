@@ -1,5 +1,5 @@
 -- The variogram at a distance: paper 01, "Variogram", each operation rounded once and in the order in which it stands there. Assumes nothing.
-use mathlib.Core.Bool.{Bool, true, false, cond}
+use mathlib.Core.Bool.{cond}
 use lib.Ieee.{Float, nan, binary64, add, sub, mul, div, lt, le, ofBits}
 use Rattle.variogram.specs.declared.Variogram.{Variogram}
 use Rattle.variogram.specs.declared.VariogramModel.{VariogramModel}

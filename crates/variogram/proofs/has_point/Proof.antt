@@ -1,9 +1,8 @@
 -- `variogram::has_point` meets its contract: a dimension that is not offered answers at once, and so does an i at which even points of one number are past the end,
 -- so that i * d does not wrap. Assumes nothing.
-use Prim.Native.Nat.{ℕ, _+_, _*_, _≤_, _<_}
-use mathlib.Core.Path.{_≡_, refl, ap, sym, _∙_}
+use Prim.Native.Nat.{_+_, _*_, _≤_, _<_}
+use mathlib.Core.Path.{sym}
 use native.Mathlib.Omega.{arith}
-use borrow.Author.Needs.{needs}
 use borrow.Author.Tests.{lt-leb}
 use lib.ListN.{length}
 use Rattle.variogram.proofs.Distance.{none-offered, too-many-offered, is-offered, at-least, at-most}

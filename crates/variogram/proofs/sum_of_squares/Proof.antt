@@ -1,9 +1,8 @@
 -- `variogram::sum_of_squares` meets its contract. The loop's invariant: the sum is that over the axes passed. Assumes nothing.
-use Prim.Native.Nat.{ℕ, _+_, _-_, _*_, _≤_, _<_}
-use mathlib.Core.Path.{_≡_, refl, ap, sym, _∙_}
+use Prim.Native.Nat.{_-_, _≤_}
+use mathlib.Core.Path.{_≡_, refl, _∙_}
 use native.Mathlib.Omega.{arith}
 use native.Mathlib.Numerals.{add-one}
-use borrow.Author.Needs.{needs}
 use Rattle.variogram.specs.Distance.{squares, axisFrom}
 use Rattle.variogram.proofs.sum_of_squares.Statement.{statement}
 use Rattle.variogram.proofs.sum_of_squares.Tie as tie
