@@ -5,3 +5,4 @@ pub mod Keeps
 pub mod Run
 pub mod Stops
 pub mod Edges
+pub mod Untouched
