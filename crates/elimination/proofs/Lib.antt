@@ -3,3 +3,6 @@ pub mod Hold
 pub mod Clear
 pub mod Keeps
 pub mod Run
+pub mod Stops
+pub mod Edges
+pub mod Untouched
