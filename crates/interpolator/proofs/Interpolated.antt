@@ -1,49 +1,44 @@
--- How a call of the interpolator ends, and what it leaves in its areas: a refusal before the elimination writes nothing; 19 is given exactly where the elimination stops, and leaves
--- the work area as it stopped; 0 exactly where it is done, and then every target has its figure and its variance. No wells give 19. Assumes nothing.
-use Prim.Native.Nat.{ℕ, zero, suc, _+_, _-_, _*_, _≤_, _<_}
-use native.Mathlib.Nat.{zero-add}
+-- How a call of the interpolator ends, and what it leaves in its areas. A number before the elimination writes nothing. 19 is given exactly where a step of the elimination holds a magnitude
+-- below 2^-52, and leaves the work area as it was before that step; 0 exactly where every step goes through, and then each target has its figure and its variance. No wells give 19. Assumes nothing.
+use Prim.Native.Nat.{ℕ, zero, suc, _+_, _*_, _≤_, _<_}
+use native.Mathlib.Nat.{zero-add, not-suc-le-zero}
 use native.Mathlib.Omega.{arith}
 use mathlib.Core.Path.{_≡_, refl, ap, sym, subst, _∙_}
-use mathlib.Core.Logic.{_↔_}
-use mathlib.Core.Bool.{Bool, true, false, cond}
+use mathlib.Core.Logic.{_↔_, _⊎_, inl, inr}
+use mathlib.Core.Bool.{true, false}
 use mathlib.Core.List.{List}
 use lib.ListN.{length, getD}
-use lib.Ieee.{Float, nan}
+use lib.Ieee.{Float, nan, binary64, ofBits, lt}
+use Rattle.ieee.specs.Floats.{absOf}
 use Rattle.area.specs.Area.{written, Kept}
-use Rattle.area.proofs.Turns.{length-written}
 use Rattle.area.proofs.Places.{at-place}
 use Rattle.area.proofs.Kept.{kept-same, kept-then, kept-written}
 use Rattle.elimination.specs.declared.Elimination.{Elimination}
 use Rattle.elimination.specs.declared.Elimination.the-variants.{Done, Stopped, TooShort}
-use Rattle.elimination.specs.Elimination.{at, small, eliminated, ended, Outcome as Ended}
-use Rattle.elimination.proofs.Keeps.{kept-eliminated}
+use Rattle.elimination.specs.Elimination.{at, hold, small, eliminated, stepped, Through, StopsAt, Outcome as Eliminated}
+use Rattle.elimination.proofs.Hold.{hold-below}
+use Rattle.elimination.proofs.Stops.{finished as eliminated-finished, stopped as eliminated-stopped, done-exactly, stops-exactly, refused-exactly}
+use Rattle.elimination.proofs.Untouched.{kept-eliminated}
 use Rattle.interpolator.specs.declared.KrigingType.{KrigingType}
 use Rattle.interpolator.specs.declared.KrigingType.the-variants.{Ordinary, Universal}
 use Rattle.interpolator.specs.Call.{Query, Areas, Outcome, wells, nodes, added, size}
-use Rattle.interpolator.specs.System.{zeroFloat, augmented, assembled}
+use Rattle.interpolator.specs.System.{zeroFloat, assembled}
 use Rattle.interpolator.specs.Refusals.{refusal}
 use Rattle.interpolator.specs.Interpolation.{figure, variance, answered, concluded, judged, interpolated}
-use Rattle.interpolator.proofs.Ruling.{Accepted, accepted, never-19}
-use Rattle.interpolator.proofs.Matrix.{assembled-at, left-half, lower-right}
-use Rattle.interpolator.proofs.Stops.{Ending, done, stopped, eliminated-ends, zero-column}
+use Rattle.interpolator.proofs.Ruling.{never-19}
+use Rattle.interpolator.proofs.Accepted.{Accepted, accepted}
+use Rattle.interpolator.proofs.Matrix.{assembled-at, kept-assembled, left-half, lower-right}
 
--- the elimination of a call: how it ended, and the area that it left
-abbrev pub ending : Query → Areas → Elimination
-ending q a = eliminated false (size q) (assembled q (a .work)) .answer
+-- the work area with the first i steps done on the assembled matrix
+abbrev pub workAfter : ℕ → Query → Areas → List Float
+workAfter i q a = stepped false (size q) i (assembled q (a .work))
 
-abbrev pub left : Query → Areas → List Float
-left q a = eliminated false (size q) (assembled q (a .work)) .area
+-- every step of the call goes through, or step i is the first that does not
+abbrev pub Solves : Query → Areas → Type 0
+Solves q a = Through false (size q) (size q) (assembled q (a .work))
 
--- an outcome
-abbrev outcome : ℕ → List Float → List Float → List Float → Outcome
-outcome n w f v = record { number = n; areas = record { work = w; figures = f; variances = v } }
-
--- the outcome of a call that eliminates
-abbrev pub finished : Query → Areas → Outcome
-finished q a = record { number = 0; areas = answered q (left q a) a }
-
-abbrev pub singular : Query → Areas → Outcome
-singular q a = outcome 19 (left q a) (a .figures) (a .variances)
+abbrev pub Stops : Query → Areas → ℕ → Type 0
+Stops q a i = StopsAt false (size q) i (assembled q (a .work))
 
 -- ---- how it ends
 -- "A refusal carries only its number and writes nothing"
@@ -51,119 +46,133 @@ pub refusal-writes-nothing : (q : Query) (a : Areas) (r : ℕ) → refusal q a �
 unfolding interpolated judged
 refusal-writes-nothing q a r h = ap (λ (n : ℕ). judged n q a) h
 
-eliminates : (q : Query) (a : Areas) → refusal q a ≡ 0 → interpolated q a ≡ concluded (ending q a) q (left q a) a
+eliminates : (q : Query) (a : Areas) (o : Eliminated) → refusal q a ≡ 0 → eliminated false (size q) (assembled q (a .work)) ≡ o
+    → interpolated q a ≡ concluded (o .answer) q (o .area) a
 unfolding interpolated judged
-eliminates q a h = ap (λ (n : ℕ). judged n q a) h
+eliminates q a o h e = ap (λ (n : ℕ). judged n q a) h ∙ ap (λ (o : Eliminated). concluded (o .answer) q (o .area) a) e
 
-as-done : (q : Query) (a : Areas) → refusal q a ≡ 0 → ending q a ≡ Done → interpolated q a ≡ finished q a
+-- "On success the work area holds the finished elimination"
+pub where-it-solves : (q : Query) (a : Areas) → refusal q a ≡ 0 → Solves q a → interpolated q a ≡ record { number = 0; areas = answered q (workAfter (size q) q a) a }
 unfolding concluded
-as-done q a h e = eliminates q a h ∙ ap (λ (d : Elimination). concluded d q (left q a) a) e
+where-it-solves q a h t = eliminates q a _ h (eliminated-finished false (size q) (assembled q (a .work)) t)
 
-as-stopped : (q : Query) (a : Areas) (i : ℕ) → refusal q a ≡ 0 → ending q a ≡ Stopped i → interpolated q a ≡ singular q a
+-- "19 leaves the work area as elimination stopped"
+pub where-it-stops : (q : Query) (a : Areas) (i : ℕ) → refusal q a ≡ 0 → Stops q a i
+    → interpolated q a ≡ record { number = 19; areas = record { work = workAfter i q a; figures = a .figures; variances = a .variances } }
 unfolding concluded
-as-stopped q a i h e = eliminates q a h ∙ ap (λ (d : Elimination). concluded d q (left q a) a) e
+where-it-stops q a i h t = eliminates q a _ h (eliminated-stopped false (size q) i (assembled q (a .work)) t)
 
-length-assembled : (q : Query) (xs : List Float) → length (assembled q xs) ≡ length xs
-unfolding assembled
-length-assembled q xs = length-written 0 (2 * size q * size q) _ xs
+-- one of the two is so
+solves-or-stops : (q : Query) (a : Areas) → refusal q a ≡ 0 → Solves q a ⊎ ((i : ℕ) × Stops q a i)
+solves-or-stops q a h = go (eliminated false (size q) xs .answer) refl
+  where
+    xs : List Float
+    xs = assembled q (a .work)
 
--- the elimination of a call that no test refuses is done, or stops at a step whose held magnitude is below 2^-52 in the area that it leaves
-pub ends : (q : Query) (a : Areas) → refusal q a ≡ 0 → Ending (size q) 0 (size q) (eliminated false (size q) (assembled q (a .work)))
-ends q a h =
-    let k : Accepted q a = accepted q a h in
-    let l : length (assembled q (a .work)) ≡ length (a .work) = length-assembled q (a .work) in
-    eliminated-ends false (size q) (assembled q (a .work)) (omega arith)
+    go : (d : Elimination) → eliminated false (size q) xs .answer ≡ d → Solves q a ⊎ ((i : ℕ) × Stops q a i)
+    go Done e = inl (done-exactly false (size q) xs .0 e)
+    go (Stopped i) e = inr (i, stops-exactly false (size q) i xs .0 e)
+    go TooShort e =
+        let k : Accepted q a = accepted q a h in
+        absurd (omega (arith, refused-exactly false (size q) xs .0 e, kept-assembled q (a .work) .len))
 
 -- ---- its number
-never-both : (d : Elimination) (i : ℕ) → d ≡ Done → d ≡ Stopped i → ⊥
-never-both d i p r = let z : _≡_ {A = ℕ} 0 1 = cc in omega arith
+numbered : {p o : Outcome} → p ≡ o → p .number ≡ o .number
+numbered e = ap (λ (o : Outcome). o .number) e
 
--- 0 exactly where no test refuses the call and the elimination is done
-pub number-0 : (q : Query) (a : Areas) → (interpolated q a .number ≡ 0) ↔ ((refusal q a ≡ 0) × (ending q a ≡ Done))
-number-0 q a = (λ e. go (refusal q a) refl e, λ p. ap (λ (o : Outcome). o .number) (as-done q a (p .0) (p .1)))
+-- 0 exactly where no test refuses the call and every step of its elimination goes through
+pub number-0 : (q : Query) (a : Areas) → (interpolated q a .number ≡ 0) ↔ ((refusal q a ≡ 0) × Solves q a)
+number-0 q a = (λ e. go (refusal q a) refl e, λ p. numbered (where-it-solves q a (p .0) (p .1)))
   where
-    by : refusal q a ≡ 0 → interpolated q a .number ≡ 0 → Ending (size q) 0 (size q) (eliminated false (size q) (assembled q (a .work))) → ending q a ≡ Done
-    by h e (done d) = d
-    by h e (stopped i _ _ d _) = let n : _≡_ {A = ℕ} 19 0 = sym (ap (λ (o : Outcome). o .number) (as-stopped q a i h d)) ∙ e in absurd (omega arith)
+    by : refusal q a ≡ 0 → interpolated q a .number ≡ 0 → Solves q a ⊎ ((i : ℕ) × Stops q a i) → Solves q a
+    by h e (inl t) = t
+    by h e (inr p) = let n : _≡_ {A = ℕ} 19 0 = sym (numbered (where-it-stops q a (p .0) h (p .1))) ∙ e in absurd (omega arith)
 
-    go : (n : ℕ) → refusal q a ≡ n → interpolated q a .number ≡ 0 → (refusal q a ≡ 0) × (ending q a ≡ Done)
-    go zero h e = (h, by h e (ends q a h))
-    go (suc r) h e = let n : suc r ≡ 0 = sym (ap (λ (o : Outcome). o .number) (refusal-writes-nothing q a r h)) ∙ e in absurd (omega arith)
+    go : (n : ℕ) → refusal q a ≡ n → interpolated q a .number ≡ 0 → (refusal q a ≡ 0) × Solves q a
+    go zero h e = (h, by h e (solves-or-stops q a h))
+    go (suc r) h e = let n : suc r ≡ 0 = sym (numbered (refusal-writes-nothing q a r h)) ∙ e in absurd (omega arith)
 
--- 19 exactly where no test refuses it and the elimination stops
-pub number-19 : (q : Query) (a : Areas) → (interpolated q a .number ≡ 19) ↔ ((refusal q a ≡ 0) × ((i : ℕ) × (ending q a ≡ Stopped i)))
-number-19 q a = (λ e. go (refusal q a) refl e, λ p. ap (λ (o : Outcome). o .number) (as-stopped q a (p .1 .0) (p .0) (p .1 .1)))
+-- 19 exactly where no test refuses it and a step stops
+pub number-19 : (q : Query) (a : Areas) → (interpolated q a .number ≡ 19) ↔ ((refusal q a ≡ 0) × ((i : ℕ) × Stops q a i))
+number-19 q a = (λ e. go (refusal q a) refl e, λ p. numbered (where-it-stops q a (p .1 .0) (p .0) (p .1 .1)))
   where
-    by : refusal q a ≡ 0 → interpolated q a .number ≡ 19 → Ending (size q) 0 (size q) (eliminated false (size q) (assembled q (a .work)))
-        → (i : ℕ) × (ending q a ≡ Stopped i)
-    by h e (done d) = let n : _≡_ {A = ℕ} 0 19 = sym (ap (λ (o : Outcome). o .number) (as-done q a h d)) ∙ e in absurd (omega arith)
-    by h e (stopped i _ _ d _) = (i, d)
+    by : refusal q a ≡ 0 → interpolated q a .number ≡ 19 → Solves q a ⊎ ((i : ℕ) × Stops q a i) → (i : ℕ) × Stops q a i
+    by h e (inl t) = let n : _≡_ {A = ℕ} 0 19 = sym (numbered (where-it-solves q a h t)) ∙ e in absurd (omega arith)
+    by h e (inr p) = p
 
-    go : (n : ℕ) → refusal q a ≡ n → interpolated q a .number ≡ 19 → (refusal q a ≡ 0) × ((i : ℕ) × (ending q a ≡ Stopped i))
-    go zero h e = (h, by h e (ends q a h))
+    go : (n : ℕ) → refusal q a ≡ n → interpolated q a .number ≡ 19 → (refusal q a ≡ 0) × ((i : ℕ) × Stops q a i)
+    go zero h e = (h, by h e (solves-or-stops q a h))
     go (suc r) h e =
-        let n : suc r ≡ 19 = sym (ap (λ (o : Outcome). o .number) (refusal-writes-nothing q a r h)) ∙ e in
+        let n : suc r ≡ 19 = sym (numbered (refusal-writes-nothing q a r h)) ∙ e in
         absurd (never-19 q a (h ∙ n))
 
--- 19 needs the held pivot of a step: in the work area at exit its magnitude is below 2^-52
+-- "19 needs the held pivot of a step": in the work area at exit its magnitude is below 2^-52
 pub pivot-of-19 : (q : Query) (a : Areas) → interpolated q a .number ≡ 19
     → (i : ℕ) × (i < size q) × (small (size q) i (interpolated q a .areas .work) ≡ true)
 pivot-of-19 q a e =
     let p = number-19 q a .0 e in
-    subst (λ (o : Outcome). (i : ℕ) × (i < size q) × (small (size q) i (o .areas .work) ≡ true)) (sym (as-stopped q a (p .1 .0) (p .0) (p .1 .1)))
-    (go (p .1 .0) (p .1 .1) (ends q a (p .0)))
-  where
-    go : (j : ℕ) → ending q a ≡ Stopped j → Ending (size q) 0 (size q) (eliminated false (size q) (assembled q (a .work)))
-        → (i : ℕ) × (i < size q) × (small (size q) i (left q a) ≡ true)
-    go j r (done d) = absurd (never-both (ending q a) j d r)
-    go j r (stopped i _ b _ t) = (i, subst (λ (n : ℕ). i < n) (zero-add (size q)) b, t)
+    let i : ℕ = p .1 .0 in
+    let t : Stops q a i = p .1 .1 in
+    (i, t .reached, subst (λ (o : Outcome). small (size q) i (o .areas .work) ≡ true) (sym (where-it-stops q a i (p .0) t)) (t .below))
 
 -- ---- no wells
 added-some : (t : KrigingType) → 0 < added t
 added-some Ordinary = omega arith
 added-some Universal = omega arith
 
--- "n = 0 gives 19", of Ordinary and of Universal: the work area holds the matrix beside the identity
+below-epsilon : lt (absOf zeroFloat) (ofBits binary64 0x3cb0_0000_0000_0000) ≡ true
+unfolding lt ofBits
+below-epsilon = refl
+
+-- a first column of zeros stops step 0: whichever row is held, its magnitude is 0
+zero-column : (s : ℕ) (xs : List Float) → 0 < s → 2 * s * s ≤ length xs → ((r : ℕ) → r < s → at (2 * s) xs r 0 ≡ zeroFloat) → StopsAt false s 0 xs
+unfolding small stepped
+zero-column s xs p l z = record {
+  before = record { whole = l; steps = omega arith; none = λ k b. absurd (not-suc-le-zero b) };
+  reached = p;
+  below = ap (λ (x : Float). lt (absOf x) (ofBits binary64 0x3cb0_0000_0000_0000)) (z (hold s 0 xs) (hold-below s 0 xs p)) ∙ below-epsilon;
+}
+
+-- "n = 0 gives 19", of Ordinary and of Universal, and the work area holds the matrix beside the identity
 pub no-wells : (q : Query) (a : Areas) → refusal q a ≡ 0 → wells q ≡ 0
     → interpolated q a ≡ record { number = 19; areas = record { work = assembled q (a .work); figures = a .figures; variances = a .variances } }
+unfolding stepped
 no-wells q a h z =
     let k : Accepted q a = accepted q a h in
+    let xs : List Float = assembled q (a .work) in
     let p : 0 < size q = omega (arith, added-some (q .krigingType)) in
-    let l : length (assembled q (a .work)) ≡ length (a .work) = length-assembled q (a .work) in
-    let e : eliminated false (size q) (assembled q (a .work)) ≡ ended (Stopped 0) (assembled q (a .work)) =
-    zero-column false (size q) (assembled q (a .work)) p (omega arith) (λ r b.
-    assembled-at q (a .work) r 0 (k .work) b (omega arith) ∙ left-half q r 0 p ∙ lower-right q r 0 (omega arith) (omega arith)) in
-    as-stopped q a 0 h (ap (λ (o : Ended). o .answer) e)
-    ∙ ap (λ (w : List Float). outcome 19 w (a .figures) (a .variances)) (ap (λ (o : Ended). o .area) e)
+    where-it-stops q a 0 h
+    (zero-column (size q) xs p (omega (arith, kept-assembled q (a .work) .len))
+    (λ r b. assembled-at q (a .work) r 0 (k .work) b (omega arith) ∙ left-half q r 0 p ∙ lower-right q r 0 (omega arith) (omega arith)))
 
 -- ---- the areas at exit
-kept-left : (q : Query) (a : Areas) → Kept (2 * size q * size q) (a .work) (left q a)
-unfolding assembled
-kept-left q a =
-    let n : ℕ = 2 * size q * size q in
-    kept-then (kept-written n 0 n _ (a .work) (omega arith)) (kept-eliminated false (size q) (assembled q (a .work)))
+-- what lies past the named lengths is as it was
+abbrev pub Untouched : Query → Areas → Outcome → Type 0
+Untouched q a o =
+    Kept (2 * size q * size q) (a .work) (o .areas .work)
+    × Kept (nodes q) (a .figures) (o .areas .figures)
+    × Kept (nodes q) (a .variances) (o .areas .variances)
 
-kept-filled : (n : ℕ) (f : ℕ → Float) (xs : List Float) → Kept n xs (written 0 n f xs)
-kept-filled n f xs = kept-written n 0 n f xs (omega arith)
+kept-fill : (n : ℕ) (f : ℕ → Float) (xs : List Float) → Kept n xs (written 0 n f xs)
+kept-fill n f xs = kept-written n 0 n f xs (omega arith)
+
+kept-solved : (q : Query) (a : Areas) → Kept (2 * size q * size q) (a .work) (eliminated false (size q) (assembled q (a .work)) .area)
+kept-solved q a = kept-then (kept-assembled q (a .work)) (kept-eliminated false (size q) (assembled q (a .work)))
+
+whichever : (q : Query) (a : Areas) (d : Elimination) (w : List Float) → Kept (2 * size q * size q) (a .work) w → Untouched q a (concluded d q w a)
+unfolding concluded answered
+whichever q a Done w k = (k, kept-fill (nodes q) (figure q w) (a .figures), kept-fill (nodes q) (variance q w) (a .variances))
+whichever q a (Stopped i) w k = (k, kept-same (nodes q) (a .figures), kept-same (nodes q) (a .variances))
+whichever q a TooShort w k = (kept-same (2 * size q * size q) (a .work), kept-same (nodes q) (a .figures), kept-same (nodes q) (a .variances))
 
 -- "all past the named lengths is untouched", of every call
-pub kept-areas : (q : Query) (a : Areas)
-    → Kept (2 * size q * size q) (a .work) (interpolated q a .areas .work)
-    × Kept (nodes q) (a .figures) (interpolated q a .areas .figures)
-    × Kept (nodes q) (a .variances) (interpolated q a .areas .variances)
-unfolding answered
-kept-areas q a = go (refusal q a) refl
+pub untouched : (q : Query) (a : Areas) → Untouched q a (interpolated q a)
+unfolding interpolated judged
+untouched q a = go (refusal q a)
   where
-    Untouched : Outcome → Type 0
-    Untouched o = Kept (2 * size q * size q) (a .work) (o .areas .work) × Kept (nodes q) (a .figures) (o .areas .figures) × Kept (nodes q) (a .variances) (o .areas .variances)
-
-    by : refusal q a ≡ 0 → Ending (size q) 0 (size q) (eliminated false (size q) (assembled q (a .work))) → Untouched (interpolated q a)
-    by h (done d) = subst Untouched (sym (as-done q a h d)) (kept-left q a, kept-filled (nodes q) (figure q (left q a)) (a .figures), kept-filled (nodes q) (variance q (left q a)) (a .variances))
-    by h (stopped i _ _ d _) = subst Untouched (sym (as-stopped q a i h d)) (kept-left q a, kept-same (nodes q) (a .figures), kept-same (nodes q) (a .variances))
-
-    go : (n : ℕ) → refusal q a ≡ n → Untouched (interpolated q a)
-    go zero h = by h (ends q a h)
-    go (suc r) h = subst Untouched (sym (refusal-writes-nothing q a r h)) (kept-same (2 * size q * size q) (a .work), kept-same (nodes q) (a .figures), kept-same (nodes q) (a .variances))
+    go : (n : ℕ) → Untouched q a (judged n q a)
+    go zero = whichever q a (eliminated false (size q) (assembled q (a .work)) .answer) (eliminated false (size q) (assembled q (a .work)) .area) (kept-solved q a)
+    go (suc r) = (kept-same (2 * size q * size q) (a .work), kept-same (nodes q) (a .figures), kept-same (nodes q) (a .variances))
 
 filled-at : (n : ℕ) (f : ℕ → Float) (xs : List Float) (t : ℕ) → n ≤ length xs → t < n → getD (written 0 n f xs) t nan ≡ f t
 filled-at n f xs t l b = ap (λ (p : ℕ). getD (written 0 n f xs) p nan) (sym (zero-add t)) ∙ at-place 0 n f xs t nan (omega arith) b
@@ -174,13 +183,13 @@ pub figure-at : (q : Query) (a : Areas) → interpolated q a .number ≡ 0 → (
 unfolding answered
 figure-at q a e t l =
     let p = number-0 q a .0 e in
-    subst (λ (o : Outcome). getD (o .areas .figures) t nan ≡ figure q (o .areas .work) t) (sym (as-done q a (p .0) (p .1)))
-    (filled-at (nodes q) (figure q (left q a)) (a .figures) t (accepted q a (p .0) .figures) l)
+    subst (λ (o : Outcome). getD (o .areas .figures) t nan ≡ figure q (o .areas .work) t) (sym (where-it-solves q a (p .0) (p .1)))
+    (filled-at (nodes q) (figure q (workAfter (size q) q a)) (a .figures) t (accepted q a (p .0) .figures) l)
 
 pub variance-at : (q : Query) (a : Areas) → interpolated q a .number ≡ 0 → (t : ℕ) → t < nodes q
     → getD (interpolated q a .areas .variances) t nan ≡ variance q (interpolated q a .areas .work) t
 unfolding answered
 variance-at q a e t l =
     let p = number-0 q a .0 e in
-    subst (λ (o : Outcome). getD (o .areas .variances) t nan ≡ variance q (o .areas .work) t) (sym (as-done q a (p .0) (p .1)))
-    (filled-at (nodes q) (variance q (left q a)) (a .variances) t (accepted q a (p .0) .variances) l)
+    subst (λ (o : Outcome). getD (o .areas .variances) t nan ≡ variance q (o .areas .work) t) (sym (where-it-solves q a (p .0) (p .1)))
+    (filled-at (nodes q) (variance q (workAfter (size q) q a)) (a .variances) t (accepted q a (p .0) .variances) l)

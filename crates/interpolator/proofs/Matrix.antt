@@ -1,19 +1,16 @@
 -- The matrix: its entries, its symmetry, and where it stands in the work area. Assumes nothing.
-use Prim.Native.Nat.{ℕ, zero, suc, _+_, _-_, _*_, _/_, _%_, _≤_, _<_}
-use native.Mathlib.Nat.{zero-add}
+use Prim.Native.Nat.{ℕ, _+_, _-_, _*_, _≤_, _<_}
 use native.Mathlib.Omega.{arith}
-use mathlib.Core.Path.{_≡_, refl, ap, sym, _∙_}
+use mathlib.Core.Path.{_≡_, refl, ap}
 use mathlib.Core.Logic.{_≢_}
 use mathlib.Core.Bool.{Bool, true, false, cond}
 use mathlib.Core.List.{List}
 use lib.Dec.{ltb}
-use lib.Arith.{digits-div, digits-mod}
-use lib.ListN.{length, getD}
+use lib.ListN.{length}
 use lib.Ieee.{Float, nan, binary64, sub}
 use borrow.Author.Tests.{lt-ltb, le-ltb, eq-eqb, ne-eqb}
-use Rattle.area.specs.Area.{written}
-use Rattle.area.proofs.Places.{at-place}
-use Rattle.area.proofs.Rows.{row-end}
+use Rattle.area.specs.Area.{Kept}
+use Rattle.area.proofs.Filled.{entry as filled-entry, kept-filled}
 use Rattle.elimination.specs.Elimination.{at}
 use Rattle.variogram.specs.Model.{semivariance}
 use Rattle.variogram.specs.Distance.{distance}
@@ -68,15 +65,15 @@ symmetric q i j = go (ltb i (wells q)) (ltb j (wells q))
 pub assembled-at : (q : Query) (xs : List Float) (r c : ℕ) → 2 * size q * size q ≤ length xs → r < size q → c < 2 * size q
     → at (2 * size q) (assembled q xs) r c ≡ augmented q r c
 unfolding assembled
-assembled-at q xs r c l hr hc =
+assembled-at q xs r c l hr hc = filled-entry (2 * size q) (size q) (augmented q) xs r c nan (omega arith) hr hc
+
+-- and what lies past it is as it was
+pub kept-assembled : (q : Query) (xs : List Float) → Kept (2 * size q * size q) xs (assembled q xs)
+unfolding assembled
+kept-assembled q xs =
     let s : ℕ = size q in
-    let w : ℕ = 2 * s in
-    let f : ℕ → Float = λ t. augmented q (t / w) (t % w) in
-    let inside : r * w + c < 2 * s * s = omega (arith, row-end w r s hr) in
-    ap (λ (p : ℕ). getD (written 0 (2 * s * s) f xs) p nan) (sym (zero-add (r * w + c)))
-    ∙ at-place 0 (2 * s * s) f xs (r * w + c) nan (omega arith) inside
-    ∙ ap (λ (i : ℕ). augmented q i ((r * w + c) % w)) (digits-div r hc)
-    ∙ ap (λ (j : ℕ). augmented q r j) (digits-mod r hc)
+    let e : s * (2 * s) ≡ 2 * s * s = omega arith in
+    rw e at (kept-filled (2 * s) s s (augmented q) xs (omega arith))
 
 -- its left half is the matrix, its right half the identity
 pub left-half : (q : Query) (i j : ℕ) → j < size q → augmented q i j ≡ entry q i j

@@ -1,15 +1,12 @@
 -- Which number turns a call away before it eliminates: the first in the paper's order whose condition holds, and 0 exactly where none does. Assumes nothing.
-use Prim.Native.Nat.{ℕ, zero, suc, _*_, _≤_}
+use Prim.Native.Nat.{ℕ}
 use native.Mathlib.Omega.{arith}
-use mathlib.Core.Path.{_≡_, refl, ap, sym, _∙_}
+use mathlib.Core.Path.{_≡_, refl}
 use mathlib.Core.Logic.{_≢_}
-use mathlib.Core.Bool.{Bool, true, false, _||_, true≢false}
-use mathlib.Core.List.{List, [], _∷_}
-use lib.Dec.{ltb}
-use lib.ListN.{length}
-use borrow.Author.Tests.{ltb-false}
-use Rattle.error.specs.Tests.{Test, test, firstOf}
-use Rattle.interpolator.specs.Call.{Query, Areas, nodes, size}
+use mathlib.Core.Bool.{Bool, true, false}
+use mathlib.Core.List.{[], _∷_}
+use Rattle.error.specs.Tests.{test, firstOf}
+use Rattle.interpolator.specs.Call.{Query, Areas}
 use Rattle.interpolator.specs.Refusals.{wrongDimension, wrongPoints, wrongTargets, tooMany, notFinite, wrongModel, shortWork, shortAnswer, refusal}
 
 -- "13, 1, 2, 9, 11, 12, 17, 18": each number's own condition holds, and none before it
@@ -72,39 +69,3 @@ never-19 q a h = go (refusal q a) (ruling q a) h
     go n (by-17 _ _ _ _ _ _ _) e = omega arith
     go n (by-18 _ _ _ _ _ _ _ _) e = omega arith
     go n (none _ _ _ _ _ _ _ _) e = omega arith
-
--- what a call that eliminates is known to have
-pub record Accepted (q : Query) (a : Areas) : Type 0 where
-  pub dimension : wrongDimension q ≡ false
-  pub points : wrongPoints q ≡ false
-  pub finite : notFinite q ≡ false
-  pub work : 2 * size q * size q ≤ length (a .work)
-  pub figures : nodes q ≤ length (a .figures)
-  pub variances : nodes q ≤ length (a .variances)
-
-neither : (p r : Bool) → (p || r) ≡ false → (p ≡ false) × (r ≡ false)
-neither true r h = absurd (true≢false h)
-neither false r h = (refl, h)
-
-pub accepted : (q : Query) (a : Areas) → refusal q a ≡ 0 → Accepted q a
-accepted q a h = go (refusal q a) (ruling q a) h
-  where
-    go : (n : ℕ) → Ruling q a n → n ≡ 0 → Accepted q a
-    go n (by-13 _) e = absurd (omega arith)
-    go n (by-1 _ _) e = absurd (omega arith)
-    go n (by-2 _ _ _) e = absurd (omega arith)
-    go n (by-9 _ _ _ _) e = absurd (omega arith)
-    go n (by-11 _ _ _ _ _) e = absurd (omega arith)
-    go n (by-12 _ _ _ _ _ _) e = absurd (omega arith)
-    go n (by-17 _ _ _ _ _ _ _) e = absurd (omega arith)
-    go n (by-18 _ _ _ _ _ _ _ _) e = absurd (omega arith)
-    go n (none d p _ _ f _ w s) e =
-        let l = neither (ltb (length (a .figures)) (nodes q)) (ltb (length (a .variances)) (nodes q)) s in
-        record {
-          dimension = d;
-          points = p;
-          finite = f;
-          work = ltb-false (length (a .work)) (2 * size q * size q) w;
-          figures = ltb-false (length (a .figures)) (nodes q) (l .0);
-          variances = ltb-false (length (a .variances)) (nodes q) (l .1);
-        }

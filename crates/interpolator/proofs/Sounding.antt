@@ -25,12 +25,14 @@ query-B = record {
   targets = f 0x3ff0_0000_0000_0000 ∷ f 0 ∷ [];
 }
 
-abbrev pub areas-B : Areas
-areas-B = record { work = replicate 18 (f 0); figures = f 0 ∷ []; variances = f 0 ∷ [] }
+-- areas of just the places that the call needs, whatever the answer's hold
+abbrev pub areas-B : Float → Float → Areas
+areas-B x y = record { work = replicate 18 (f 0); figures = x ∷ []; variances = y ∷ [] }
 
 -- "Ordinary interpolation: 4, 1.5"
-pub sounding-B : (interpolated query-B areas-B .number ≡ 0)
-    × (interpolated query-B areas-B .areas .figures ≡ f 0x4010_0000_0000_0000 ∷ [])
-    × (interpolated query-B areas-B .areas .variances ≡ f 0x3ff8_0000_0000_0000 ∷ [])
+pub sounding-B : (x y : Float)
+    → (interpolated query-B (areas-B x y) .number ≡ 0)
+    × (interpolated query-B (areas-B x y) .areas .figures ≡ f 0x4010_0000_0000_0000 ∷ [])
+    × (interpolated query-B (areas-B x y) .areas .variances ≡ f 0x3ff8_0000_0000_0000 ∷ [])
 unfolding interpolated add sub mul div lt le eq ofBits round
-sounding-B = (refl, refl, refl)
+sounding-B x y = (refl, refl, refl)

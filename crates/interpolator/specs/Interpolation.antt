@@ -1,9 +1,9 @@
 -- What the interpolator answers: paper 01, "Interpolator", each operation rounded once. Assumes nothing.
 use Prim.Native.Nat.{ℕ, zero, suc, _+_, _*_}
-use mathlib.Core.Bool.{Bool, true, false}
+use mathlib.Core.Bool.{false}
 use mathlib.Core.List.{List}
 use lib.ListN.{getD}
-use lib.Ieee.{Float, nan, binary64, ofBits, add, sub, mul}
+use lib.Ieee.{Float, nan, binary64, add, sub, mul}
 use Rattle.area.specs.Area.{written}
 use Rattle.ieee.specs.Floats.{maxOf}
 use Rattle.elimination.specs.declared.Elimination.{Elimination}
@@ -13,19 +13,19 @@ use Rattle.interpolator.specs.Call.{Query, Areas, Outcome, wells, nodes,
 use Rattle.interpolator.specs.System.{zeroFloat, column, assembled}
 use Rattle.interpolator.specs.Refusals.{refusal}
 
--- the first k terms added "from 0", by rising index
-unfoldable pub summed : (ℕ → Float) → ℕ → Float
-summed term zero = zeroFloat
-summed term (suc k) = add binary64 (summed term k) (term k)
+-- "summed from 0 by rising column": f 0, f 1, .. added in turn, each addition rounded
+unfoldable pub runningSum : ℕ → (ℕ → Float) → Float
+runningSum zero f = zeroFloat
+runningSum (suc k) f = add binary64 (runningSum k f) (f k)
 
--- the first k terms taken from a number, "each .. in turn"
-unfoldable pub lessened : Float → (ℕ → Float) → ℕ → Float
-lessened from term zero = from
-lessened from term (suc k) = sub binary64 (lessened from term k) (term k)
+-- f 0, f 1, .. taken from a number in turn, each subtraction rounded
+unfoldable pub lessEach : Float → ℕ → (ℕ → Float) → Float
+lessEach x zero f = x
+lessEach x (suc k) f = sub binary64 (lessEach x k f) (f k)
 
 -- "The right half is the inverse": its entry in row i and column j
-abbrev pub inverse : ℕ → List Float → ℕ → ℕ → Float
-inverse s work i j = at (2 * s) work i (s + j)
+abbrev pub inverseAt : ℕ → List Float → ℕ → ℕ → Float
+inverseAt s work i j = at (2 * s) work i (s + j)
 
 -- b of the target t
 abbrev pub rightSide : Query → ℕ → ℕ → Float
@@ -33,13 +33,13 @@ rightSide q t i = column q (q .targets) t i
 
 -- "z = inverse times b, summed from 0 by rising column", from the work area of the finished elimination
 unfoldable pub solution : Query → List Float → ℕ → ℕ → Float
-unfolding summed column
-solution q work t i = summed (λ j. mul binary64 (inverse (size q) work i j) (rightSide q t j)) (size q)
+unfolding runningSum column
+solution q work t i = runningSum (size q) (λ j. mul binary64 (inverseAt (size q) work i j) (rightSide q t j))
 
 -- "Figure: Σ z_i·value_i"
 unfoldable pub figure : Query → List Float → ℕ → Float
-unfolding summed solution
-figure q work t = summed (λ i. mul binary64 (solution q work t i) (getD (q .values) i nan)) (wells q)
+unfolding runningSum solution
+figure q work t = runningSum (wells q) (λ i. mul binary64 (solution q work t i) (getD (q .values) i nan))
 
 -- "minus zero, anything below zero and NaN become +0"
 abbrev pub notBelowZero : Float → Float
@@ -47,9 +47,9 @@ notBelowZero x = maxOf x zeroFloat
 
 -- "Variance: sill minus each z·b in turn, then as above"
 unfoldable pub variance : Query → List Float → ℕ → Float
-unfolding lessened solution column
+unfolding lessEach solution column
 variance q work t =
-    notBelowZero (lessened (q .variogram .sill) (λ i. mul binary64 (solution q work t i) (rightSide q t i)) (size q))
+    notBelowZero (lessEach (q .variogram .sill) (size q) (λ i. mul binary64 (solution q work t i) (rightSide q t i)))
 
 -- every target's figure and variance, from the finished elimination
 unfoldable pub answered : Query → List Float → Areas → Areas
@@ -61,7 +61,7 @@ answered q work a =
       variances = written 0 (nodes q) (variance q work) (a .variances);
     }
 
--- "19 leaves the work area as elimination stopped", and writes nothing else
+-- What an elimination that ended so gives the call. "Held magnitude below 2^-52: refusal 19"; "19 leaves the work area as elimination stopped". An area that is too short is refused by 17 before.
 unfoldable pub concluded : Elimination → Query → List Float → Areas → Outcome
 unfolding answered
 concluded Done q work a = record { number = 0; areas = answered q work a }

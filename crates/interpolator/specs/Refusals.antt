@@ -12,14 +12,8 @@ use Rattle.variogram.specs.declared.VariogramModel.the-variants.{Spherical, Exp
 use Rattle.variogram.specs.Distance.{offered}
 use Rattle.interpolator.specs.declared.KrigingType.{KrigingType}
 use Rattle.interpolator.specs.declared.KrigingType.the-variants.{Ordinary, Universal}
+use Rattle.interpolator.specs.Limits.{mostWells, mostNodes}
 use Rattle.interpolator.specs.Call.{Query, Areas, wells, nodes, size}
-
--- "9 n > 48 .. or m > 100"
-abbrev pub mostWells : ℕ
-mostWells = 48
-
-abbrev pub mostNodes : ℕ
-mostNodes = 100
 
 -- every number of a list is finite
 unfoldable pub allFinite : List Float → Bool
@@ -31,11 +25,11 @@ isUniversal Ordinary = false
 isUniversal Universal = true
 
 -- "Exponential or Gaussian"
-abbrev pub isOutside : VariogramModel → Bool
-isOutside Spherical = false
-isOutside Exponential = true
-isOutside Gaussian = true
-isOutside Linear = false
+abbrev pub notOffered : VariogramModel → Bool
+notOffered Spherical = false
+notOffered Exponential = true
+notOffered Gaussian = true
+notOffered Linear = false
 
 -- 13: "d not 1, 2 or 3, or d = 1 with Universal"
 abbrev pub wrongDimension : Query → Bool
@@ -62,7 +56,7 @@ notFinite q =
 
 -- 12: "Exponential or Gaussian"
 abbrev pub wrongModel : Query → Bool
-wrongModel q = isOutside (q .variogram .model)
+wrongModel q = notOffered (q .variogram .model)
 
 -- 17: "work area under 2·s·s numbers"
 abbrev pub shortWork : Query → Areas → Bool

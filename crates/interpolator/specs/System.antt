@@ -1,11 +1,11 @@
 -- The interpolator's kriging system: the matrix, and the right-hand side of a target. Paper 01, "Interpolator". Assumes nothing.
-use Prim.Native.Nat.{ℕ, _+_, _-_, _*_, _/_, _%_}
+use Prim.Native.Nat.{ℕ, _-_, _*_}
 use mathlib.Core.Bool.{cond}
 use mathlib.Core.List.{List, [], _∷_}
 use lib.Dec.{eqb, ltb}
 use lib.ListN.{getD}
 use lib.Ieee.{Float, binary64, ofBits, sub, mul}
-use Rattle.area.specs.Area.{written}
+use Rattle.area.specs.Area.{filled}
 use Rattle.variogram.specs.Model.{semivariance}
 use Rattle.variogram.specs.Distance.{axisFrom, distance}
 use Rattle.interpolator.specs.declared.KrigingType.{KrigingType}
@@ -48,7 +48,7 @@ unfoldable pub augmented : Query → ℕ → ℕ → Float
 unfolding entry
 augmented q i c = cond (ltb c (size q)) (entry q i c) (cond (eqb (c - size q) i) oneFloat zeroFloat)
 
--- a work area with it in its first 2·s·s places, row after row
+-- a work area with it, row after row
 unfoldable pub assembled : Query → List Float → List Float
 unfolding augmented
-assembled q xs = written 0 (2 * size q * size q) (λ t. augmented q (t / (2 * size q)) (t % (2 * size q))) xs
+assembled q xs = filled (2 * size q) (size q) (augmented q) xs
