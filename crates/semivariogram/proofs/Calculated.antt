@@ -4,63 +4,22 @@ use Prim.Native.Nat.{ℕ, zero, suc, _+_, _-_, _*_, _/_, _≤_, _<_}
 use native.Mathlib.Nat.{zero-add, sub-zero}
 use native.Mathlib.Omega.{arith}
 use mathlib.Core.Path.{_≡_, refl, ap, sym, subst, _∙_}
-use mathlib.Core.Bool.{Bool, true, false, cond, _&&_, _||_, not, true≢false}
-use mathlib.Core.List.{List, [], _∷_, map}
-use lib.Dec.{leb, ltb}
+use mathlib.Core.Bool.{Bool, true}
+use mathlib.Core.List.{List, map}
+use lib.Dec.{ltb}
 use lib.ListN.{length, getD, take}
 use lib.Ieee.{Float, nan, binary64, ofBits, div}
-use borrow.Author.Tests.{ltb-false, leb-true, lt-ltb, ltb-true}
+use borrow.Author.Tests.{lt-ltb, ltb-true}
 use Rattle.area.specs.Area.{written, Kept}
 use Rattle.area.proofs.Places.{at-place}
 use Rattle.area.proofs.Kept.{kept-written}
-use Rattle.semivariogram.specs.Pairs.{Pair, rising, pairs, filtered}
+use Rattle.semivariogram.specs.Pairs.{rising, filtered}
 use Rattle.semivariogram.specs.Call.{Samples, Areas, Outcome, samples}
-use Rattle.semivariogram.specs.Refusals.{mostBins, wrongBins, shortAnswer, refusal}
+use Rattle.semivariogram.specs.Refusals.{refusal}
 use Rattle.semivariogram.specs.Semivariogram.{asFloat, halfSquare, count, average, centre, keptBins, filled, judged, calculated}
 use Rattle.semivariogram.proofs.Lists.{total, length-rising, filtered-length, rankFrom, Ranked, at-rank, from-rank, take-filled}
 use Rattle.semivariogram.proofs.Bins.{pairsIn, addedUp, count-is, average-is, kept-counts}
-use Rattle.semivariogram.proofs.Ruling.{Ruling, by-13, by-1, by-14, by-15, by-9, by-11, by-18, none, ruling}
-
--- ---- what an accepted call is known to have
-pub record Accepted (q : Samples) (a : Areas) : Type 0 where
-  pub bins : 1 ≤ q .bins
-  pub distances : q .bins ≤ length (a .distances)
-  pub semivariances : q .bins ≤ length (a .semivariances)
-  pub counts : q .bins ≤ length (a .counts)
-
-both : (p r : Bool) → not (p && r) ≡ false → (p ≡ true) × (r ≡ true)
-both true true h = (refl, refl)
-both true false h = absurd (true≢false h)
-both false r h = absurd (true≢false h)
-
-neither : (p r : Bool) → (p || r) ≡ false → (p ≡ false) × (r ≡ false)
-neither true r h = absurd (true≢false h)
-neither false r h = (refl, h)
-
-pub accepted : (q : Samples) (a : Areas) → refusal q a ≡ 0 → Accepted q a
-accepted q a h = go (refusal q a) (ruling q a) h
-  where
-    go : (n : ℕ) → Ruling q a n → n ≡ 0 → Accepted q a
-    go n (by-13 _) e = absurd (omega arith)
-    go n (by-1 _ _) e = absurd (omega arith)
-    go n (by-14 _ _ _) e = absurd (omega arith)
-    go n (by-15 _ _ _ _) e = absurd (omega arith)
-    go n (by-9 _ _ _ _ _) e = absurd (omega arith)
-    go n (by-11 _ _ _ _ _ _) e = absurd (omega arith)
-    go n (by-18 _ _ _ _ _ _ _) e = absurd (omega arith)
-    go n (none _ _ _ b _ _ s) e =
-        let k : (leb 1 (q .bins) ≡ true) × (leb (q .bins) mostBins ≡ true) = both (leb 1 (q .bins)) (leb (q .bins) mostBins) b in
-        let x : Bool = ltb (length (a .distances)) (q .bins) in
-        let y : Bool = ltb (length (a .semivariances)) (q .bins) in
-        let z : Bool = ltb (length (a .counts)) (q .bins) in
-        let l = neither (x || y) z s in
-        let m = neither x y (l .0) in
-        record {
-          bins = leb-true 1 (q .bins) (k .0);
-          distances = ltb-false (length (a .distances)) (q .bins) (m .0);
-          semivariances = ltb-false (length (a .semivariances)) (q .bins) (m .1);
-          counts = ltb-false (length (a .counts)) (q .bins) (l .1);
-        }
+use Rattle.semivariogram.proofs.Accepted.{Accepted, accepted}
 
 -- ---- how the call ends
 pub is-filled : (q : Samples) (a : Areas) → refusal q a ≡ 0 → calculated q a ≡ record { number = 0; kept = length (keptBins q); areas = filled q a }
@@ -95,7 +54,7 @@ counts-add-up q a h =
     let few : length (keptBins q) ≤ q .bins = fewer q in
     ap (λ (o : Outcome). total (take (o .kept) (o .areas .counts))) (is-filled q a h)
     ∙ ap total (take-filled (count q) (keptBins q) (a .counts) (omega arith))
-    ∙ kept-counts q (k .bins)
+    ∙ kept-counts q (k .bins .0)
 
 -- how many kept bins lie below the bin b
 abbrev pub rank : Samples → ℕ → ℕ

@@ -2,5 +2,6 @@ pub mod Lists
 pub mod Pairs
 pub mod Bins
 pub mod Ruling
+pub mod Accepted
 pub mod Calculated
 pub mod Sounding

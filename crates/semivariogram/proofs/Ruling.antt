@@ -1,12 +1,11 @@
 -- Which number a call gets: the first in the paper's order whose condition holds, and 0 exactly where none does. Assumes nothing.
-use Prim.Native.Nat.{ℕ, zero, suc, _≤_}
-use native.Mathlib.Omega.{arith}
-use mathlib.Core.Path.{_≡_, refl, ap, sym, _∙_}
-use mathlib.Core.Bool.{Bool, true, false, cond}
-use mathlib.Core.List.{List, [], _∷_}
-use Rattle.error.specs.Tests.{Test, test, firstOf}
-use Rattle.semivariogram.specs.Call.{Samples, Areas, samples}
-use Rattle.semivariogram.specs.Refusals.{wrongDimension, wrongPoints, tooFew, wrongBins, tooMany, notFinite, shortAnswer, allFinite, tests, refusal}
+use Prim.Native.Nat.{ℕ}
+use mathlib.Core.Path.{_≡_, refl}
+use mathlib.Core.Bool.{Bool, true, false}
+use mathlib.Core.List.{[], _∷_}
+use Rattle.error.specs.Tests.{test, firstOf}
+use Rattle.semivariogram.specs.Call.{Samples, Areas}
+use Rattle.semivariogram.specs.Refusals.{wrongDimension, wrongPoints, tooFew, wrongBins, tooMany, notFinite, shortAnswer, refusal}
 
 -- "13, 1, 14, 15, 9, 11, 18": each number's own condition holds, and none before it
 pub data Ruling (q : Samples) (a : Areas) : ℕ → Type 0 where

@@ -8,15 +8,8 @@ use lib.Ieee.{Float}
 use lib.Ieee.Scale.{finite}
 use Rattle.error.specs.Tests.{Test, test, firstOf}
 use Rattle.variogram.specs.Distance.{offered}
+use Rattle.semivariogram.specs.Limits.{mostSamples, mostBins}
 use Rattle.semivariogram.specs.Call.{Samples, Areas, samples}
-
--- "9 n > 48"
-abbrev pub mostSamples : ℕ
-mostSamples = 48
-
--- "15 bins not 1..64"
-abbrev pub mostBins : ℕ
-mostBins = 64
 
 -- every number of a list is finite
 unfoldable pub allFinite : List Float → Bool
