@@ -5,7 +5,7 @@ use native.Mathlib.Omega.{arith}
 use mathlib.Core.Path.{_≡_, refl, sym, ap, ap₂, _∙_, subst}
 use mathlib.Core.Logic.{_⊎_, inl, inr, ⊎-elim}
 use mathlib.Core.Bool.{Bool, true, false, not, cond}
-use lib.Dec.{T, leb, ltb, leb→le, le→leb, ltb→lt, nltb→le, nleb→lt}
+use lib.Dec.{T, leb, ltb, leb→le, le→leb, ltb→lt, nltb→le}
 use lib.Signed.{_≤ℤ_}
 use lib.IntN.{ℤ, pos, negsuc, negℤ, natAbs, sucℤ, predℤ, subℕ, _+ℤ_, _-ℤ_, _*ℤ_, sucℤ-+ℤ, predℤ-+ℤ, +ℤ-idl, +ℤ-idr, +ℤ-assoc, +ℤ-comm, +ℤ-invr, +ℤ-invl, negℤ-+ℤ, zero-*ℤ, sucℤ-*ℤ, predℤ-*ℤ, *ℤ-comm}
 
@@ -105,6 +105,10 @@ subℕ-lt a b h = by-difference a b (λ z. z ≡ negsuc (b - suc a)) (λ l. refl
     clash : b ≤ a → ⊥
     clash l = omega arith
 
+pub pos--ℤ-pos : (a b : ℕ) → pos a -ℤ pos b ≡ subℕ a b
+pos--ℤ-pos a zero = sym (subℕ-ge a 0 (omega arith) ∙ ap pos (omega arith))
+pos--ℤ-pos a (suc b) = refl
+
 -- ---- the magnitude
 
 pub natAbs-negℤ : (a : ℤ) → natAbs (negℤ a) ≡ natAbs a
@@ -161,12 +165,15 @@ pos-≤ℤ {a} {b} h = record { le = le→leb a b h }
 pub ≤ℤ-pos : {a b : ℕ} → pos a ≤ℤ pos b → a ≤ b
 ≤ℤ-pos {a} {b} h = leb→le a b (h .le)
 
-either-le : (a b : ℕ) → (a ≤ b) ⊎ (b ≤ a)
-either-le a b = go (leb a b) refl
+pub either-lt : (a b : ℕ) → (a < b) ⊎ (b ≤ a)
+either-lt a b = go (ltb a b) refl
   where
-    go : (t : Bool) → leb a b ≡ t → (a ≤ b) ⊎ (b ≤ a)
-    go true h = inl (leb→le a b (subst T (sym h) tt))
-    go false h = inr (le-of-lt (nleb→lt a b (subst (λ (x : Bool). T (not x)) (sym h) tt)))
+    go : (t : Bool) → ltb a b ≡ t → (a < b) ⊎ (b ≤ a)
+    go true h = inl (ltb→lt a b (subst T (sym h) tt))
+    go false h = inr (nltb→le a b (subst (λ (x : Bool). T (not x)) (sym h) tt))
+
+either-le : (a b : ℕ) → (a ≤ b) ⊎ (b ≤ a)
+either-le a b = ⊎-elim (λ l. inl (le-of-lt l)) inr (either-lt a b)
 
 pub ≤ℤ-total : (a b : ℤ) → (a ≤ℤ b) ⊎ (b ≤ℤ a)
 ≤ℤ-total (pos a) (pos b) = ⊎-elim (λ l. inl (record { le = le→leb a b l })) (λ l. inr (record { le = le→leb b a l })) (either-le a b)
