@@ -13,7 +13,7 @@ use lib.IntN.{ℤ, pos, negsuc, negℤ, natAbs, subℕ, _+ℤ_, _-ℤ_, +ℤ-idr
 use Rattle.exact.specs.Words.{number, wordsOf, modulus, half, reading, residue, held}
 use Rattle.exact.proofs.Whole.{pos--ℤ-pos, subℕ-lt, either-lt}
 use Rattle.exact.proofs.Words.{Words, number-lt, length-wordsOf, words-wordsOf, number-wordsOf, wordsOf-number}
-use Rattle.exact.proofs.Residue.{modulus-pos, two-halves, residue-lt, residue-below, same-residue, residue-add, residue-again}
+use Rattle.exact.proofs.Residue.{modulus-pos, two-halves, residue-lt, residue-below, same-residue, residue-add, residue-again, residue-negℤ}
 
 pub modulus-words : 2 ^ (64 * 67) ≡ modulus
 unfolding modulus
@@ -88,3 +88,8 @@ reading-held (negsuc n) h =
     let back : modulus - suc (modulus - suc n) ≡ n = omega arith in
     rw (e, le-ltb (modulus - suc n) half over)
     (pos--ℤ-pos (modulus - suc n) modulus ∙ subℕ-lt (modulus - suc n) modulus (omega arith) ∙ ap negsuc back)
+
+-- minus the number and minus what is read differ by a modulus at most
+pub held-negℤ : (ws : List ℕ) → held (negℤ (pos (number ws))) ≡ held (negℤ (reading ws))
+unfolding held
+held-negℤ ws = ap (λ (n : ℕ). wordsOf 67 n) (residue-negℤ (pos (number ws)) (reading ws) (sym (reading-residue ws)))

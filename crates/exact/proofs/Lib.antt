@@ -6,3 +6,5 @@ pub mod Held
 pub mod Carries
 pub mod Halves
 pub mod Units
+pub mod Terms
+pub mod Order

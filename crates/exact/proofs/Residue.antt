@@ -5,7 +5,7 @@ use native.Mathlib.Omega.{arith}
 use mathlib.Core.Path.{_≡_, refl, sym, ap, ap₂, _∙_, subst}
 use mathlib.Core.Logic.{_⊎_, inl, inr, ⊎-elim}
 use lib.Pow.{pow-pos}
-use lib.IntN.{ℤ, pos, negsuc, negℤ, subℕ, _+ℤ_, _-ℤ_, +ℤ-assoc, +ℤ-comm, +ℤ-idr}
+use lib.IntN.{ℤ, pos, negsuc, negℤ, subℕ, _+ℤ_, _-ℤ_, +ℤ-assoc, +ℤ-comm, +ℤ-idr, +ℤ-idl, +ℤ-invr}
 use Rattle.exact.specs.Words.{modulus, half, residue}
 use Rattle.exact.proofs.Whole.{subℕ-ge, subℕ-lt, +ℤ-swap, either-lt}
 
@@ -78,3 +78,11 @@ residue-add z w t h = residue-plus z t ∙ ap (λ (n : ℕ). residue (pos n +ℤ
 
 pub residue-again : (z : ℤ) → residue (pos (residue z)) ≡ residue z
 residue-again z = residue-below (residue z) (residue-lt z)
+
+-- minus two that leave the same
+pub residue-negℤ : (z w : ℤ) → residue z ≡ residue w → residue (negℤ z) ≡ residue (negℤ w)
+residue-negℤ z w h =
+    let u = negℤ z +ℤ negℤ w in
+    let a : w +ℤ u ≡ negℤ z = sym (+ℤ-assoc w (negℤ z) (negℤ w)) ∙ +ℤ-swap w (negℤ z) (negℤ w) ∙ ap (λ (x : ℤ). x +ℤ negℤ z) (+ℤ-invr w) ∙ +ℤ-idl (negℤ z) in
+    let b : z +ℤ u ≡ negℤ w = sym (+ℤ-assoc z (negℤ z) (negℤ w)) ∙ ap (λ (x : ℤ). x +ℤ negℤ w) (+ℤ-invr z) ∙ +ℤ-idl (negℤ w) in
+    ap residue (sym a) ∙ sym (residue-add z w u h) ∙ ap residue b

@@ -6,7 +6,7 @@ use mathlib.Core.Path.{_≡_, refl, sym, ap, ap₂, _∙_, subst}
 use mathlib.Core.Logic.{_⊎_, inl, inr, ⊎-elim}
 use mathlib.Core.Bool.{Bool, true, false, not, cond}
 use lib.Dec.{T, leb, ltb, leb→le, le→leb, ltb→lt, nltb→le}
-use lib.Signed.{_≤ℤ_}
+use lib.Signed.{nonNeg, _≤ℤ_}
 use lib.IntN.{ℤ, pos, negsuc, negℤ, natAbs, sucℤ, predℤ, subℕ, _+ℤ_, _-ℤ_, _*ℤ_, sucℤ-+ℤ, predℤ-+ℤ, +ℤ-idl, +ℤ-idr, +ℤ-assoc, +ℤ-comm, +ℤ-invr, +ℤ-invl, negℤ-+ℤ, zero-*ℤ, sucℤ-*ℤ, predℤ-*ℤ, *ℤ-comm}
 
 -- ---- induction by one more and one less
@@ -139,6 +139,14 @@ natAbs--ℤ a b = let h = natAbs-+ℤ a (negℤ b) in rw (natAbs-negℤ b) at h
 pub by-sign : (a : ℤ) → (a ≡ pos (natAbs a)) ⊎ (a ≡ negℤ (pos (natAbs a)))
 by-sign (pos n) = inl refl
 by-sign (negsuc n) = inr refl
+
+pub abs-negative : (a : ℤ) → not (nonNeg a) ≡ true → negℤ a ≡ pos (natAbs a)
+abs-negative (pos n) h = absurd (subst (λ (b : Bool). T (not b)) h tt)
+abs-negative (negsuc n) h = refl
+
+pub abs-other : (a : ℤ) → not (nonNeg a) ≡ false → a ≡ pos (natAbs a)
+abs-other (pos n) h = refl
+abs-other (negsuc n) h = absurd (subst T h tt)
 
 -- ---- the order
 

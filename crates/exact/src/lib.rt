@@ -3,11 +3,11 @@
 ghost use mathlib.Core.Path.{_≡_};
 ghost use mathlib.Core.Bool.{not};
 ghost use Prim.Native.Nat.{_+_, _*_, _^_, _<_, _≤_};
-ghost use lib.IntN.{ℤ, pos, natAbs, _+ℤ_, _-ℤ_, _*ℤ_};
+ghost use lib.IntN.{pos, negℤ, natAbs, _+ℤ_, _-ℤ_, _*ℤ_};
 ghost use lib.Signed.{leZ, nonNeg};
 ghost use Rattle.ieee.specs.Values.{signed};
 ghost use Rattle.exact.specs.Units.{units};
-ghost use Rattle.exact.specs.Words.{number, reading, held};
+ghost use Rattle.exact.specs.Words.{reading, held};
 
 // A number by its sign, its significand and its shift: ±significand·2^shift, in units of 2^-1074.
 struct Parts {
@@ -125,4 +125,130 @@ fn add_at(sum: [u64; 67], place: usize, word: u64) -> [u64; 67]
         i += 1;
     }
     total
+}
+
+// sum − word·2^(64·place): each word is taken away with wrap, and its borrow, which a difference above what was there shows, is passed up as far as it goes.
+fn sub_at(sum: [u64; 67], place: usize, word: u64) -> [u64; 67]
+    ensures { λ r. ⌜ r ≡ held (reading sum -ℤ pos (word * 2 ^ (64 * place))) ⌝ }
+{
+    let mut total = sum;
+    let mut borrow = word;
+    let mut i = place;
+    while i < 67 {
+        if borrow == 0 {
+            return total;
+        }
+        let old = total[i];
+        let new = std::num::wrapping_sub_u64(old, borrow);
+        total[i] = new;
+        borrow = if new > old { 1 } else { 0 };
+        i += 1;
+    }
+    total
+}
+
+// The product x·y as a term of a sum, in units of 2^-2148.
+fn term_of(x: f64, y: f64) -> Term
+    ensures { λ r. ⌜ (units x *ℤ units y ≡ signed (r .negative) ((r .low + 2 ^ 64 * (r .middle + 2 ^ 64 * r .high)) * 2 ^ (64 * r .place))) × (r .place ≤ 63) ⌝ }
+{
+    let a = parts_of(x);
+    let b = parts_of(y);
+    let product = multiply(a.significand, b.significand);
+    let shift = a.shift + b.shift;
+    let place = (shift / 64) as usize;
+    if a.negative {
+        return shifted(product, shift % 64, !b.negative, place);
+    }
+    shifted(product, shift % 64, b.negative, place)
+}
+
+// sum + low·2^(64·place) + middle·2^(64·(place + 1)) + high·2^(64·(place + 2))
+fn add_words(sum: [u64; 67], term: Term) -> [u64; 67]
+    requires { ⌜ term .place ≤ 63 ⌝ }
+    ensures { λ r. ⌜ r ≡ held (reading sum +ℤ pos ((term .low + 2 ^ 64 * (term .middle + 2 ^ 64 * term .high)) * 2 ^ (64 * term .place))) ⌝ }
+{
+    let with_low = add_at(sum, term.place, term.low);
+    let with_middle = add_at(with_low, term.place + 1, term.middle);
+    add_at(with_middle, term.place + 2, term.high)
+}
+
+// sum − low·2^(64·place) − middle·2^(64·(place + 1)) − high·2^(64·(place + 2))
+fn sub_words(sum: [u64; 67], term: Term) -> [u64; 67]
+    requires { ⌜ term .place ≤ 63 ⌝ }
+    ensures { λ r. ⌜ r ≡ held (reading sum -ℤ pos ((term .low + 2 ^ 64 * (term .middle + 2 ^ 64 * term .high)) * 2 ^ (64 * term .place))) ⌝ }
+{
+    let without_low = sub_at(sum, term.place, term.low);
+    let without_middle = sub_at(without_low, term.place + 1, term.middle);
+    sub_at(without_middle, term.place + 2, term.high)
+}
+
+// sum + x·y, exactly. An operand that is not finite leaves the sum as it is.
+pub fn add_product(sum: [u64; 67], x: f64, y: f64) -> [u64; 67]
+    ensures { λ r. ⌜ r ≡ held (reading sum +ℤ units x *ℤ units y) ⌝ }
+{
+    let term = term_of(x, y);
+    if term.negative {
+        return sub_words(sum, term);
+    }
+    add_words(sum, term)
+}
+
+// sum − x·y, exactly. An operand that is not finite leaves the sum as it is.
+pub fn sub_product(sum: [u64; 67], x: f64, y: f64) -> [u64; 67]
+    ensures { λ r. ⌜ r ≡ held (reading sum -ℤ units x *ℤ units y) ⌝ }
+{
+    let term = term_of(x, y);
+    if term.negative {
+        return add_words(sum, term);
+    }
+    sub_words(sum, term)
+}
+
+// Whether the sum is below zero: its highest bit is set.
+pub fn is_negative(sum: [u64; 67]) -> bool
+    ensures { λ r. ⌜ r ≡ not (nonNeg (reading sum)) ⌝ }
+{
+    sum[66] >= 0x8000_0000_0000_0000
+}
+
+// −sum: each word in turn is taken away from 0.
+fn negated(sum: [u64; 67]) -> [u64; 67]
+    ensures { λ r. ⌜ r ≡ held (negℤ (reading sum)) ⌝ }
+{
+    let mut rest = [0; 67];
+    let mut i = 0;
+    while i < 67 {
+        let next = sub_at(rest, i, sum[i]);
+        rest = next;
+        i += 1;
+    }
+    rest
+}
+
+// |sum|.
+pub fn magnitude(sum: [u64; 67]) -> [u64; 67]
+    ensures { λ r. ⌜ r ≡ held (pos (natAbs (reading sum))) ⌝ }
+{
+    if is_negative(sum) {
+        return negated(sum);
+    }
+    sum
+}
+
+// Whether a ≤ b, as whole numbers. Of two with the same sign, the words' numbers are in the order of what they stand for: the highest that differ decide.
+pub fn at_most(a: [u64; 67], b: [u64; 67]) -> bool
+    ensures { λ r. ⌜ r ≡ leZ (reading a) (reading b) ⌝ }
+{
+    let below = is_negative(a);
+    if below != is_negative(b) {
+        return below;
+    }
+    let mut i = 67;
+    while 0 < i {
+        i -= 1;
+        if a[i] != b[i] {
+            return a[i] < b[i];
+        }
+    }
+    true
 }
