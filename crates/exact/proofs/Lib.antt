@@ -8,3 +8,4 @@ pub mod Halves
 pub mod Units
 pub mod Terms
 pub mod Order
+pub mod Exact
