@@ -38,7 +38,7 @@ multiple-lt (fin s zero e) f =
 multiple-lt (fin s (suc m) e) f =
     let k : suc m * up e < 2 ^ 1024 * down e = ltb→lt (suc m * up e) (2 ^ 1024 * down e) (and-r (eqb (suc m % 2) 1 && ltb (suc m) (2 ^ 53) && leb (down e) (2 ^ 1074)) (ltb (suc m * up e) (2 ^ 1024 * down e)) f) in
     div-lt-iff-lt-mul (down-pos e) .1 (
-      subst (λ (n : ℕ). suc m * up e * 2 ^ 1074 < n) (mul-right-comm (2 ^ 1024) (down e) (2 ^ 1074)) (mul-lt-mul-of-pos-right k (pow-pos 1074)))
+    subst (λ (n : ℕ). suc m * up e * 2 ^ 1074 < n) (mul-right-comm (2 ^ 1024) (down e) (2 ^ 1074)) (mul-lt-mul-of-pos-right k (pow-pos 1074)))
 
 pub units-lt : (x : Float) → T (fits binary64 x) → natAbs (units x) < 2 ^ 2098
 units-lt x f =
@@ -62,10 +62,13 @@ units-le x = go (finite x)
   where
     b : ℕ
     b = toBits binary64 x
+
     n : ℕ
     n = fieldsMultiple (exponentField b) (fractionField b)
+
     short : n ≤ unitBound
     short = fields-le (exponentField b) (fractionField b) (omega arith) (omega arith)
+
     go : (t : Bool) → natAbs (cond t (signed (signBit b) n) (pos 0)) ≤ unitBound
     go true = subst (λ (k : ℕ). k ≤ unitBound) (sym (natAbs-signed (signBit b) n)) short
     go false = le-trans (omega arith) short
@@ -83,7 +86,7 @@ unfolding unitBound termBound
 term x y =
     record {
       within =
-        le-trans (le-of-eq (natAbs-*ℤ (units x) (units y))) (le-trans (mul-le-mul (units-le x) (units-le y)) (le-of-eq (sym (one-mul (2 ^ 4198)))));
+          le-trans (le-of-eq (natAbs-*ℤ (units x) (units y))) (le-trans (mul-le-mul (units-le x) (units-le y)) (le-of-eq (sym (one-mul (2 ^ 4198)))));
     }
 
 pub terms-zero : Terms 0 (pos 0)
@@ -105,7 +108,7 @@ pub terms-sum : (k : ℕ) (x y : ℕ → Float) → Terms k (sumℤ k (λ i. uni
 terms-sum k x y =
     record {
       within =
-        sumℤ-bound k (λ i. units (x i) *ℤ units (y i)) termBound (λ i l. subst (λ (n : ℕ). natAbs (units (x i) *ℤ units (y i)) ≤ n) (one-mul termBound) (term (x i) (y i) .within));
+          sumℤ-bound k (λ i. units (x i) *ℤ units (y i)) termBound (λ i l. subst (λ (n : ℕ). natAbs (units (x i) *ℤ units (y i)) ≤ n) (one-mul termBound) (term (x i) (y i) .within));
     }
 
 -- ---- nothing wraps

@@ -122,7 +122,7 @@ fn add_at(sum: [u64; 67], place: usize, word: u64) -> [u64; 67]
         let new = std::num::wrapping_add_u64(old, carry);
         total[i] = new;
         carry = if new < old { 1 } else { 0 };
-        i += 1;
+        i += 1; // the carry goes to the next word
     }
     total
 }
@@ -142,7 +142,7 @@ fn sub_at(sum: [u64; 67], place: usize, word: u64) -> [u64; 67]
         let new = std::num::wrapping_sub_u64(old, borrow);
         total[i] = new;
         borrow = if new > old { 1 } else { 0 };
-        i += 1;
+        i += 1; // the borrow is taken from the next word
     }
     total
 }
