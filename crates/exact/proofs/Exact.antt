@@ -1,14 +1,16 @@
 -- No sum of up to 2^80 products of f64 wraps in 67 words: what is read is the exact sum, in units of 2^-2148. Assumes nothing.
-use Prim.Native.Nat.{ℕ, zero, suc, _+_, _-_, _*_, _/_, _%_, _^_, _≤_, _<_}
-use native.Mathlib.Nat.{le-trans, le-of-lt, le-of-eq, lt-of-le-of-lt, mul-le-mul, mul-le-mul-right, mul-lt-mul-of-pos-right, mul-right-comm, mul-one, one-mul, zero-mul, zero-div, add-mul, le-add-right, le-mul-of-pos-right, div-lt-iff-lt-mul, add-le-add, mul-comm}
+use Prim.Native.Nat.{ℕ, zero, suc, _+_, _*_, _/_, _%_, _^_, _≤_, _<_}
+use native.Mathlib.Nat.{le-trans, le-of-lt, le-of-eq, lt-of-le-of-lt, mul-le-mul, mul-le-mul-right, mul-lt-mul-of-pos-right, mul-right-comm, one-mul, zero-mul, zero-div, add-mul, div-lt-iff-lt-mul, add-le-add}
 use native.Mathlib.Omega.{arith}
 use native.Mathlib.Numerals.{add-one}
-use mathlib.Core.Path.{_≡_, refl, sym, ap, _∙_, subst}
+use mathlib.Core.Path.{_≡_, refl, sym, ap, _∙_, subst, ap₂}
 use mathlib.Core.Bool.{Bool, true, false, cond, _&&_}
 use mathlib.Core.List.{List}
 use lib.Dec.{T, ltb, leb, eqb, ltb→lt, lit<, lit≤}
 use lib.Pow.{pow-pos, pow-mono}
-use lib.IntN.{ℤ, pos, negsuc, negℤ, natAbs, _+ℤ_, _-ℤ_, _*ℤ_}
+use lib.IntN.{ℤ, pos, natAbs, _+ℤ_, _-ℤ_, _*ℤ_, +ℤ-idr, zero-*ℤ, *ℤ-zero}
+use lib.Signed.{leZ}
+use lib.ListN.{length}
 use lib.Ieee.{Float, nan, inf, fin, binary64, toBits, fits, up, down}
 use lib.Ieee.Fits.{down-pos, and-r}
 use lib.Ieee.Scale.{finite}
@@ -18,8 +20,9 @@ use Rattle.exact.specs.Units.{units, exponentField, fractionField, signB
 use Rattle.exact.specs.Words.{half, reading, held}
 use Rattle.exact.proofs.Whole.{natAbs-negℤ, natAbs-*ℤ, natAbs-+ℤ, natAbs--ℤ}
 use Rattle.exact.proofs.Sums.{sumℤ-bound}
-use Rattle.exact.proofs.Units.{units-value}
-use Rattle.exact.proofs.Held.{held-add, reading-held}
+use Rattle.exact.proofs.Units.{units-value, units-not-finite}
+use Rattle.exact.proofs.Words.{Words}
+use Rattle.exact.proofs.Held.{held-add, reading-held, held-reading}
 
 -- ---- one number
 
@@ -132,3 +135,22 @@ exact-sum k x y h = exact h (terms-sum k x y)
 pub one-more : (k : ℕ) (f : ℕ → ℤ) (ws next : List ℕ) → ws ≡ held (sumℤ k f) → next ≡ held (reading ws +ℤ f k) → next ≡ held (sumℤ (k + 1) f)
 one-more k f ws next h e =
     e ∙ ap (λ (l : List ℕ). held (reading l +ℤ f k)) h ∙ held-add (sumℤ k f) (f k) ∙ ap (λ (n : ℕ). held (sumℤ n f)) (sym (add-one k))
+
+-- so the order that is read is the order of the sums
+pub exact-order : {j k : ℕ} {y z : ℤ} → j ≤ 2 ^ 80 → Terms j y → k ≤ 2 ^ 80 → Terms k z → leZ (reading (held y)) (reading (held z)) ≡ leZ y z
+exact-order h s g t = ap₂ leZ (exact h s) (exact g t)
+
+-- and the magnitude the magnitude
+pub exact-magnitude : {k : ℕ} {z : ℤ} → k ≤ 2 ^ 80 → Terms k z → reading (held (pos (natAbs (reading (held z))))) ≡ pos (natAbs z)
+exact-magnitude {z} h t = ap (λ (y : ℤ). reading (held (pos (natAbs y)))) (exact h t) ∙ exact h (terms-abs t)
+
+-- ---- an operand that is not finite leaves the words as they are
+module _ (ws : List ℕ) (w : Words ws) (l : length ws ≡ 67) (x y : Float) where
+  nothing : units x *ℤ units y ≡ pos 0 → held (reading ws +ℤ units x *ℤ units y) ≡ ws
+  nothing e = ap (λ (z : ℤ). held (reading ws +ℤ z)) e ∙ ap held (+ℤ-idr (reading ws)) ∙ held-reading ws w l
+
+  pub left-not-finite : finite x ≡ false → held (reading ws +ℤ units x *ℤ units y) ≡ ws
+  left-not-finite h = nothing (ap (λ (z : ℤ). z *ℤ units y) (units-not-finite x h) ∙ zero-*ℤ (units y))
+
+  pub right-not-finite : finite y ≡ false → held (reading ws +ℤ units x *ℤ units y) ≡ ws
+  right-not-finite h = nothing (ap (λ (z : ℤ). units x *ℤ z) (units-not-finite y h) ∙ *ℤ-zero (units x))

@@ -1,8 +1,8 @@
 -- A product by halves of words, and a shift over words. Assumes nothing.
-use Prim.Native.Nat.{ℕ, zero, suc, _+_, _-_, _*_, _/_, _%_, _^_, _≤_, _<_}
-use native.Mathlib.Nat.{le-refl, le-of-lt, lt-of-le-of-lt, mul-le-mul-left, mul-lt-mul-of-pos-right, lt-of-mul-lt-mul-left, le-trans, le-of-eq, mul-div-mul-right, div-add-mod', mod-lt, div-lt-iff-lt-mul, add-mul, mul-assoc, mul-comm, add-comm}
+use Prim.Native.Nat.{ℕ, _+_, _-_, _*_, _/_, _%_, _^_, _≤_, _<_}
+use native.Mathlib.Nat.{le-of-lt, lt-of-le-of-lt, mul-le-mul-left, mul-lt-mul-of-pos-right, lt-of-mul-lt-mul-left, le-trans, le-of-eq, mul-div-mul-right, div-add-mod', mod-lt, div-lt-iff-lt-mul, add-mul, mul-assoc, mul-comm}
 use native.Mathlib.Omega.{arith}
-use mathlib.Core.Path.{_≡_, refl, sym, ap, ap₂, _∙_, subst}
+use mathlib.Core.Path.{_≡_, sym, ap, _∙_, subst}
 use lib.Arith.{digits-lt, digits-mod}
 use lib.Pow.{pow-pos, pow-add}
 

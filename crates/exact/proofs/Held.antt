@@ -1,19 +1,18 @@
 -- What 67 words hold: `held` and `reading` undo each other, modulo 2^4288 always and entirely below 2^4287. Assumes nothing.
-use Prim.Native.Nat.{ℕ, zero, suc, _+_, _-_, _*_, _^_, _≤_, _<_}
+use Rattle.exact.proofs.Whole.{pos--ℤ-pos, subℕ-lt}
+use Prim.Native.Nat.{ℕ, suc, _-_, _*_, _^_, _≤_, _<_}
 use native.Mathlib.Nat.{mod-eq-of-lt, one-mul, zero-mul}
 use native.Mathlib.Omega.{arith}
 use mathlib.Core.Path.{_≡_, refl, sym, ap, ap₂, _∙_, subst}
-use mathlib.Core.Logic.{⊎-elim}
-use mathlib.Core.Bool.{Bool, true, false, not, cond}
+use mathlib.Core.Bool.{Bool, true, false, cond}
 use mathlib.Core.List.{List}
 use borrow.Author.Tests.{lt-ltb, le-ltb}
 use lib.ListN.{length, replicate}
 use lib.Dec.{ltb}
-use lib.IntN.{ℤ, pos, negsuc, negℤ, natAbs, subℕ, _+ℤ_, _-ℤ_, +ℤ-idr, -ℤ-+ℤ-cancel}
+use lib.IntN.{ℤ, pos, negsuc, negℤ, natAbs, _+ℤ_, _-ℤ_, +ℤ-idr, -ℤ-+ℤ-cancel}
 use Rattle.exact.specs.Words.{number, wordsOf, modulus, half, reading, residue, held}
-use Rattle.exact.proofs.Whole.{pos--ℤ-pos, subℕ-lt, either-lt}
 use Rattle.exact.proofs.Words.{Words, number-lt, length-wordsOf, words-wordsOf, number-wordsOf, wordsOf-number}
-use Rattle.exact.proofs.Residue.{modulus-pos, two-halves, residue-lt, residue-below, same-residue, residue-add, residue-again, residue-negℤ}
+use Rattle.exact.proofs.Residue.{two-halves, residue-lt, residue-below, same-residue, residue-add, residue-again, residue-negℤ}
 
 pub modulus-words : 2 ^ (64 * 67) ≡ modulus
 unfolding modulus
@@ -68,6 +67,11 @@ unfolding held
 held-add z t =
     ap (λ (n : ℕ). wordsOf 67 n)
     (residue-add (reading (held z)) z t (reading-residue (held z) ∙ ap (λ (n : ℕ). residue (pos n)) (number-held z) ∙ residue-again z))
+
+-- modulo 2^4288 the number of the words counts, and not how they are read
+pub held-number : (ws : List ℕ) (t : ℤ) → held (reading ws +ℤ t) ≡ held (pos (number ws) +ℤ t)
+unfolding held
+held-number ws t = ap (λ (n : ℕ). wordsOf 67 n) (residue-add (reading ws) (pos (number ws)) t (reading-residue ws))
 
 -- [0; 67] holds 0
 pub held-zero : replicate 67 0 ≡ held (pos 0)

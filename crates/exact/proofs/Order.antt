@@ -1,22 +1,20 @@
 -- The sign and the order of what 67 words hold, from their words. Assumes nothing.
 use Prim.Native.Nat.{ℕ, zero, suc, _+_, _-_, _*_, _^_, _≤_, _<_}
-use native.Mathlib.Nat.{not-suc-le-zero, le-of-suc-le-suc, mul-le-mul-right, mul-one, le-trans, le-refl, lt-of-lt-of-le, lt-irrefl}
+use native.Mathlib.Nat.{not-suc-le-zero, le-of-suc-le-suc, mul-le-mul-right, le-trans, le-refl}
 use native.Mathlib.Omega.{arith}
 use mathlib.Core.Path.{_≡_, refl, sym, ap, ap₂, _∙_, subst}
 use mathlib.Core.Logic.{⊎-elim}
 use mathlib.Core.Bool.{Bool, true, false, not, Bool·beq}
-use mathlib.Core.List.{List, [], _∷_, tail-eq-of-cons-eq}
+use mathlib.Core.List.{List, [], _∷_}
 use borrow.Author.Tests.{lt-ltb, le-ltb, le-leb, lt-leb}
 use lib.Dec.{T, leb, ltb}
 use lib.Signed.{leZ, nonNeg}
 use lib.ListN.{length, getD, take, drop}
-use lib.Seq.{take-all, length-take-le, drop-cons}
-use lib.Pow.{pow-pos, pow-add}
-use lib.IntN.{ℤ, pos, negsuc, negℤ, natAbs, subℕ, _+ℤ_, _-ℤ_}
+use lib.Seq.{take-all, length-take-le}
+use lib.IntN.{ℤ, pos, negsuc}
 use Rattle.exact.specs.Words.{number, modulus, half, reading}
 use Rattle.exact.proofs.Whole.{pos--ℤ-pos, subℕ-lt, either-lt}
 use Rattle.exact.proofs.Words.{Words, place-suc, number-lt}
-use Rattle.exact.proofs.Residue.{two-halves}
 use Rattle.exact.proofs.Held.{number-below}
 
 -- ---- a word more

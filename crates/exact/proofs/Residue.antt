@@ -1,11 +1,11 @@
 -- Laws of what a whole number leaves modulo 2^4288: only its class counts. Assumes nothing.
-use Prim.Native.Nat.{ℕ, zero, suc, _+_, _-_, _*_, _/_, _%_, _^_, _≤_, _<_}
-use native.Mathlib.Nat.{add-mod-right, mod-eq-of-lt, mod-eq-sub-mod, mod-lt, suc-mul, suc-sub-suc, div-add-mod', mod-mod, zero-mul, add-mul, one-mul, add-comm}
+use Prim.Native.Nat.{ℕ, zero, suc, _+_, _-_, _*_, _/_, _%_, _≤_, _<_}
+use native.Mathlib.Nat.{add-mod-right, mod-eq-of-lt, mod-eq-sub-mod, mod-lt, suc-mul, suc-sub-suc, div-add-mod', zero-mul}
 use native.Mathlib.Omega.{arith}
-use mathlib.Core.Path.{_≡_, refl, sym, ap, ap₂, _∙_, subst}
-use mathlib.Core.Logic.{_⊎_, inl, inr, ⊎-elim}
+use mathlib.Core.Path.{_≡_, refl, sym, ap, _∙_}
+use mathlib.Core.Logic.{⊎-elim}
 use lib.Pow.{pow-pos}
-use lib.IntN.{ℤ, pos, negsuc, negℤ, subℕ, _+ℤ_, _-ℤ_, +ℤ-assoc, +ℤ-comm, +ℤ-idr, +ℤ-idl, +ℤ-invr}
+use lib.IntN.{ℤ, pos, negsuc, negℤ, subℕ, _+ℤ_, +ℤ-assoc, +ℤ-idr, +ℤ-idl, +ℤ-invr}
 use Rattle.exact.specs.Words.{modulus, half, residue}
 use Rattle.exact.proofs.Whole.{subℕ-ge, subℕ-lt, +ℤ-swap, either-lt}
 
@@ -54,11 +54,11 @@ residue-more z (suc k) =
 pub same-residue : (z w : ℤ) (j k : ℕ) → z +ℤ pos (j * modulus) ≡ w +ℤ pos (k * modulus) → residue z ≡ residue w
 same-residue z w j k h = sym (residue-more z j) ∙ ap residue h ∙ residue-more w k
 
--- a whole number and what it leaves differ by so many
-differ : (z : ℤ) → (j : ℕ) × (k : ℕ) × (z +ℤ pos (j * modulus) ≡ pos (residue z) +ℤ pos (k * modulus))
+-- a whole number and what it leaves differ by so many: with `residue-lt`, what it leaves is the number below 2^4288 that is congruent to it
+pub residue-differs : (z : ℤ) → (j : ℕ) × (k : ℕ) × (z +ℤ pos (j * modulus) ≡ pos (residue z) +ℤ pos (k * modulus))
 unfolding residue
-differ (pos n) = (0, n / modulus, ap pos (omega (arith, div-add-mod' n modulus)))
-differ (negsuc n) =
+residue-differs (pos n) = (0, n / modulus, ap pos (omega (arith, div-add-mod' n modulus)))
+residue-differs (negsuc n) =
     let q = n / modulus in
     let e : q * modulus + n % modulus ≡ n = div-add-mod' n modulus in
     let l : n % modulus < modulus = mod-lt n modulus-pos in
@@ -69,7 +69,7 @@ differ (negsuc n) =
 -- a sum leaves what the sum of what is left leaves
 pub residue-plus : (z t : ℤ) → residue (z +ℤ t) ≡ residue (pos (residue z) +ℤ t)
 residue-plus z t =
-    let d = differ z in
+    let d = residue-differs z in
     same-residue (z +ℤ t) (pos (residue z) +ℤ t) (d .0) (d .1) (
     +ℤ-swap z t (pos (d .0 * modulus)) ∙ ap (λ (x : ℤ). x +ℤ t) (d .2) ∙ +ℤ-swap (pos (residue z)) (pos (d .1 * modulus)) t)
 

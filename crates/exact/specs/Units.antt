@@ -1,6 +1,6 @@
 -- A finite f64 as a whole number of the smallest f64 above zero, 2^-1074. Assumes nothing.
-use Prim.Native.Nat.{ℕ, zero, suc, _+_, _*_, _/_, _%_, _^_}
-use mathlib.Core.Bool.{Bool, cond, _&&_}
+use Prim.Native.Nat.{ℕ, _/_, _%_, _^_}
+use mathlib.Core.Bool.{Bool, cond}
 use lib.IntN.{ℤ, pos}
 use lib.Dec.{leb}
 use lib.Ieee.{Float, binary64, toBits}

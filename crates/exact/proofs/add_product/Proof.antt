@@ -1,7 +1,7 @@
 -- `exact::add_product` meets its contract: the words are taken away where the product is negative, added otherwise. Assumes nothing.
-use mathlib.Core.Path.{_≡_, sym, ap, _∙_}
+use mathlib.Core.Path.{sym, ap, _∙_}
 use borrow.Author.Needs.{needs}
-use lib.IntN.{ℤ, _*ℤ_}
+use lib.IntN.{_*ℤ_}
 use Rattle.exact.specs.Units.{units}
 use Rattle.exact.specs.Words.{reading, held}
 use Rattle.exact.proofs.Terms.{plus-negative, plus-positive}

@@ -1,8 +1,7 @@
 -- `exact::at_most` meets its contract. The invariant: from place i on the words are the same. The measure is i. Assumes nothing.
-use Prim.Native.Nat.{ℕ, suc, _+_, _-_, _≤_, _<_}
-use mathlib.Core.Path.{_≡_, refl, sym, ap, ap₂, _∙_, subst}
+use Prim.Native.Nat.{ℕ, suc, _-_, _≤_, _<_}
+use mathlib.Core.Path.{_≡_, sym, ap, ap₂, _∙_, subst}
 use mathlib.Core.Logic.{⊎-elim}
-use mathlib.Core.Bool.{Bool, true, false, not}
 use mathlib.Core.List.{List, _∷_}
 use native.Mathlib.Omega.{arith}
 use native.Mathlib.Nat.{le-refl, le-of-lt, le-of-eq}
@@ -12,7 +11,7 @@ use lib.ListN.{length, getD, drop, drop-of-length-le}
 use lib.Arith.{lt-of-le-ne}
 use lib.Seq.{drop-cons}
 use lib.Dec.{leb, ltb}
-use lib.Signed.{leZ, nonNeg}
+use lib.Signed.{leZ}
 use Rattle.exact.specs.Words.{number, reading}
 use Rattle.exact.proofs.Whole.{either-lt}
 use Rattle.exact.proofs.Words.{Words, are-words, their-length}

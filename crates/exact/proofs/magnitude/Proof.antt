@@ -1,5 +1,5 @@
 -- `exact::magnitude` meets its contract: minus a number below zero, and any other as it is. Assumes nothing.
-use mathlib.Core.Path.{_≡_, sym, ap, _∙_}
+use mathlib.Core.Path.{sym, ap, _∙_}
 use borrow.Author.Needs.{needs}
 use Rattle.exact.specs.Words.{reading, held}
 use Rattle.exact.proofs.Whole.{abs-negative, abs-other}

@@ -1,14 +1,14 @@
 -- `exact::negated` meets its contract. The invariant: what is left holds minus the number of the first i words.
 -- The measure is what is left of the 67 words. Assumes nothing.
-use Prim.Native.Nat.{ℕ, suc, _+_, _-_, _*_, _^_, _≤_, _<_}
-use mathlib.Core.Path.{_≡_, refl, sym, ap, _∙_, subst}
+use Prim.Native.Nat.{ℕ, _+_, _-_, _*_, _^_, _≤_, _<_}
+use mathlib.Core.Path.{_≡_, sym, ap, _∙_}
 use mathlib.Core.List.{List}
 use native.Mathlib.Omega.{arith}
 use native.Mathlib.Numerals.{add-one}
 use borrow.Author.Needs.{needs}
 use lib.ListN.{length, getD, take}
 use lib.Seq.{take-all}
-use lib.IntN.{ℤ, pos, negℤ, _+ℤ_, _-ℤ_, negℤ-+ℤ}
+use lib.IntN.{pos, negℤ, _-ℤ_, negℤ-+ℤ}
 use Rattle.exact.specs.Words.{number, reading, held}
 use Rattle.exact.proofs.Words.{their-length}
 use Rattle.exact.proofs.Held.{held-zero, held-add, held-negℤ}

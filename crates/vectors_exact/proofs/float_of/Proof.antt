@@ -1,10 +1,10 @@
 -- `vectors_exact::float_of` is safe: a pattern up to an infinity's is no NaN's. Assumes nothing.
 use Prim.Native.Nat.{ℕ, _/_, _%_, _^_, _≤_}
 use native.Mathlib.Omega.{arith}
-use mathlib.Core.Path.{_≡_, refl, sym, ap, _∙_, subst}
+use mathlib.Core.Path.{_≡_, refl, sym, subst}
 use mathlib.Core.Bool.{Bool, true, false, not, _&&_}
 use borrow.Author.Needs.{needs}
-use lib.Dec.{T, eqb, eqb→eq, eqb-refl}
+use lib.Dec.{T, eqb, eqb→eq}
 use lib.Ieee.{binary64, nanBits}
 use Rattle.vectors_exact.proofs.float_of.Statement.{statement}
 use Rattle.vectors_exact.proofs.float_of.Tie as tie

@@ -1,8 +1,7 @@
 -- `vectors_exact::show_words` is safe and ends. Assumes nothing.
-use Prim.Native.Nat.{ℕ, _+_, _-_, _≤_}
+use Prim.Native.Nat.{_≤_}
 use native.Mathlib.Omega.{arith}
 use borrow.Author.Needs.{needs}
-use lib.ListN.{length}
 use Rattle.vectors_exact.proofs.show_words.Statement.{statement}
 use Rattle.vectors_exact.proofs.show_words.Tie as tie
 
