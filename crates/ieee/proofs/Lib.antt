@@ -1,2 +1,16 @@
 pub mod Zero
 pub mod Fields
+pub mod WholeRoot
+pub mod RootDigits
+pub mod Normal
+pub mod RootRound
+pub mod RootBits
+pub mod RootCall
+pub mod RootCases
+pub mod RoundingGrid
+pub mod RoundingWhole
+pub mod RoundingSigned
+pub mod RoundingNearest
+pub mod RoundingSum
+pub mod RoundingProduct
+pub mod RoundingUnique

@@ -42,7 +42,7 @@ zero-digits : (m : ℕ) (e : ℤ) → m * up e * 1 ≡ 0 → m ≡ 0
 zero-digits zero e h = refl
 zero-digits (suc m) e h = let p : 0 < suc m * up e = mul-pos (zero-lt-suc m) (up-pos e) in let q : suc m * up e ≡ 0 = sym (mul-one (suc m * up e)) ∙ h in absurd (omega arith)
 
-magnitude-zero : (s : Bool) (m : ℕ) (e : ℤ) → T (eq (fin s m e) (ofBits binary64 0)) → m ≡ 0
+pub magnitude-zero : (s : Bool) (m : ℕ) (e : ℤ) → T (eq (fin s m e) (ofBits binary64 0)) → m ≡ 0
 unfolding eq ofBits
 magnitude-zero s m e h = zero-digits m e (eqb→eq (m * up e * 1) (0 * 1 * down e) (and-l (eqb (m * up e * 1) (0 * 1 * down e)) (Bool·beq s false || eqb (m * up e * 1) 0) h) ∙ zero-mul (down e))
 

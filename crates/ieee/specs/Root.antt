@@ -1,10 +1,11 @@
 -- The square root of an f64: "the f64 nearest the exact root, proved over whole numbers; infinity gives infinity". Assumes nothing.
-use Prim.Native.Nat.{ℕ, zero, suc, _+_, _*_, _/_, _^_}
+use Prim.Native.Nat.{ℕ, zero, suc, _+_, _*_, _/_, _^_, _≤_, _<_}
+use mathlib.Core.Path.{_≡_}
 use mathlib.Core.Bool.{Bool, true, false, cond}
 use lib.IntN.{ℤ, pos}
 use lib.Dec.{leb, eqb}
 use lib.Ieee.{Float, nan, inf, fin, binary64, round}
-use Rattle.ieee.specs.Values.{multiple}
+use Rattle.ieee.specs.Values.{multiple, fieldsMultiple}
 
 -- the next binary digit of a root: r is the root of n / 4, and the root of n is 2r or 2r + 1
 abbrev pub nextDigit : ℕ → ℕ → ℕ
@@ -30,3 +31,11 @@ sqrtOf (inf true) = nan
 sqrtOf (fin s zero e) = fin s zero e
 sqrtOf (fin false (suc m) e) = rootOf (multiple (fin false (suc m) e))
 sqrtOf (fin true (suc m) e) = nan
+
+-- a significand and an exponent of v * 2^1074, for the v that an exponent field and a fraction stand for, with the leading one of the significand at bit 52
+pub record Normalised (field fraction significand exponent : ℕ) : Type 0 where
+  pub lower : 2 ^ 52 ≤ significand
+  pub upper : significand < 2 ^ 53
+  pub least : 1022 ≤ exponent
+  pub greatest : exponent ≤ 3119
+  pub value : significand * 2 ^ exponent ≡ fieldsMultiple field fraction * 2 ^ 1074

@@ -1,7 +1,12 @@
 // Floating-point functions that the Rust takes from its standard library, worked out by the program.
 ghost use mathlib.Core.Path.{_≡_};
+ghost use Prim.Native.Nat.{_+_, _*_, _^_, _<_, _≤_};
+ghost use lib.Dec.{T};
 ghost use lib.Ieee.Scale.{finite};
+ghost use lib.Ieee.Positive.{positive};
 ghost use Rattle.ieee.specs.Floats.{absOf, maxOf, minOf};
+ghost use Rattle.ieee.specs.Values.{multiple};
+ghost use Rattle.ieee.specs.Root.{wholeRoot, rootOf, sqrtOf, Normalised};
 
 // Whether x is neither a NaN nor an infinity: only those two differ from themselves after a subtraction.
 pub fn is_finite(x: f64) -> bool
@@ -35,4 +40,83 @@ pub fn min(x: f64, y: f64) -> f64
     ensures { λ r. ⌜ r ≡ minOf x y ⌝ }
 {
     if x < y { x } else { y }
+}
+
+// A significand with its leading one at bit 52, and a power of two.
+struct Scaled {
+    significand: u64,
+    exponent: u64,
+}
+
+// The number that an exponent field and a fraction stand for, times 2^1074, with its significand brought up to 53 bits:
+// a subnormal one by the count of its leading zeros.
+fn normalised(field: u64, fraction: u64) -> Scaled
+    requires { ⌜ (field < 2047) × (fraction < 2 ^ 52) × (0 < field + fraction) ⌝ }
+    ensures { λ r. ⌜ Normalised field fraction (r .significand) (r .exponent) ⌝ }
+{
+    if field == 0 {
+        let shift = u64::leading_zeros(fraction) as u64 - 11;
+        return Scaled {
+            significand: fraction << shift,
+            exponent: 1074 - shift,
+        };
+    }
+    Scaled {
+        significand: 0x10_0000_0000_0000 + fraction,
+        exponent: 1073 + field,
+    }
+}
+
+// The whole root of n * 2^54, 54 binary digits, each from the next two digits of the operand, the highest first.
+// The rest, what the square of the root leaves of the digits taken so far, is at most twice the root.
+fn root_digits(n: u64) -> u64
+    requires { ⌜ n < 2 ^ 54 ⌝ }
+    ensures { λ r. ⌜ r ≡ wholeRoot 54 (n * 2 ^ 54) ⌝ }
+{
+    let mut digits = n * 0x400;
+    let mut rest: u64 = 0;
+    let mut root: u64 = 0;
+    let mut i: u64 = 0;
+    while i < 54 {
+        rest = rest * 4 + digits / 0x4000_0000_0000_0000;
+        digits = digits % 0x4000_0000_0000_0000 * 4;
+        if root * 4 + 1 <= rest {
+            rest = rest - (root * 4 + 1);
+            root = root * 2 + 1;
+        } else {
+            root = root * 2;
+        }
+        i += 1;
+    }
+    root
+}
+
+// The f64 nearest the root of x. The root of an even power of two times n is that of n times half the power; its 54th digit
+// rounds the first 53, since no root lies half-way between two f64.
+fn nearest_root(x: f64) -> f64
+    requires { ⌜ T (positive x) ⌝ }
+    ensures { λ r. ⌜ r ≡ rootOf (multiple x) ⌝ }
+{
+    let bits = f64::to_bits(x);
+    let scaled = normalised(bits / 0x10_0000_0000_0000, bits % 0x10_0000_0000_0000);
+    let half = scaled.exponent / 2;
+    let root = root_digits(scaled.significand * (1 + scaled.exponent % 2));
+    f64::from_bits((half - 26) * 0x10_0000_0000_0000 + (root + 1) / 2)
+}
+
+// The f64 nearest the square root of x. A zero is its own root with its sign, infinity is infinity's,
+// and below zero and at a NaN there is none.
+pub fn sqrt(x: f64) -> f64
+    ensures { λ r. ⌜ r ≡ sqrtOf x ⌝ }
+{
+    if x == 0.0 {
+        return x;
+    }
+    if x > 0.0 {
+        if is_finite(x) {
+            return nearest_root(x);
+        }
+        return x;
+    }
+    0.0 / 0.0
 }

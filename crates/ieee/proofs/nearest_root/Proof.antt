@@ -1,0 +1,78 @@
+-- `ieee::nearest_root` meets its contract: the fields of the pattern, the digits of the root, and the pattern put together. Assumes nothing.
+use Prim.Native.Nat.{ℕ, _<_, _≤_, _+_, _-_, _*_, _/_, _%_, _^_}
+use mathlib.Core.Path.{_≡_, ap, sym, _∙_, subst}
+use native.Mathlib.Omega.{arith}
+use borrow.Author.Needs.{needs}
+use lib.Ieee.{binary64, fits, toBits, ofBits}
+use Rattle.ieee.specs.Values.{multiple}
+use Rattle.ieee.proofs.Zero.{holds}
+use Rattle.ieee.proofs.RootCall.{AboveZero, above-zero, positive-number, doubled, root-bound, no-nan, root-of-normalised}
+use Rattle.ieee.proofs.nearest_root.Statement.{statement}
+use Rattle.ieee.proofs.nearest_root.Tie as tie
+
+fields : (c : tie.Start) → AboveZero (c .args .x) (toBits binary64 (c .args .x))
+fields c = above-zero (c .args .x) (holds (fits binary64 (c .args .x)) (c .good .0 .1)) (c .pre)
+
+float-to-bits-bits : tie.Need-float-to-bits-bits
+float-to-bits-bits c = positive-number (c .args .x) (c .pre)
+
+normalised-requires : tie.Need-normalised-requires
+normalised-requires c κs = (fields c .field, omega arith, fields c .some)
+
+add-root-digits : tie.Need-add-root-digits
+add-root-digits c = search needs
+
+bounded : (c : tie.After-struct-known3) → c .before .before .before .normalised .result .significand * (1 + c .before .before .before .normalised .result .exponent % 2) ≤ 2 ^ 54 - 2
+bounded c = let d = c .before .before .before .normalised in doubled (d .result .significand) (d .result .exponent) (d .ensures .upper)
+
+mul-root-digits : tie.Need-mul-root-digits
+mul-root-digits c = omega (arith, bounded c)
+
+root-digits-requires : tie.Need-root-digits-requires
+root-digits-requires c κs = omega (arith, bounded c)
+
+sub-result : tie.Need-sub-result
+sub-result c = search needs
+
+mul-result : tie.Need-mul-result
+mul-result c = search needs
+
+root-small : (c : tie.After-root-digits) → c .root-digits .result < 2 ^ 54
+root-small c =
+    let d = c .before .before .before .before .normalised in
+    subst (λ (n : ℕ). n < 2 ^ 54) (sym (c .root-digits .ensures)) (root-bound (d .result .significand * (1 + d .result .exponent % 2)) (bounded (c .before)))
+
+add-result : tie.Need-add-result
+add-result c = omega (arith, root-small c)
+
+add-result-2 : tie.Need-add-result-2
+add-result-2 c = search needs
+
+float-from-bits-result : tie.Need-float-from-bits-result
+float-from-bits-result c =
+    let d = c .before .before .before .before .normalised in
+    no-nan (d .result .exponent / 2 - 26) ((c .root-digits .result + 1) / 2) (omega (arith, d .ensures .greatest)) (omega (arith, root-small c))
+
+returns : tie.Need-returns
+returns c =
+    let x = c .before .before .before .before .before .args .x in
+    let b = toBits binary64 x in
+    let d = c .before .before .before .before .normalised in
+    ap (λ (q : ℕ). ofBits binary64 ((d .result .exponent / 2 - 26) * 2 ^ 52 + (q + 1) / 2)) (c .root-digits .ensures)
+    ∙ root-of-normalised (multiple x) (b / 2 ^ 52) (b % 2 ^ 52) (d .result .significand) (d .result .exponent) (d .ensures) (fields (c .before .before .before .before .before) .value)
+
+pub nearest-root-spec : {M : Type 1} → statement M
+nearest-root-spec =
+    tie.close
+    (tie.spec
+    float-to-bits-bits
+    normalised-requires
+    add-root-digits
+    mul-root-digits
+    root-digits-requires
+    sub-result
+    mul-result
+    add-result
+    add-result-2
+    float-from-bits-result
+    returns)

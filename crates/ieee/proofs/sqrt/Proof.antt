@@ -1,0 +1,41 @@
+-- `ieee::sqrt` meets its contract, by the cases of its tests. Assumes nothing.
+use mathlib.Core.Path.{sym, _∙_}
+use mathlib.Core.Bool.{not}
+use borrow.Author.Needs.{needs}
+use lib.Ieee.{lt, eq, ofBits, binary64}
+use lib.Ieee.Scale.{finite}
+use Rattle.ieee.proofs.Zero.{holds, fails}
+use Rattle.ieee.proofs.RootCases.{root-of-zero, positive-of, root-of-positive, root-of-infinity, no-root, nan-is}
+use Rattle.ieee.proofs.sqrt.Statement.{statement}
+use Rattle.ieee.proofs.sqrt.Tie as tie
+
+returns : tie.Need-returns
+returns c = let x = c .before .args .x in root-of-zero x (holds (eq x (ofBits binary64 0)) (c .if1 .taken))
+
+is-finite-requires : tie.Need-is-finite-requires
+is-finite-requires c κs = search needs
+
+nearest-root-requires : tie.Need-nearest-root-requires
+nearest-root-requires c κs =
+    let x = c .before .before .before .before .args .x in
+    positive-of x (holds (lt (ofBits binary64 0) x) (c .before .before .if2 .taken)) (holds (finite x) (sym (c .before .is-finite .ensures) ∙ c .if3 .taken))
+
+returns-2 : tie.Need-returns-2
+returns-2 c =
+    let x = c .before .before .before .before .before .args .x in
+    let d = c .before in
+    c .nearest-root .ensures
+    ∙ root-of-positive x (positive-of x (holds (lt (ofBits binary64 0) x) (d .before .before .if2 .taken)) (holds (finite x) (sym (d .before .is-finite .ensures) ∙ d .if3 .taken)))
+
+returns-3 : tie.Need-returns-3
+returns-3 c =
+    let x = c .before .before .before .before .args .x in
+    root-of-infinity x (holds (lt (ofBits binary64 0) x) (c .before .before .if2 .taken)) (fails (finite x) (sym (c .before .is-finite .ensures) ∙ c .if3 .left))
+
+returns-4 : tie.Need-returns-4
+returns-4 c =
+    let x = c .before .before .args .x in
+    nan-is ∙ no-root x (fails (eq x (ofBits binary64 0)) (c .before .if1 .left)) (fails (lt (ofBits binary64 0) x) (c .if2 .left))
+
+pub sqrt-spec : {M : Type 1} → statement M
+sqrt-spec = tie.close (tie.spec returns is-finite-requires nearest-root-requires returns-2 returns-3 returns-4)
