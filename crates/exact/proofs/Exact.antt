@@ -1,5 +1,5 @@
 -- No sum of up to 2^80 products of f64 wraps in 67 words: what is read is the exact sum, in units of 2^-2148. Assumes nothing.
-use Prim.Native.Nat.{ℕ, zero, suc, _+_, _*_, _/_, _%_, _^_, _≤_, _<_}
+use Prim.Native.Nat.{ℕ, zero, suc, _+_, _*_, _/_, _%_, _^_, _-_, _≤_, _<_}
 use native.Mathlib.Nat.{le-trans, le-of-lt, le-of-eq, lt-of-le-of-lt, mul-le-mul, mul-le-mul-right, mul-lt-mul-of-pos-right, mul-right-comm, one-mul, zero-mul, zero-div, add-mul, div-lt-iff-lt-mul, add-le-add}
 use native.Mathlib.Omega.{arith}
 use native.Mathlib.Numerals.{add-one}
@@ -8,16 +8,16 @@ use mathlib.Core.Bool.{Bool, true, false, cond, _&&_}
 use mathlib.Core.List.{List}
 use lib.Dec.{T, ltb, leb, eqb, ltb→lt, lit<, lit≤}
 use lib.Pow.{pow-pos, pow-mono}
-use lib.IntN.{ℤ, pos, natAbs, _+ℤ_, _-ℤ_, _*ℤ_, +ℤ-idr, zero-*ℤ, *ℤ-zero}
+use lib.IntN.{ℤ, pos, negℤ, natAbs, _+ℤ_, _-ℤ_, _*ℤ_, +ℤ-idr, zero-*ℤ, *ℤ-zero}
 use lib.Signed.{leZ}
 use lib.ListN.{length}
-use lib.Ieee.{Float, nan, inf, fin, binary64, toBits, fits, up, down}
+use lib.Ieee.{Float, nan, inf, fin, binary64, ofBits, toBits, fits, up, down}
 use lib.Ieee.Fits.{down-pos, and-r}
 use lib.Ieee.Scale.{finite}
 use Rattle.ieee.specs.Values.{signed, fieldsMultiple, signOf, multiple}
 use Rattle.exact.specs.Whole.{sumℤ}
 use Rattle.exact.specs.Units.{units, exponentField, fractionField, signBit}
-use Rattle.exact.specs.Words.{half, reading, held}
+use Rattle.exact.specs.Words.{half, modulus, residue, reading, held}
 use Rattle.exact.proofs.Whole.{natAbs-negℤ, natAbs-*ℤ, natAbs-+ℤ, natAbs--ℤ}
 use Rattle.exact.proofs.Sums.{sumℤ-bound}
 use Rattle.exact.proofs.Units.{units-value, units-not-finite}
@@ -154,3 +154,8 @@ module _ (ws : List ℕ) (w : Words ws) (l : length ws ≡ 67) (x y : Float) whe
 
   pub right-not-finite : finite y ≡ false → held (reading ws +ℤ units x *ℤ units y) ≡ ws
   right-not-finite h = nothing (ap (λ (z : ℤ). units x *ℤ z) (units-not-finite y h) ∙ *ℤ-zero (units x))
+
+-- the definitions compute: the largest product twice less one unit, and back
+computes : reading (held (units (ofBits binary64 0x7fef_ffff_ffff_ffff) *ℤ units (ofBits binary64 0xffef_ffff_ffff_ffff) *ℤ pos 2 -ℤ pos 1)) ≡ negℤ (pos ((2 ^ 53 - 1) ^ 2 * 2 ^ 4091 + 1))
+unfolding units ofBits toBits held residue modulus half reading
+computes = refl
