@@ -197,11 +197,11 @@ pub fn add_product(sum: [u64; 67], x: f64, y: f64) -> [u64; 67]
 pub fn sub_product(sum: [u64; 67], x: f64, y: f64) -> [u64; 67]
     ensures { λ r. ⌜ r ≡ held (reading sum -ℤ units x *ℤ units y) ⌝ }
 {
-    let term = term_of(x, y);
-    if term.negative {
-        return add_words(sum, term);
+    let taken = term_of(x, y);
+    if taken.negative {
+        return add_words(sum, taken);
     }
-    sub_words(sum, term)
+    sub_words(sum, taken)
 }
 
 // Whether the sum is below zero: its highest bit is set.
