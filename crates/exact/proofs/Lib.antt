@@ -9,4 +9,3 @@ pub mod Units
 pub mod Terms
 pub mod Order
 pub mod Exact
-pub mod Trend
