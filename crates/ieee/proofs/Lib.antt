@@ -7,3 +7,5 @@ pub mod RootRound
 pub mod RootBits
 pub mod RootCall
 pub mod RootCases
+pub mod NearestRoot
+pub mod SoundingH
