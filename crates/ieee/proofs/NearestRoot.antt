@@ -17,7 +17,8 @@ use lib.Ieee.Scale.{finite}
 use Rattle.ieee.specs.Values.{multiple, signOf, fieldsMultiple}
 use Rattle.ieee.specs.Root.{wholeRoot, rootOf, sqrtOf, Normalised}
 use Rattle.ieee.specs.NearestRoot.{NearestRoot, OtherRoots}
-use Rattle.ieee.proofs.Fields.{value-multiple, value-sign, value-finite, multiple-of-bits}
+use Rattle.ieee.proofs.Fields.{value-multiple, value-sign, value-finite}
+use Rattle.ieee.proofs.Own.{digits-of}
 use Rattle.ieee.proofs.WholeRoot.{square-odd, whole-root-le, whole-root-lt}
 use Rattle.ieee.proofs.RootRound.{parity}
 use Rattle.ieee.proofs.RootBits.{pattern-value, not-all-ones, not-few, enough, next-half, scaled, root-pattern}
@@ -223,17 +224,6 @@ found x f p =
     let z = above-zero x f p in
     let n = normal-form (b / 2 ^ 52) (b % 2 ^ 52) (z .field) (omega arith) (z .some) in
     found-normal (multiple x) (b / 2 ^ 52) (b % 2 ^ 52) (n .0) (n .1) (n .2) (z .value)
-
--- ---- a finite f64 has at most 53 digits
-few-digits : (e t : ℕ) → t < 2 ^ 52 → (c : ℕ) × (g : ℕ) × (c < 2 ^ 53) × (fieldsMultiple e t ≡ c * 2 ^ g)
-few-digits zero t h = (t, 0, omega arith, omega arith)
-few-digits (suc e) t h = (2 ^ 52 + t, e, omega arith, refl)
-
-digits-of : (y : Float) → T (fits binary64 y) → T (finite y) → (c : ℕ) × (g : ℕ) × (c < 2 ^ 53) × (multiple y ≡ c * 2 ^ g)
-digits-of y f h =
-    let b = toBits binary64 y in
-    let d = few-digits (b % 2 ^ 63 / 2 ^ 52) (b % 2 ^ 52) (omega arith) in
-    (d .0, d .1, d .2, multiple-of-bits y f h ∙ d .3)
 
 -- ---- the theorem: for every f64 above zero, subnormal ones too
 root-nearest : (x : Float) → Found (multiple x) → NearestRoot x (rootOf (multiple x))

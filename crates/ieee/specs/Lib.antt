@@ -2,3 +2,4 @@ pub mod Floats
 pub mod Values
 pub mod Root
 pub mod NearestRoot
+pub mod Whole
