@@ -14,3 +14,10 @@ pub mod WholeBits
 pub mod FloorCases
 pub mod FloorNegative
 pub mod FloorLaw
+pub mod RoundingGrid
+pub mod RoundingWhole
+pub mod RoundingSigned
+pub mod RoundingNearest
+pub mod RoundingSum
+pub mod RoundingProduct
+pub mod RoundingUnique

@@ -3,3 +3,4 @@ pub mod Values
 pub mod Root
 pub mod NearestRoot
 pub mod Whole
+pub mod Ieee754

@@ -1,0 +1,5 @@
+pub mod Model
+pub mod Zero
+pub mod Squares
+pub mod Distance
+pub mod Itself

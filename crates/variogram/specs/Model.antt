@@ -1,0 +1,46 @@
+-- The variogram at a distance: paper 01, "Variogram", each operation rounded once and in the order in which it stands there. Assumes nothing.
+use mathlib.Core.Bool.{cond}
+use lib.Ieee.{Float, nan, binary64, add, sub, mul, div, lt, le, ofBits}
+use Rattle.variogram.specs.declared.Variogram.{Variogram}
+use Rattle.variogram.specs.declared.VariogramModel.{VariogramModel}
+use Rattle.variogram.specs.declared.VariogramModel.the-variants.{Spherical, Exponential, Gaussian, Linear}
+
+-- a variogram of a model, "nugget, sill, range": the one way in which one is made
+abbrev pub variogram : VariogramModel → Float → Float → Float → Variogram
+variogram m nugget sill range = record { nugget = nugget; sill = sill; range = range; model = m }
+
+-- 2^-52
+abbrev pub epsilon : Float
+epsilon = ofBits binary64 0x3cb0_0000_0000_0000
+
+-- "`powi(3)` as a·(a·a)"
+abbrev pub cube : Float → Float
+cube a = mul binary64 a (mul binary64 a a)
+
+-- "1.5·q − 0.5·q³"
+abbrev pub spheric : Float → Float
+spheric q = sub binary64 (mul binary64 (ofBits binary64 0x3ff8_0000_0000_0000) q) (mul binary64 (ofBits binary64 0x3fe0_0000_0000_0000) (cube q))
+
+-- "Spherical: sill if h ≥ range; else with q = h/range, nugget + (sill − nugget)·(1.5·q − 0.5·q³)"
+unfoldable pub spherical : Float → Float → Float → Float → Float
+spherical nugget sill range h =
+    cond
+    (le range h)
+    sill
+    (add binary64 nugget (mul binary64 (sub binary64 sill nugget) (spheric (div binary64 h range))))
+
+-- "Linear: nugget + (sill/range)·(h if h < range, else range)"
+unfoldable pub linear : Float → Float → Float → Float → Float
+linear nugget sill range h = add binary64 nugget (mul binary64 (div binary64 sill range) (cond (lt h range) h range))
+
+-- Past the zero test, by the model. "Outside: the Exponential and Gaussian models": a NaN stands for them.
+abbrev pub ofModel : VariogramModel → Float → Float → Float → Float → Float
+ofModel Spherical = spherical
+ofModel Exponential = λ nugget sill range h. nan
+ofModel Gaussian = λ nugget sill range h. nan
+ofModel Linear = linear
+
+-- "0 if h < 2^-52", of every model
+unfoldable pub semivariance : Variogram → Float → Float
+unfolding spherical linear
+semivariance v h = cond (lt h epsilon) (ofBits binary64 0) (ofModel (v .model) (v .nugget) (v .sill) (v .range) h)
