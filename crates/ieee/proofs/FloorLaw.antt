@@ -17,9 +17,10 @@ use Rattle.ieee.specs.Floats.{floorOf}
 use Rattle.ieee.specs.Values.{multiple, signOf}
 use Rattle.ieee.specs.Whole.{GreatestWhole}
 use Rattle.ieee.proofs.Fields.{value-multiple, value-sign, value-finite}
-use Rattle.ieee.proofs.Own.{digits-of, own-multiple, round-own, same-fraction}
+use Rattle.ieee.proofs.Own.{own-multiple, round-own, same-fraction}
 use Rattle.ieee.proofs.FloorCases.{ones-of, floor-whole}
 use Rattle.ieee.proofs.FloorNegative.{ceiling-whole, ceiling-more}
+use Rattle.ieee.proofs.RoundingNearest.{point}
 
 -- ---- M lies from M / U * U up to one U more
 from-part : (M U : ℕ) → 0 < U → M < M / U * U + U
@@ -88,7 +89,7 @@ module _ (m : ℕ) (e : ℤ) (f : T (fits binary64 (fin true m e))) where
   few-ones : 0 < m * up e % down e → m * up e / down e < 2 ^ 53
   few-ones p =
       let x = fin true m e in
-      let d = digits-of x f tt in
+      let d = point x f tt in
       let g = d .1 in
       let low : g < 1074 = lt-of-not-le (λ (l : 1074 ≤ g).
       let z = no-fraction (d .0 * 2 ^ (g - 1074)) (d .3 ∙ ap (λ (k : ℕ). d .0 * 2 ^ k) (let y : g ≡ g - 1074 + 1074 = omega arith in y) ∙ ap (λ (n : ℕ). d .0 * n) (pow-add 2 (g - 1074) 1074) ∙ sym (mul-assoc (d .0) (2 ^ (g - 1074)) (2 ^ 1074))) in

@@ -18,13 +18,13 @@ use Rattle.ieee.specs.Values.{multiple, signOf, fieldsMultiple}
 use Rattle.ieee.specs.Root.{wholeRoot, rootOf, sqrtOf, Normalised}
 use Rattle.ieee.specs.NearestRoot.{NearestRoot, OtherRoots}
 use Rattle.ieee.proofs.Fields.{value-multiple, value-sign, value-finite}
-use Rattle.ieee.proofs.Own.{digits-of}
 use Rattle.ieee.proofs.WholeRoot.{square-odd, whole-root-le, whole-root-lt}
 use Rattle.ieee.proofs.RootRound.{parity}
 use Rattle.ieee.proofs.RootBits.{pattern-value, not-all-ones, not-few, enough, next-half, scaled, root-pattern}
 use Rattle.ieee.proofs.Normal.{top-of, subnormal, normal}
 use Rattle.ieee.proofs.RootCall.{above-zero, not-halved, doubled, normalised-value}
 use Rattle.ieee.proofs.RootCases.{root-of-positive}
+use Rattle.ieee.proofs.RoundingNearest.{point}
 
 -- ---- the gap above a number of 53 digits: a number of at most 53 digits that is above r * 2^k is at least (r + 1) * 2^k
 module _ (c g r k : ℕ) (small : c < 2 ^ 53) (lo : 2 ^ 52 ≤ r) (h : r * 2 ^ k < c * 2 ^ g) where
@@ -233,8 +233,8 @@ root-nearest x d =
     record {
       number = d .number;
       sign = d .sign;
-      below = λ y f h s l. let c = digits-of y f h in subst (λ (Y : ℕ). (Y + R) * (Y + R) < 4 * W) (sym (c .3)) (lies-above W R (d .rounded) (c .0) (c .1) (c .2) (subst (λ (Y : ℕ). Y < R) (c .3) l));
-      above = λ y f h s l. let c = digits-of y f h in subst (λ (Y : ℕ). 4 * W < (Y + R) * (Y + R)) (sym (c .3)) (lies-below W R (d .rounded) (c .0) (c .1) (c .2) (subst (λ (Y : ℕ). R < Y) (c .3) l));
+      below = λ y f h s l. let c = point y f h in subst (λ (Y : ℕ). (Y + R) * (Y + R) < 4 * W) (sym (c .3)) (lies-above W R (d .rounded) (c .0) (c .1) (c .2) (subst (λ (Y : ℕ). Y < R) (c .3) l));
+      above = λ y f h s l. let c = point y f h in subst (λ (Y : ℕ). 4 * W < (Y + R) * (Y + R)) (sym (c .3)) (lies-below W R (d .rounded) (c .0) (c .1) (c .2) (subst (λ (Y : ℕ). R < Y) (c .3) l));
     }
 
 pub sqrt-nearest : (x : Float) → T (fits binary64 x) → T (positive x) → NearestRoot x (sqrtOf x)

@@ -1,8 +1,8 @@
--- A finite f64 by its own value: at most 53 digits, and what rounding gives at that value is the f64 itself. Assumes nothing.
+-- A finite f64 by its own value: what rounding gives at that value is the f64 itself. Assumes nothing.
 use Prim.Native.Nat.{ℕ, zero, suc, _+_, _*_, _/_, _%_, _^_, _<_}
 use native.Mathlib.Nat.{lt-of-lt-of-le, mul-right-comm, eq-of-mul-eq-mul-right}
 use native.Mathlib.Omega.{arith}
-use mathlib.Core.Path.{_≡_, refl, ap, sym, _∙_, subst}
+use mathlib.Core.Path.{_≡_, ap, sym, _∙_, subst}
 use mathlib.Core.Bool.{Bool}
 use lib.Dec.{T, leb}
 use lib.Pow.{pow-pos, pow-mono, shl-lt}
@@ -13,19 +13,9 @@ use lib.Ieee.Scale.{finite, round-same}
 use Rattle.ieee.specs.Values.{multiple, signOf, fieldsMultiple}
 use Rattle.ieee.proofs.Fields.{value-multiple, value-sign, value-finite, bits-value, multiple-of-bits, sign-of-bits, same-value}
 use Rattle.ieee.proofs.RootCall.{field-below}
+use Rattle.ieee.proofs.RoundingNearest.{point}
 
--- ---- a finite f64 has at most 53 digits
-few-digits : (e t : ℕ) → t < 2 ^ 52 → (c : ℕ) × (g : ℕ) × (c < 2 ^ 53) × (fieldsMultiple e t ≡ c * 2 ^ g)
-few-digits zero t h = (t, 0, omega arith, omega arith)
-few-digits (suc e) t h = (2 ^ 52 + t, e, omega arith, refl)
-
-pub digits-of : (y : Float) → T (fits binary64 y) → T (finite y) → (c : ℕ) × (g : ℕ) × (c < 2 ^ 53) × (multiple y ≡ c * 2 ^ g)
-digits-of y f h =
-    let b = toBits binary64 y in
-    let d = few-digits (b % 2 ^ 63 / 2 ^ 52) (b % 2 ^ 52) (omega arith) in
-    (d .0, d .1, d .2, multiple-of-bits y f h ∙ d .3)
-
--- ---- and is below 2^1024
+-- ---- a finite f64 is below 2^1024
 fields-under : (e t : ℕ) → e < 2047 → t < 2 ^ 52 → fieldsMultiple e t < 2 ^ 2098
 fields-under zero t a b = lt-of-lt-of-le b (pow-mono {i = 52} {j = 2098} (omega arith))
 fields-under (suc e) t a b = lt-of-lt-of-le (shl-lt 53 e (omega arith)) (pow-mono {i = 53 + e} {j = 2098} (omega arith))
@@ -55,7 +45,7 @@ same-fraction (fin r m e) s t a c M U h k = cross (m * up e) (down e) a c M U (d
 -- ---- the rounding of its value is itself
 round-multiple : (x : Float) → T (fits binary64 x) → T (finite x) → round binary64 (signOf x) (multiple x) (2 ^ 1074) ≡ x
 round-multiple x f h =
-    let d = digits-of x f h in
+    let d = point x f h in
     let s = signOf x in
     let M = multiple x in
     let r = round binary64 s M (2 ^ 1074) in
