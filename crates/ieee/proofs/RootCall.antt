@@ -87,7 +87,7 @@ root-bound n h =
     let x : n * 2 ^ 54 < 2 ^ 54 * 2 ^ 54 = omega arith in
     root-lt q (2 ^ 54) (lt-of-le-of-lt (whole-root-le 54 (n * 2 ^ 54)) x)
 
-pub no-nan : (e r : ℕ) → e ≤ 1533 → r ≤ 2 ^ 53 → T (not (nanBits binary64 (e * 2 ^ 52 + r)))
+pub no-nan : (e r : ℕ) → e ≤ 2000 → r ≤ 2 ^ 53 → T (not (nanBits binary64 (e * 2 ^ 52 + r)))
 unfolding nanBits
 no-nan e r h k =
     let b = e * 2 ^ 52 + r in

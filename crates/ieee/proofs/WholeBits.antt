@@ -2,7 +2,7 @@
 use Prim.Native.Nat.{ℕ, zero, suc, _+_, _-_, _*_, _/_, _%_, _^_, _<_, _≤_}
 use native.Mathlib.Nat.{le-refl, lt-of-lt-of-le, mul-assoc, mul-div-cancel, mul-div-mul-right, div-eq-of-lt, div-add-mod', mod-le, mod-eq-of-lt, one-mul}
 use native.Mathlib.Omega.{arith}
-use mathlib.Core.Path.{_≡_, ap, sym, _∙_}
+use mathlib.Core.Path.{_≡_, ap, sym, _∙_, subst}
 use mathlib.Core.Bool.{Bool, true, false, not}
 use lib.Dec.{T, ltb, ltb→lt, nltb→le}
 use lib.Pow.{pow-add, pow-pos, pow-mono, pow-lt, shl-lt, mod-mod-pow}
@@ -35,6 +35,9 @@ own-whole bits h = record { within = le-refl bits; value = large (bits / 2 ^ 52)
 -- ---- between: k digits of the significand are a fraction
 pub power-small : (k : ℕ) → k ≤ 52 → 1 * 2 ^ k % 2 ^ 64 ≡ 2 ^ k
 power-small k h = ap (λ (n : ℕ). n % 2 ^ 64) (one-mul (2 ^ k)) ∙ mod-eq-of-lt (pow-lt {i = k} {j = 64} (omega arith))
+
+pub power-positive : (k : ℕ) → k < 64 → 0 < 1 * 2 ^ k % 2 ^ 64
+power-positive k h = subst (λ (n : ℕ). 0 < n) (sym (ap (λ (n : ℕ). n % 2 ^ 64) (one-mul (2 ^ k)) ∙ mod-eq-of-lt (pow-lt {i = k} {j = 64} h))) (pow-pos k)
 
 low-digits : (n k : ℕ) → k ≤ 52 → n % 2 ^ k ≡ n % 2 ^ 52 % 2 ^ k
 low-digits n k h = sym (mod-mod-pow n (52 - k) k) ∙ ap (λ (j : ℕ). n % 2 ^ j % 2 ^ k) (let x : 52 - k + k ≡ 52 = omega arith in x)

@@ -4,9 +4,8 @@ use native.Mathlib.Nat.{mod-le}
 use native.Mathlib.Omega.{arith}
 use mathlib.Core.Path.{_≡_, sym, subst}
 use borrow.Author.Needs.{needs}
-use lib.Pow.{pow-pos}
 use Rattle.ieee.specs.Whole.{WholeBits}
-use Rattle.ieee.proofs.WholeBits.{below-one, own-whole, power-small, cleared}
+use Rattle.ieee.proofs.WholeBits.{below-one, own-whole, power-small, power-positive, cleared}
 use Rattle.ieee.proofs.whole_bits.Statement.{statement}
 use Rattle.ieee.proofs.whole_bits.Tie as tie
 
@@ -28,8 +27,7 @@ unfolding digits
 step c = power-small (digits c) (omega arith)
 
 rem-result : tie.Need-rem-result
-unfolding digits
-rem-result c = subst (λ (n : ℕ). 0 < n) (sym (step c)) (pow-pos (digits c))
+rem-result c = power-positive _ (omega arith)
 
 sub-result : tie.Need-sub-result
 sub-result c = mod-le _ _
