@@ -40,6 +40,7 @@ plain x f h s =
     let v = floor-whole x f h s .value in
     let is = floor-multiple x f h s in
     record {
+      format = floor-whole x f h s .format;
       number = value-finite (floorOf x) false (M / U * U) U v;
       sign = value-sign (floorOf x) false (M / U * U) U v ∙ sym s;
       whole = ap (λ (n : ℕ). n % U) is ∙ mul-mod-left (M / U) U;
@@ -65,6 +66,7 @@ module _ (m : ℕ) (e : ℤ) (f : T (fits binary64 (fin true m e))) where
       let h = value-finite r true c 1 v in
       let is : multiple r ≡ c * 2 ^ 1074 = sym (mul-one (multiple r)) ∙ sym (same-fraction r (signOf r) true c 1 (multiple r) (2 ^ 1074) (own-multiple r g h) v) in
       record {
+        format = g;
         number = h;
         sign = value-sign r true c 1 v;
         whole = ap (λ (n : ℕ). n % 2 ^ 1074) is ∙ mul-mod-left c (2 ^ 1074);

@@ -12,6 +12,7 @@ use lib.Count.{leadingZeros}
 use lib.Pow.{pow-add, pow-pos, pow-mono}
 use lib.Ieee.{Float, nan, inf, fin, lt, up, down, binary64, fits, toBits}
 use lib.Ieee.Exact.{HasValue}
+use lib.Ieee.Fits.{round-fits}
 use lib.Ieee.Positive.{positive}
 use lib.Ieee.Scale.{finite}
 use Rattle.ieee.specs.Values.{multiple, signOf, fieldsMultiple}
@@ -226,11 +227,16 @@ found x f p =
     found-normal (multiple x) (b / 2 ^ 52) (b % 2 ^ 52) (n .0) (n .1) (n .2) (z .value)
 
 -- ---- the theorem: for every f64 above zero, subnormal ones too
+root-fits : (v : ℕ) → T (fits binary64 (rootOf v))
+unfolding rootOf
+root-fits v = round-fits binary64 false (2 * wholeRoot 1586 (v * 2 ^ 1074) + 1) (2 * 2 ^ 1074)
+
 root-nearest : (x : Float) → Found (multiple x) → NearestRoot x (rootOf (multiple x))
 root-nearest x d =
     let W = multiple x * 2 ^ 1074 in
     let R = multiple (rootOf (multiple x)) in
     record {
+      format = root-fits (multiple x);
       number = d .number;
       sign = d .sign;
       below = λ y f h s l. let c = point y f h in subst (λ (Y : ℕ). (Y + R) * (Y + R) < 4 * W) (sym (c .3)) (lies-above W R (d .rounded) (c .0) (c .1) (c .2) (subst (λ (Y : ℕ). Y < R) (c .3) l));

@@ -3,7 +3,7 @@ use Prim.Native.Nat.{ℕ, _+_, _*_, _/_, _%_, _^_, _≤_, _<_}
 use mathlib.Core.Path.{_≡_}
 use mathlib.Core.Bool.{true, false}
 use lib.Dec.{T}
-use lib.Ieee.{Float}
+use lib.Ieee.{Float, binary64, fits}
 use lib.Ieee.Scale.{finite}
 use Rattle.ieee.specs.Values.{multiple, signOf, fieldsMultiple}
 
@@ -12,9 +12,10 @@ pub record WholeBits (bits r : ℕ) : Type 0 where
   pub within : r ≤ bits
   pub value : fieldsMultiple (r / 2 ^ 52) (r % 2 ^ 52) ≡ fieldsMultiple (bits / 2 ^ 52) (bits % 2 ^ 52) / 2 ^ 1074 * 2 ^ 1074
 
--- r is the greatest whole number that is not above x, for a finite x, with the sign of x: in multiples of 2^-1074 a whole number is a multiple of 2^1074,
--- and less than one below x
+-- r is the greatest whole number that is not above x, for a finite x, with the sign of x. In whole multiples of 2^-1074 a whole number is a multiple of 2^1074;
+-- the greatest one is x itself or less than one below it, so in size it is not above x where x is not negative, and not below it where x is
 pub record GreatestWhole (x r : Float) : Type 0 where
+  pub format : T (fits binary64 r)
   pub number : T (finite r)
   pub sign : signOf r ≡ signOf x
   pub whole : multiple r % 2 ^ 1074 ≡ 0
