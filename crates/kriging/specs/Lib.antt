@@ -1,0 +1,5 @@
+pub mod Options
+pub mod Survey
+pub mod Drift
+pub mod Assembly
+pub mod Node
