@@ -7,3 +7,10 @@ pub mod RootRound
 pub mod RootBits
 pub mod RootCall
 pub mod RootCases
+pub mod RoundingGrid
+pub mod RoundingWhole
+pub mod RoundingSigned
+pub mod RoundingNearest
+pub mod RoundingSum
+pub mod RoundingProduct
+pub mod RoundingUnique

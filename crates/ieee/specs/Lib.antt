@@ -1,3 +1,4 @@
 pub mod Floats
 pub mod Values
 pub mod Root
+pub mod Ieee754
