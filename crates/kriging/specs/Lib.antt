@@ -3,3 +3,7 @@ pub mod Survey
 pub mod Drift
 pub mod Assembly
 pub mod Node
+pub mod Audit
+pub mod Limits
+pub mod Refusals
+pub mod Fit

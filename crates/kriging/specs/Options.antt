@@ -14,5 +14,5 @@ defaultBases = 1 ∷ []
 abbrev pub defaultOptions : UniversalKrigingOptions
 defaultOptions = record {
   variogram = variogram Spherical (ofBits binary64 0) (ofBits binary64 0x3ff0_0000_0000_0000) (ofBits binary64 0x3ff0_0000_0000_0000);
-  regularization = ofBits binary64 0x3ddb_7cdf_d9d7_bdbb
+  regularization = ofBits binary64 0x3ddb_7cdf_d9d7_bdbb;
 }

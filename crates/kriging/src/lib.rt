@@ -2,7 +2,6 @@
 use error::Refusal;
 use variogram::Variogram;
 use variogram::VariogramModel;
-
 ghost use mathlib.Core.Path.{_≡_};
 ghost use Rattle.kriging.specs.Options.{defaultOptions};
 
