@@ -1,1 +1,2 @@
 -- Laws of the definitions, and theorems over them.
+pub mod TrendSums
