@@ -1,2 +1,3 @@
 -- Laws of the definitions, and theorems over them.
 pub mod TrendSums
+pub mod VerdictRows
