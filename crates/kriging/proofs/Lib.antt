@@ -1,3 +1,4 @@
 -- Laws of the definitions, and theorems over them.
 pub mod TrendSums
 pub mod VerdictRows
+pub mod Verdict
