@@ -2,3 +2,4 @@
 pub mod TrendSums
 pub mod VerdictRows
 pub mod Verdict
+pub mod AreasAccepted
