@@ -3,3 +3,5 @@ pub mod TrendSums
 pub mod VerdictRows
 pub mod Verdict
 pub mod AreasAccepted
+pub mod AreasExit
+pub mod Trend
