@@ -1,11 +1,11 @@
 -- An accepted fit: none of the refusals applies, and the areas at exit are those of the finished elimination. Assumes nothing.
-use Prim.Native.Nat.{ℕ, zero, suc, _+_, _*_, _≤_, _<_}
+use Prim.Native.Nat.{ℕ, zero, suc, _*_, _≤_, _<_}
 use native.Mathlib.Nat.{not-suc-le-zero, le-of-suc-le-suc}
 use native.Mathlib.Omega.{arith}
 use mathlib.Core.Path.{_≡_, refl, sym, ap, _∙_, subst}
 use mathlib.Core.Bool.{Bool, true, false, not, _&&_, _||_, cond, true≢false}
 use mathlib.Core.List.{List, [], _∷_}
-use lib.Dec.{T, ltb, nltb→le, leb, le→leb}
+use lib.Dec.{T, ltb, nltb→le}
 use lib.ListN.{length, getD}
 use lib.Ieee.{Float, nan, binary64, lt, ofBits}
 use lib.Ieee.Scale.{finite}
@@ -17,7 +17,7 @@ use Rattle.kriging.specs.Limits.{mostWells, mostColumns, mostNodes}
 use Rattle.kriging.specs.Survey.{Survey, Areas, wells, nodeCount, columns, externals, size, valueAt}
 use Rattle.kriging.specs.Assembly.{assembled}
 use Rattle.kriging.specs.Refusals.{any, notFinite, anyNotFinite, shortAnswer, tests, refusal}
-use Rattle.kriging.specs.Fit.{Node, nodeOf, Ended, answered, afterwards, fitWhere, fitted}
+use Rattle.kriging.specs.Fit.{nodeOf, answered, afterwards, fitWhere, fitted}
 
 -- ---- no test holds
 

@@ -3,7 +3,7 @@ use Prim.Native.Nat.{ℕ, zero, suc, _+_, _-_, _*_, _/_, _%_, _≤_, _<_}
 use native.Mathlib.Nat.{zero-add, mul-comm}
 use native.Mathlib.Omega.{arith}
 use mathlib.Core.Path.{_≡_, refl, sym, ap, ap₂, _∙_, subst}
-use mathlib.Core.Bool.{Bool, true, false, _&&_, cond}
+use mathlib.Core.Bool.{Bool, _&&_, cond}
 use mathlib.Core.List.{List}
 use lib.Dec.{leb}
 use lib.Arith.{digits-lt, digits-div, digits-mod}
@@ -15,7 +15,7 @@ use Rattle.exact.specs.Units.{units}
 use Rattle.exact.proofs.Sums.{sumℤ-same}
 use Rattle.area.specs.Area.{written}
 use Rattle.area.proofs.Places.{at-place}
-use Rattle.kriging.specs.Survey.{Survey, Areas, wells, nodeCount, columns, size, valueAt}
+use Rattle.kriging.specs.Survey.{Survey, Areas, wells, nodeCount, size}
 use Rattle.kriging.specs.Node.{rightHand, solution, figureOf}
 use Rattle.kriging.specs.Audit.{Audited, weighted, within, rowMet, all, allFinite, firstMissed, verdictOf}
 use Rattle.kriging.specs.Fit.{Node, auditOf, nodeOf, answered, fitted}

@@ -1,14 +1,12 @@
 -- DEMAND 3 of every fit, read off its areas at exit. Assumes nothing.
-use Prim.Native.Nat.{ℕ, _≤_, _<_}
 use native.Mathlib.Nat.{le-trans}
-use mathlib.Core.Path.{_≡_, sym, _∙_, subst}
+use mathlib.Core.Path.{sym, _∙_, subst}
 use lib.Dec.{lit≤}
-use Rattle.kriging.specs.Survey.{Survey, Areas, columns}
-use Rattle.kriging.specs.Audit.{verdictOf}
+use Rattle.kriging.specs.Survey.{Survey, Areas}
 use Rattle.kriging.specs.Fit.{fitted}
-use Rattle.kriging.specs.Trend.{Verdict, TrendKept, atExit, verdictAtExit}
+use Rattle.kriging.specs.Trend.{Verdict, TrendKept, atExit}
 use Rattle.kriging.proofs.Verdict.{verdict-is, trend-bound}
-use Rattle.kriging.proofs.AreasAccepted.{Accepted, accepted}
+use Rattle.kriging.proofs.AreasAccepted.{accepted}
 use Rattle.kriging.proofs.AreasExit.{verdict-at-exit}
 
 -- at every survey, whatever its size and model, and whatever areas are lent

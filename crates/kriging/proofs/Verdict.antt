@@ -1,14 +1,14 @@
 -- The verdict of an audit, each exactly when; and the trend bound of what passed. Assumes nothing.
-use Prim.Native.Nat.{ℕ, zero, suc, _+_, _≤_, _<_}
+use Prim.Native.Nat.{ℕ, suc, _+_, _≤_}
 use native.Mathlib.Decide.{decLt}
 use native.Mathlib.Omega.{arith}
 use mathlib.Core.Path.{_≡_, refl, sym, ap, _∙_, subst}
-use mathlib.Core.Logic.{_⊎_, inl, inr, ⊎-elim}
-use mathlib.Core.Bool.{Bool, true, false, cond, true≢false}
+use mathlib.Core.Logic.{⊎-elim}
+use mathlib.Core.Bool.{Bool, cond, true≢false}
 use lib.IntN.{ℤ, pos, natAbs, _-ℤ_, _*ℤ_}
 use lib.Signed.{_≤ℤ_}
 use Rattle.exact.specs.Units.{units}
-use Rattle.kriging.specs.Audit.{Audited, unit, rowMet, allFinite, firstMissed, verdictOf}
+use Rattle.kriging.specs.Audit.{Audited, unit, rowMet, firstMissed, verdictOf}
 use Rattle.kriging.specs.Trend.{AllFinite, SomeNotFinite, Met, MetBefore, Verdict, TrendBound, fromTrend, allowance}
 use Rattle.kriging.proofs.TrendSums.{within-allowance}
 use Rattle.kriging.proofs.VerdictRows.{finite-or-not, finite-clash, First, none, one, first-missed, met-yes, yes-met}

@@ -1,19 +1,16 @@
 -- The audit's tests, as facts: what `all` and `firstMissed` find, when everything is finite, when a row is met. Assumes nothing.
 use Prim.Native.Nat.{ℕ, zero, suc, _+_, _-_, _≤_, _<_}
-use native.Mathlib.Nat.{not-suc-le-zero, add-comm}
+use native.Mathlib.Nat.{not-suc-le-zero}
 use native.Mathlib.Decide.{decLt}
 use native.Mathlib.Omega.{arith}
 use mathlib.Core.Path.{_≡_, refl, sym, ap, _∙_, subst}
 use mathlib.Core.Logic.{_⊎_, inl, inr, ⊎-elim}
-use mathlib.Core.Bool.{Bool, true, false, not, _&&_, cond, true≢false, false≢true}
-use lib.Dec.{T, leb, leb→le, le→leb, T-not}
-use lib.IntN.{ℤ}
-use lib.Signed.{_≤ℤ_, leZ}
+use mathlib.Core.Bool.{Bool, true, false, _&&_, cond}
+use lib.Dec.{T, leb, leb→le, le→leb}
 use lib.Ieee.{Float}
 use lib.Ieee.Scale.{finite}
-use Rattle.exact.specs.Units.{units}
-use Rattle.kriging.specs.Audit.{Audited, weighted, within, rowMet, all, allFinite, firstMissed, verdictOf}
-use Rattle.kriging.specs.Trend.{AllFinite, SomeNotFinite, aWeight, anEntry, aNodeEntry, theFigure, Close, Met, MetBefore}
+use Rattle.kriging.specs.Audit.{Audited, weighted, within, rowMet, all, allFinite, firstMissed}
+use Rattle.kriging.specs.Trend.{AllFinite, SomeNotFinite, aWeight, anEntry, aNodeEntry, theFigure, Close, Met}
 
 -- ---- a test and the fact
 
