@@ -1,38 +1,29 @@
 -- The areas at exit of an accepted fit, node by node: the verdict that stands there is the verdict of the weights and of the figure that stand there. Assumes nothing.
-use Prim.Native.Nat.{ℕ, zero, suc, _+_, _-_, _*_, _/_, _%_, _≤_, _<_}
+use Prim.Native.Nat.{ℕ, _+_, _*_, _/_, _%_, _≤_, _<_}
 use native.Mathlib.Nat.{zero-add, mul-comm}
 use native.Mathlib.Omega.{arith}
-use mathlib.Core.Path.{_≡_, refl, sym, ap, ap₂, _∙_, subst}
-use mathlib.Core.Bool.{Bool, _&&_, cond}
+use mathlib.Core.Path.{_≡_, sym, ap, ap₂, _∙_, subst, subst₂}
 use mathlib.Core.List.{List}
-use lib.Dec.{leb}
+use lib.Dec.{T}
 use lib.Arith.{digits-lt, digits-div, digits-mod}
-use lib.IntN.{ℤ, _*ℤ_}
+use lib.IntN.{ℤ, pos, natAbs, _+ℤ_, _-ℤ_, _*ℤ_}
+use lib.Signed.{_≤ℤ_}
 use lib.ListN.{length, getD}
 use lib.Ieee.{Float, nan}
 use lib.Ieee.Scale.{finite}
 use Rattle.exact.specs.Units.{units}
+use Rattle.exact.specs.Whole.{sumℤ}
 use Rattle.exact.proofs.Sums.{sumℤ-same}
 use Rattle.area.specs.Area.{written}
 use Rattle.area.proofs.Places.{at-place}
-use Rattle.kriging.specs.Survey.{Survey, Areas, wells, nodeCount, size}
-use Rattle.kriging.specs.Node.{rightHand, solution, figureOf}
-use Rattle.kriging.specs.Audit.{Audited, weighted, within, rowMet, all, allFinite, firstMissed, verdictOf}
+use Rattle.kriging.specs.Survey.{Survey, Areas, wells, nodeCount}
+use Rattle.kriging.specs.Audit.{Audited, unit}
 use Rattle.kriging.specs.Fit.{Node, auditOf, nodeOf, answered, fitted}
-use Rattle.kriging.specs.Trend.{atExit, verdictAtExit}
+use Rattle.kriging.specs.Trend.{AllFinite, SomeNotFinite, aWeight, anEntry, aNodeEntry, theFigure, Met, atExit, verdictAtExit}
 use Rattle.kriging.proofs.AreasAccepted.{Tested, Accepted, accepted}
+use Rattle.kriging.proofs.Verdict.{Way, bad, good, miss, way}
 
--- ---- a verdict reads the n weights, and no more
-
-all-same : (k : ℕ) (f g : ℕ → Bool) → ((i : ℕ) → i < k → f i ≡ g i) → all k f ≡ all k g
-unfolding all
-all-same zero f g h = refl
-all-same (suc k) f g h = ap₂ (λ (x y : Bool). x && y) (all-same k f g (λ i l. h i (omega arith))) (h k (omega arith))
-
-first-same : (k j : ℕ) (f g : ℕ → Bool) → ((i : ℕ) → f i ≡ g i) → firstMissed k j f ≡ firstMissed k j g
-unfolding firstMissed
-first-same zero j f g h = refl
-first-same (suc k) j f g h = ap₂ (λ (b : Bool) (later : ℕ). cond b later j) (h j) (first-same k (j + 1) f g h)
+-- ---- an audit reads the n weights, and no more
 
 abbrev withWeights : Audited → (ℕ → Float) → Audited
 withWeights a w = record {
@@ -47,27 +38,47 @@ withWeights a w = record {
 }
 
 module _ (a : Audited) (w : ℕ → Float) (h : (i : ℕ) → i < a .n → a .weight i ≡ w i) where
-  weighted-same : (f : ℕ → Float) → weighted a f ≡ weighted (withWeights a w) f
-  unfolding weighted
-  weighted-same f =
-      sumℤ-same (a .n) (λ i. units (a .weight i) *ℤ units (f i)) (λ i. units (w i) *ℤ units (f i)) (λ i l. ap (λ (x : Float). units x *ℤ units (f i)) (h i l))
+  abbrev rest : (ℕ → Float) → (ℕ → Float) → Float → ℤ
+  rest z x target = sumℤ (a .n) (λ i. units (z i) *ℤ units (x i)) -ℤ units target *ℤ unit
 
-  row-same : (j : ℕ) → rowMet a j ≡ rowMet (withWeights a w) j
-  unfolding rowMet within
-  row-same j =
-      ap₂ (λ (x y : ℤ). cond (leb j (a .p)) (within a x (a .nodeDrift (j - 1))) (within a y (a .figure)))
-      (weighted-same (λ i. a .drift i (j - 1))) (weighted-same (a .value))
+  same-rest : (x : ℕ → Float) (target : Float) → rest (a .weight) x target ≡ rest w x target
+  same-rest x target =
+      ap (λ (z : ℤ). z -ℤ units target *ℤ unit)
+      (sumℤ-same (a .n) (λ i. units (a .weight i) *ℤ units (x i)) (λ i. units (w i) *ℤ units (x i)) (λ i l. ap (λ (z : Float). units z *ℤ units (x i)) (h i l)))
 
-  finite-same : allFinite a ≡ allFinite (withWeights a w)
-  unfolding allFinite
-  finite-same =
-      ap (λ (b : Bool). b && all (a .n) (λ i. all (a .p) (λ j. finite (a .drift i j))) && all (a .p) (λ j. finite (a .nodeDrift j)) && finite (a .figure))
-      (all-same (a .n) (λ i. finite (a .weight i)) (λ i. finite (w i)) (λ i l. ap finite (h i l)))
+  abbrev Near : Float → ℤ → Type 0
+  Near target z = pos (natAbs z) ≤ℤ (units (a .tolerance) *ℤ (unit +ℤ pos (natAbs (units target))))
 
-  verdict-same : verdictOf a ≡ verdictOf (withWeights a w)
-  unfolding verdictOf
-  verdict-same =
-      ap₂ (λ (b : Bool) (r : ℕ). cond b r 255) finite-same (first-same (a .p + 1) 1 (rowMet a) (rowMet (withWeights a w)) row-same)
+  met-on : (j : ℕ) → Met a j → Met (withWeights a w) j
+  met-on j m = record {
+    column = λ c l e. subst (Near (a .nodeDrift c)) (same-rest (λ i. a .drift i c) (a .nodeDrift c)) (m .column c l e);
+    figure = λ e. subst (Near (a .figure)) (same-rest (a .value) (a .figure)) (m .figure e);
+  }
+
+  met-back : (j : ℕ) → Met (withWeights a w) j → Met a j
+  met-back j m = record {
+    column = λ c l e. subst (Near (a .nodeDrift c)) (sym (same-rest (λ i. a .drift i c) (a .nodeDrift c))) (m .column c l e);
+    figure = λ e. subst (Near (a .figure)) (sym (same-rest (a .value) (a .figure))) (m .figure e);
+  }
+
+  finite-on : AllFinite a → AllFinite (withWeights a w)
+  finite-on f = record {
+    weights = λ i l. subst (λ (z : Float). T (finite z)) (h i l) (f .weights i l);
+    columns = f .columns;
+    nodeColumns = f .nodeColumns;
+    figure = f .figure;
+  }
+
+  not-finite-on : SomeNotFinite a → SomeNotFinite (withWeights a w)
+  not-finite-on (aWeight i l n) = aWeight i l (subst (λ (z : Float). ¬ T (finite z)) (h i l) n)
+  not-finite-on (anEntry i j l m n) = anEntry i j l m n
+  not-finite-on (aNodeEntry j m n) = aNodeEntry j m n
+  not-finite-on (theFigure n) = theFigure n
+
+  way-on : (v : ℕ) → Way a v → Way (withWeights a w) v
+  way-on v (bad s e) = bad (not-finite-on s) e
+  way-on v (good f met e) = good (finite-on f) (λ j l m. met-on j (met j l m)) e
+  way-on v (miss f l m met n) = miss (finite-on f) l m (λ j b c. met-on j (met j b c)) (λ k. n (met-back v k))
 
 -- ---- what stands where
 
@@ -92,27 +103,35 @@ module _ (s : Survey) (a : Areas) (t : Tested s a) (work : List Float) (node : �
       (subst (λ (k : ℕ). q * wells s + i < k) (mul-comm (nodeCount s) (wells s)) (digits-lt l m))
       ∙ ap₂ (λ (r c : ℕ). getD (node r .z) c nan) (digits-div q m) (digits-mod q m)
 
--- ---- the verdict at exit
+-- ---- the audit at exit
 
-pub verdict-at-exit : (s : Survey) (a : Areas) → fitted s a .number ≡ 0 → (q : ℕ) → q < nodeCount s
-    → verdictAtExit (fitted s a .areas) q ≡ verdictOf (atExit s (fitted s a .areas) q)
+-- the verdict that stands there for a node is how the audit of the weights and of the figure that stand there ends
+pub way-at-exit : (s : Survey) (a : Areas) → fitted s a .number ≡ 0 → (q : ℕ) → q < nodeCount s
+    → Way (atExit s (fitted s a .areas) q) (verdictAtExit (fitted s a .areas) q)
 unfolding nodeOf
-verdict-at-exit s a e q l = subst (λ (x : Areas). verdictAtExit x q ≡ verdictOf (atExit s x q)) (sym (ok .areas)) written-there
+way-at-exit s a e q l = subst (λ (x : Areas). Way (atExit s x q) (verdictAtExit x q)) (sym (ok .areas)) there
   where
     ok : Accepted s a
     ok = accepted s a e
 
-    exit : Areas
-    exit = answered s a (ok .work) (nodeOf s (ok .work))
+    node : ℕ → Node
+    node = nodeOf s (ok .work)
 
-    z : List Float
-    z = solution (size s) (ok .work) (rightHand s q)
+    exit : Areas
+    exit = answered s a (ok .work) node
 
     weights : ℕ → Float
     weights i = getD (exit .weights) (q * wells s + i) nan
 
-    written-there : verdictAtExit exit q ≡ verdictOf (atExit s exit q)
-    written-there =
-        verdict-there s a (ok .tests) (ok .work) (nodeOf s (ok .work)) q l
-        ∙ verdict-same (auditOf s q z (figureOf s z)) weights (λ i m. sym (weight-there s a (ok .tests) (ok .work) (nodeOf s (ok .work)) q l i m))
-        ∙ ap (λ (g : Float). verdictOf (withWeights (auditOf s q z g) weights)) (sym (figure-there s a (ok .tests) (ok .work) (nodeOf s (ok .work)) q l))
+    audited : Float → Audited
+    audited figure = withWeights (auditOf s q (node q .z) figure) weights
+
+    own : Way (audited (node q .figure)) (node q .verdict)
+    own =
+        way-on (auditOf s q (node q .z) (node q .figure)) weights (λ i m. sym (weight-there s a (ok .tests) (ok .work) node q l i m)) (node q .verdict)
+        (way (auditOf s q (node q .z) (node q .figure)))
+
+    there : Way (atExit s exit q) (verdictAtExit exit q)
+    there =
+        subst₂ (λ (g : Float) (v : ℕ). Way (audited g) v)
+        (sym (figure-there s a (ok .tests) (ok .work) node q l)) (sym (verdict-there s a (ok .tests) (ok .work) node q l)) own

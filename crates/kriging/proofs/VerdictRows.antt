@@ -114,13 +114,13 @@ first-missed (suc k) j met = ⊎-elim (λ e. on e (first-missed k (j + 1) met)) 
 
 -- ---- a row
 
-close-yes : (a : Audited) (x : ℕ → Float) (target : Float) → within a (weighted a x) target ≡ true → Close a x target
-unfolding within weighted
-close-yes a x target h = record { le = yes-of h }
-
 yes-close : (a : Audited) (x : ℕ → Float) (target : Float) → Close a x target → within a (weighted a x) target ≡ true
 unfolding within weighted
 yes-close a x target h = of-yes (within a (weighted a x) target) (h .le)
+
+close-yes : (a : Audited) (x : ℕ → Float) (target : Float) → within a (weighted a x) target ≡ true → Close a x target
+unfolding within weighted
+close-yes a x target h = record { le = yes-of h }
 
 column-row : (a : Audited) (c : ℕ) → c < a .p → rowMet a (suc c) ≡ within a (weighted a (λ i. a .drift i c)) (a .nodeDrift c)
 unfolding rowMet
