@@ -1,0 +1,5 @@
+pub mod Rows
+pub mod Hold
+pub mod Clear
+pub mod Keeps
+pub mod Run

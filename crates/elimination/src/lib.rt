@@ -1,0 +1,139 @@
+// Gauss–Jordan elimination on a lent work area, which holds the matrix beside the identity: `size` rows of 2 * size numbers, row after row.
+// The Rust has it twice: the fit's skips a row whose factor is zero, the interpolator's does not. On zeros with a sign and on NaNs the two differ.
+ghost use mathlib.Core.Path.{_≡_};
+ghost use mathlib.Core.Bool.{true, false};
+ghost use Prim.Native.Nat.{_+_, _*_, _≤_, _<_};
+ghost use lib.ListN.{length};
+ghost use lib.Dec.{ltb};
+ghost use Rattle.elimination.specs.Elimination.{hold, swapped, divided, reduced, cleared, ended, eliminated};
+
+// How an elimination ends.
+pub enum Elimination {
+    // Every step went through: the right half is the inverse.
+    Done,
+    // The step whose held pivot is below EPSILON. The area is as it was before that step.
+    Stopped(usize),
+    // The area has fewer than 2 * size * size numbers, and is as it was.
+    TooShort,
+}
+
+// f64::EPSILON: 2^-52
+const EPSILON: f64 = 2.220446049250313e-16;
+
+// The fit's elimination: a row whose factor is zero, of either sign, is skipped.
+pub fn gauss_jordan_invert_uked(work: &mut [f64], size: usize) -> Elimination
+    ensures { λ r. ⌜ ended r (now (work .exit)) ≡ eliminated true size (now (work .entry)) ⌝ }
+{
+    eliminate(work, size, true)
+}
+
+// The interpolator's elimination: every other row is cleared, whatever its factor.
+pub fn matrix_inverse(work: &mut [f64], size: usize) -> Elimination
+    ensures { λ r. ⌜ ended r (now (work .exit)) ≡ eliminated false size (now (work .entry)) ⌝ }
+{
+    eliminate(work, size, false)
+}
+
+fn eliminate(work: &mut [f64], size: usize, skip: bool) -> Elimination
+    ensures { λ r. ⌜ ended r (now (work .exit)) ≡ eliminated skip size (now (work .entry)) ⌝ }
+{
+    if too_short(work.len(), size) {
+        return Elimination::TooShort;
+    }
+    let width = 2 * size;
+    for i in 0..size {
+        let max_row = find_pivot(work, size, i);
+        let max_val = ieee::abs(work[max_row * width + i]);
+        if max_val < EPSILON {
+            return Elimination::Stopped(i);
+        }
+        if max_row != i {
+            swap_rows(work, width, i, max_row);
+        }
+        divide_row(work, width, i);
+        clear_others(work, size, i, skip);
+    }
+    Elimination::Done
+}
+
+// Whether `len` numbers are fewer than 2 * size * size, which need not fit a word: by division.
+fn too_short(len: usize, size: usize) -> bool
+    ensures { λ r. ⌜ r ≡ ltb len (2 * size * size) ⌝ }
+{
+    if size == 0 {
+        return false;
+    }
+    len / 2 / size < size
+}
+
+// The row from `i` down whose entry in column `i` has the greatest magnitude. Of equal ones the upper is kept. A NaN in row `i` is kept, and one below is never taken.
+fn find_pivot(work: &[f64], size: usize, i: usize) -> usize
+    requires { ⌜ (i < size) × (2 * size * size ≤ length (now work)) ⌝ }
+    ensures { λ r. ⌜ r ≡ hold size i (now (work .entry)) ⌝ }
+{
+    let width = 2 * size;
+    let mut max_row = i;
+    let mut max_val = ieee::abs(work[i * width + i]);
+    for k in i + 1..size {
+        let v = ieee::abs(work[k * width + i]);
+        if v > max_val {
+            max_val = v;
+            max_row = k;
+        }
+    }
+    max_row
+}
+
+// Rows `i` and `r`, another one, change places.
+fn swap_rows(work: &mut [f64], width: usize, i: usize, r: usize)
+    requires { ⌜ (i < r) × (r * width + width ≤ length (now work)) ⌝ }
+    ensures { λ _. ⌜ now (work .exit) ≡ swapped width i r (now (work .entry)) ⌝ }
+{
+    let row = i * width;
+    let other = r * width;
+    for j in 0..width {
+        let tmp = work[row + j];
+        work[row + j] = work[other + j];
+        work[other + j] = tmp;
+    }
+}
+
+// Row `i` divided by its pivot, its entry in column `i`.
+fn divide_row(work: &mut [f64], width: usize, i: usize)
+    requires { ⌜ (i < width) × (i * width + width ≤ length (now work)) ⌝ }
+    ensures { λ _. ⌜ now (work .exit) ≡ divided width i (now (work .entry)) ⌝ }
+{
+    let row = i * width;
+    let pivot = work[row + i];
+    for j in 0..width {
+        work[row + j] /= pivot;
+    }
+}
+
+// Every row but row `i` less its factor, its entry in column `i`, times row `i`.
+fn clear_others(work: &mut [f64], size: usize, i: usize, skip: bool)
+    requires { ⌜ (i < size) × (2 * size * size ≤ length (now work)) ⌝ }
+    ensures { λ _. ⌜ now (work .exit) ≡ cleared skip (2 * size) i size (now (work .entry)) ⌝ }
+{
+    let width = 2 * size;
+    for k in 0..size {
+        if k != i {
+            let factor = work[k * width + i];
+            if !skip || factor != 0.0 {
+                clear_row(work, width, i, k, factor);
+            }
+        }
+    }
+}
+
+// Row `k` less `factor` times row `i`.
+fn clear_row(work: &mut [f64], width: usize, i: usize, k: usize, factor: f64)
+    requires { ⌜ (i ≡ k → ⊥) × (i * width + width ≤ length (now work)) × (k * width + width ≤ length (now work)) ⌝ }
+    ensures { λ _. ⌜ now (work .exit) ≡ reduced width i k factor (now (work .entry)) ⌝ }
+{
+    let row = i * width;
+    let other = k * width;
+    for j in 0..width {
+        work[other + j] -= factor * work[row + j];
+    }
+}
