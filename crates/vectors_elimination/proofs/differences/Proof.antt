@@ -1,6 +1,5 @@
 -- `vectors_elimination::differences` is safe and ends: what is left of the area falls. Assumes nothing.
 use Prim.Native.Nat.{_-_}
-use native.Mathlib.Omega.{arith}
 use borrow.Author.Needs.{needs}
 use lib.ListN.{length}
 use Rattle.vectors_elimination.proofs.differences.Statement.{statement}
