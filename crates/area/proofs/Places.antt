@@ -1,5 +1,5 @@
 -- Laws of `written` place by place: what stands where it writes and where it does not, a store elsewhere, two fills that agree, and one fill after another. Assumes nothing.
-use Prim.Native.Nat.{ℕ, zero, suc, _+_, _≤_, _<_}
+use Prim.Native.Nat.{ℕ, zero, suc, _+_, _-_, _≤_, _<_}
 use native.Mathlib.Nat.{add-zero, add-suc, add-assoc, not-suc-le-zero}
 use native.Mathlib.Numerals.{add-one}
 use native.Mathlib.Decide.{decLt}
@@ -7,8 +7,8 @@ use native.Mathlib.Omega.{arith}
 use mathlib.Core.Path.{_≡_, refl, ap, _∙_, sym}
 use mathlib.Core.Logic.{_≢_}
 use mathlib.Core.List.{List}
-use lib.ListN.{length, getD, set, take, drop, length-set}
-use lib.Seq.{getD-set-same, getD-set-other, set-getD, set-set, set-comm, take-set-le, drop-set-lt}
+use lib.ListN.{length, getD, set, take, drop}
+use lib.Seq.{getD-set-same, getD-set-other, set-getD, set-set, set-comm, take-set-le, drop-set-lt, ext-getD}
 use Rattle.area.specs.Area.{written}
 use Rattle.area.proofs.Turns.{length-written}
 
@@ -23,13 +23,13 @@ all-turns start f xs e h = h ∙ ap (λ (n : ℕ). written start n f xs) e
 
 -- a place that is written has its value
 pub at-place : {A : Type 0} (start k : ℕ) (f : ℕ → A) (xs : List A) (j : ℕ) (d : A)
-    → start + k ≤ length xs → j < k → getD (written start k f xs) (start + j) d ≡ f j
+    → start + j < length xs → j < k → getD (written start k f xs) (start + j) d ≡ f j
 at-place start zero f xs j d h b = absurd (not-suc-le-zero b)
 at-place start (suc k) f xs j d h b =
     elim (decLt j k) [
       | yes p ↦
           getD-set-other (written start k f xs) (start + k) (start + j) (f k) d (omega arith)
-          ∙ at-place start k f xs j d (omega arith) p
+          ∙ at-place start k f xs j d h p
       | no n ↦
           let e : j ≡ k = omega arith in
           let l = length-written start k f xs in
@@ -105,3 +105,24 @@ written-add {A} start k (suc m) f xs =
     ap (λ (n : ℕ). written start n f xs) (add-suc k m)
     ∙ ap (λ (p : ℕ). set (written start (k + m) f xs) p (f (k + m))) (sym (add-assoc start k m))
     ∙ ap (λ (ys : List A). set ys (start + k + m) (f (k + m))) (written-add start k m f xs)
+
+-- two areas that agree but where the fill writes are the same after it
+pub same-rest : {A : Type 0} (start k : ℕ) (f : ℕ → A) (xs ys : List A) (d : A) → length xs ≡ length ys
+    → ((i : ℕ) → i < start → getD xs i d ≡ getD ys i d) → ((i : ℕ) → start + k ≤ i → getD xs i d ≡ getD ys i d)
+    → written start k f xs ≡ written start k f ys
+same-rest start k f xs ys d l before past =
+    let lx = length-written start k f xs in
+    let ly = length-written start k f ys in
+    ext-getD d (written start k f xs) (written start k f ys) (lx ∙ l ∙ sym ly) (λ i b.
+    elim (decLt i start) [
+      | yes p ↦
+          other-place start k f xs i d (λ j c. omega arith) ∙ before i p ∙ sym (other-place start k f ys i d (λ j c. omega arith))
+      | no n ↦
+          elim (decLt i (start + k)) [
+            | yes q ↦
+                let e : start + (i - start) ≡ i = omega arith in
+                rw (← e) (at-place start k f xs (i - start) d (omega arith) (omega arith) ∙ sym (at-place start k f ys (i - start) d (omega arith) (omega arith)))
+            | no q ↦
+                other-place start k f xs i d (λ j c. omega arith) ∙ past i (omega arith) ∙ sym (other-place start k f ys i d (λ j c. omega arith))
+          ]
+    ])

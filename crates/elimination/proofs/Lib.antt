@@ -3,3 +3,7 @@ pub mod Hold
 pub mod Clear
 pub mod Keeps
 pub mod Run
+pub mod Stops
+pub mod Edges
+pub mod Untouched
+pub mod Entries

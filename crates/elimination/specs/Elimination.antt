@@ -1,6 +1,7 @@
 -- Elimination, stage by stage as paper 01 says it, on "the matrix beside the identity, s rows of 2s", which lies in a list row after row.
 -- One definition serves both calls: `skip` says whether a row whose factor is zero is passed over. Assumes nothing.
-use Prim.Native.Nat.{ℕ, zero, suc, _+_, _-_, _*_}
+use Prim.Native.Nat.{ℕ, zero, suc, _+_, _-_, _*_, _≤_, _<_}
+use mathlib.Core.Path.{_≡_}
 use mathlib.Core.Bool.{Bool, true, false, _&&_, cond}
 use mathlib.Core.List.{List}
 use lib.Dec.{eqb, ltb}
@@ -31,10 +32,14 @@ unfoldable pub hold : ℕ → ℕ → List Float → ℕ
 unfolding held
 hold s i xs = held (2 * s) i (s - (i + 1)) xs
 
--- "Held magnitude below 2^-52", of which step i stops: false where the magnitude is a NaN
+-- 2^-52
+abbrev pub epsilon : Float
+epsilon = ofBits binary64 0x3cb0_0000_0000_0000
+
+-- "Held magnitude below 2^-52", at which step i stops: not where it equals 2^-52, and not where it is a NaN
 unfoldable pub small : ℕ → ℕ → List Float → Bool
 unfolding hold
-small s i xs = lt (magnitude (2 * s) i xs (hold s i xs)) (ofBits binary64 0x3cb0_0000_0000_0000)
+small s i xs = lt (magnitude (2 * s) i xs (hold s i xs)) epsilon
 
 -- "Swap": rows i and r, each with what the other held
 unfoldable pub swapped : ℕ → ℕ → ℕ → List Float → List Float
@@ -48,7 +53,7 @@ divided width i xs = written (i * width) width (λ j. div binary64 (at width xs 
 unfoldable pub reduced : ℕ → ℕ → ℕ → Float → List Float → List Float
 reduced width i k factor xs = written (k * width) width (λ j. sub binary64 (at width xs k j) (mul binary64 factor (at width xs i j))) xs
 
--- whether row k is left as it is: row i itself, and where the call skips it a row whose factor is zero, of either sign
+-- whether row k is left as it is: row i itself and, where `skip` is true, a row whose factor is zero, of either sign
 unfoldable pub spared : Bool → ℕ → ℕ → ℕ → List Float → Bool
 spared skip width i k xs = cond (eqb k i) true (skip && eq (at width xs k i) (ofBits binary64 0))
 
@@ -88,3 +93,21 @@ unfolding run
 eliminated skip s xs =
     let all = run skip s s 0 xs in
     cond (ltb (length xs) (2 * s * s)) (ended TooShort xs) all
+
+-- the area once the steps below n are done
+unfoldable pub stepped : Bool → ℕ → ℕ → List Float → List Float
+unfolding step
+stepped skip s zero xs = xs
+stepped skip s (suc n) xs = step skip s n (stepped skip s n xs)
+
+-- the area holds the matrix, and the first n of its s steps go through: none of them holds a small magnitude
+pub record Through (skip : Bool) (s n : ℕ) (xs : List Float) : Type 0 where
+  pub whole : 2 * s * s ≤ length xs
+  pub steps : n ≤ s
+  pub none : (k : ℕ) → k < n → small s k (stepped skip s k xs) ≡ false
+
+-- "19 needs the held pivot of a step": the steps before step i go through, and the magnitude that step i holds is small
+pub record StopsAt (skip : Bool) (s i : ℕ) (xs : List Float) : Type 0 where
+  pub before : Through skip s i xs
+  pub reached : i < s
+  pub below : small s i (stepped skip s i xs) ≡ true

@@ -1,11 +1,11 @@
 -- `elimination::clear_others` meets its contract: after k turns the first k rows are cleared. Assumes nothing.
 use Prim.Native.Nat.{ℕ, _≤_, _<_, _*_, _+_, _-_}
-use mathlib.Core.Path.{_≡_, refl, ap, sym, _∙_}
-use mathlib.Core.Logic.{⊎-elim, inl, inr}
+use mathlib.Core.Path.{_≡_, refl, ap, _∙_}
+use mathlib.Core.Logic.{_≢_, ⊎-elim, inl, inr}
 use native.Mathlib.Omega.{arith}
 use borrow.Author.Needs.{needs}
 use lib.ListN.{length}
-use Rattle.elimination.specs.Elimination.{at, cleared}
+use Rattle.elimination.specs.Elimination.{cleared}
 use Rattle.elimination.proofs.Rows.{row-inside}
 use Rattle.elimination.proofs.Keeps.{kept-cleared}
 use Rattle.elimination.proofs.Clear.{own-row, skipped-row, cleared-row}
@@ -49,7 +49,7 @@ clear-row-requires c κs =
     let t = c .before .before .before .before in
     let a = t .before .before .before .args in
     let l = t .before .loop in
-    (λ e. c .before .before .before .if1 .taken (sym e), omega (arith, row-inside (a .size) (a .i) (length (l .work)) (omega arith) (omega arith)), in-row t)
+    (omega (arith, c .before .before .before .if1 .taken), omega (arith, row-inside (a .size) (a .i) (length (l .work)) (omega arith) (omega arith)), in-row t)
 
 add-k : tie.Need-add-k Inv-loop μ-loop
 add-k c = omega arith
@@ -65,10 +65,17 @@ loop-again c =
     let xs = a .work .now in
     let e : c .if1 .work ≡ cleared (a .skip) w (a .i) (l .k + 1) xs =
     ⊎-elim
-    (λ t. t .7 ∙ cleared-row (a .skip) w (a .i) (l .k) xs _ (l .work) (l .inv .5) (t .0 .taken) (⊎-elim (λ u. inl (u .taken)) (λ u. inr (u .1 .taken)) (t .2 .came)) (t .4 .ensures))
+    (λ t.
+    let n : l .k ≢ a .i = omega (arith, t .0 .taken) in
+    t .7
+    ∙ cleared-row (a .skip) w (a .i) (l .k) xs _ (l .work) (l .inv .5) n (⊎-elim (λ u. inl (u .taken)) (λ u. inr (u .1 .taken)) (t .2 .came)) (t .4 .ensures))
     (⊎-elim
-    (λ t. t .4 ∙ skipped-row (a .skip) w (a .i) (l .k) xs (l .work) (l .inv .5) (t .0 .taken) (t .2 .left) (t .3 .left))
-    (λ t. t .1 ∙ own-row (a .skip) w (a .i) (l .k) xs (l .work) (l .inv .5) (t .0 .left)))
+    (λ t.
+    let n : l .k ≢ a .i = omega (arith, t .0 .taken) in
+    t .4 ∙ skipped-row (a .skip) w (a .i) (l .k) xs (l .work) (l .inv .5) n (t .2 .left) (t .3 .left))
+    (λ t.
+    let own : l .k ≡ a .i = omega (arith, t .0 .left) in
+    t .1 ∙ own-row (a .skip) w (a .i) (l .k) xs (l .work) (l .inv .5) own))
     (c .if1 .came) in
     (omega arith, refl, omega arith, omega arith, ap length e ∙ kept-cleared w (a .size) (a .skip) (a .i) (l .k + 1) xs (omega arith) .len, e)
 
