@@ -50,3 +50,21 @@ numbers s =
 -- how many these are for n wells, m nodes and k external columns
 abbrev pub numberCount : ℕ → ℕ → ℕ → ℕ
 numberCount n m k = 5 + n + 2 * n + k * n + 2 * m + k * m
+
+-- a survey without what is ignored
+abbrev pub withoutIgnored : Survey → Survey
+withoutIgnored s =
+    record {
+      model = s .model;
+      nugget = s .nugget;
+      sill = s .sill;
+      range = s .range;
+      regularization = s .regularization;
+      tolerance = s .tolerance;
+      values = s .values;
+      coordinates = s .coordinates;
+      external = s .external;
+      nodes = s .nodes;
+      nodeExternal = nodeExternals s;
+      codes = s .codes;
+    }
