@@ -9,9 +9,9 @@ use lib.Dec.{T, ltb, ltb→lt}
 use Rattle.error.specs.Tests.{Test, firstOf}
 
 -- no test of the list holds
-abbrev pub noneHolds : List Test → Bool
-noneHolds [] = true
-noneHolds (t ∷ ts) = not (t .holds) && noneHolds ts
+abbrev pub NoneHolds : List Test → Type 0
+NoneHolds [] = Unit {0}
+NoneHolds (t ∷ ts) = T (not (t .holds)) × NoneHolds ts
 
 -- no test of the list has the number 0, which is an answer's
 abbrev pub numbered : List Test → Bool
@@ -24,7 +24,7 @@ pub record First (ts : List Test) (k : ℕ) : Type 0 where
   pub it : Test
   pub after : List Test
   pub place : ts ≡ before ++ it ∷ after
-  pub none-before : T (noneHolds before)
+  pub none-before : NoneHolds before
   pub holds : T (it .holds)
   pub number : it .number ≡ k
 
@@ -37,16 +37,16 @@ and-r true b x = x
 and-r false b x = absurd x
 
 -- ---- 0 exactly when none holds
-pub none-is-zero : (ts : List Test) → T (noneHolds ts) → firstOf ts ≡ 0
+pub none-is-zero : (ts : List Test) → NoneHolds ts → firstOf ts ≡ 0
 unfolding firstOf
 none-is-zero [] h = refl
 none-is-zero (t ∷ ts) h = go (t .holds) (none-is-zero ts) h
   where
-    go : (b : Bool) → (T (noneHolds ts) → firstOf ts ≡ 0) → T (not b && noneHolds ts) → cond b (t .number) (firstOf ts) ≡ 0
-    go true r x = absurd x
-    go false r x = r x
+    go : (b : Bool) → (NoneHolds ts → firstOf ts ≡ 0) → (T (not b) × NoneHolds ts) → cond b (t .number) (firstOf ts) ≡ 0
+    go true r x = absurd (x .0)
+    go false r x = r (x .1)
 
-pub zero-is-none : (ts : List Test) → T (numbered ts) → firstOf ts ≡ 0 → T (noneHolds ts)
+pub zero-is-none : (ts : List Test) → T (numbered ts) → firstOf ts ≡ 0 → NoneHolds ts
 unfolding firstOf
 zero-is-none [] n h = tt
 zero-is-none (t ∷ ts) n h = go (t .holds) (zero-is-none ts (and-r (ltb 0 (t .number)) (numbered ts) n)) h
@@ -54,15 +54,15 @@ zero-is-none (t ∷ ts) n h = go (t .holds) (zero-is-none ts (and-r (ltb 0 (t .n
     positive : 0 < t .number
     positive = ltb→lt 0 (t .number) (and-l (ltb 0 (t .number)) (numbered ts) n)
 
-    go : (b : Bool) → (firstOf ts ≡ 0 → T (noneHolds ts)) → cond b (t .number) (firstOf ts) ≡ 0 → T (not b && noneHolds ts)
+    go : (b : Bool) → (firstOf ts ≡ 0 → NoneHolds ts) → cond b (t .number) (firstOf ts) ≡ 0 → T (not b) × NoneHolds ts
     go true r x = let p = positive in absurd (omega arith)
-    go false r x = r x
+    go false r x = (tt, r x)
 
-pub zero-exactly : (ts : List Test) → T (numbered ts) → (firstOf ts ≡ 0) ↔ T (noneHolds ts)
+pub zero-exactly : (ts : List Test) → T (numbered ts) → (firstOf ts ≡ 0) ↔ NoneHolds ts
 zero-exactly ts n = (zero-is-none ts n, none-is-zero ts)
 
 -- ---- any other number is that of the first test that holds
-pub first-is : (before : List Test) (it : Test) (after : List Test) → T (noneHolds before) → T (it .holds) → firstOf (before ++ it ∷ after) ≡ it .number
+pub first-is : (before : List Test) (it : Test) (after : List Test) → NoneHolds before → T (it .holds) → firstOf (before ++ it ∷ after) ≡ it .number
 unfolding firstOf
 first-is [] it after n h = go (it .holds) h
   where
@@ -71,9 +71,9 @@ first-is [] it after n h = go (it .holds) h
     go false x = absurd x
 first-is (t ∷ ts) it after n h = go (t .holds) (λ m. first-is ts it after m h) n
   where
-    go : (b : Bool) → (T (noneHolds ts) → firstOf (ts ++ it ∷ after) ≡ it .number) → T (not b && noneHolds ts) → cond b (t .number) (firstOf (ts ++ it ∷ after)) ≡ it .number
-    go true r x = absurd x
-    go false r x = r x
+    go : (b : Bool) → (NoneHolds ts → firstOf (ts ++ it ∷ after) ≡ it .number) → (T (not b) × NoneHolds ts) → cond b (t .number) (firstOf (ts ++ it ∷ after)) ≡ it .number
+    go true r x = absurd (x .0)
+    go false r x = r (x .1)
 
 pub first-of : (ts : List Test) (k : ℕ) → firstOf ts ≡ k → k ≢ 0 → First ts k
 unfolding firstOf
@@ -89,7 +89,7 @@ first-of (t ∷ ts) k e n = go (t .holds) refl (λ f. first-of ts k f n) e
           it = f .it;
           after = f .after;
           place = ap {B = List Test} (λ l. t ∷ l) (f .place);
-          none-before = rw is (f .none-before);
+          none-before = (rw is tt, f .none-before);
           holds = f .holds;
           number = f .number;
         }

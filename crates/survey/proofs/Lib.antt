@@ -3,4 +3,7 @@ pub mod Bytes
 pub mod Filled
 pub mod WellFormed
 pub mod Lists
+pub mod ReadBack
+pub mod Refusals
+pub mod RoundTrip
 pub mod Sounding

@@ -23,8 +23,7 @@ Fail (b ∷ bs) = T (not b) × Fail bs
 pub none-of : (a : Bool) (bs : List Bool) → T (not (orAll a bs)) ↔ Fail (a ∷ bs)
 none-of a [] = (λ x. (x, tt), λ x. x .0)
 none-of a (b ∷ bs) =
-    let r = none-of (a || b) bs in
-    (
+    let r = none-of (a || b) bs in (
       λ x. let y = r .0 x in let z = neither a b .0 (y .0) in (z .0, (z .1, y .1)),
       λ x. r .1 (neither a b .1 (x .0, x .1 .0), x .1 .1),
     )

@@ -60,16 +60,31 @@ unfolding malformed tests
 not-malformed bytes w =
     let model = modelIn bytes in
     let l : length bytes ≡ lengthIn bytes = let x = w .meet in omega arith in
-    none-of (ltb (length bytes) 14) (tests bytes) .1
-    (at-most (length bytes) 14 .1 (w .least),
-    (at-most 65536 (length bytes) .1 (w .most),
-    (at-most (length bytes - 14) (codeCountIn bytes) .1 (w .codes),
-    (equal (length bytes) (lengthIn bytes) .1 l,
-    (not-not (leb 1 model && leb model 4) .1 (both (leb 1 model) (leb model 4) .1 (le→leb 1 model (w .model-least), le→leb model 4 (w .model-most))),
-    (equal (versionIn bytes) 1 .1 (w .version),
-    (equal (zeroIn bytes) 0 .1 (w .zero-byte),
-    (equal (lastZeroIn bytes) 0 .1 (w .last-zero-byte),
-    tt))))))))
+    none-of (ltb (length bytes) 14) (tests bytes) .1 (
+      at-most (length bytes) 14 .1 (w .least),
+      (
+        at-most 65536 (length bytes) .1 (w .most),
+        (
+          at-most (length bytes - 14) (codeCountIn bytes) .1 (w .codes),
+          (
+            equal (length bytes) (lengthIn bytes) .1 l,
+            (
+              not-not (leb 1 model && leb model 4) .1 (both (leb 1 model) (leb model 4) .1 (le→leb 1 model (w .model-least), le→leb model 4 (w .model-most))),
+              (
+                equal (versionIn bytes) 1 .1 (w .version),
+                (
+                  equal (zeroIn bytes) 0 .1 (w .zero-byte),
+                  (
+                    equal (lastZeroIn bytes) 0 .1 (w .last-zero-byte),
+                    tt,
+                  ),
+                ),
+              ),
+            ),
+          ),
+        ),
+      ),
+    )
 
 -- ---- what is read, exactly when
 pub reads : (bytes : List ℕ) → WellFormed bytes → readBytes bytes ≡ some (surveyIn bytes)
