@@ -6,4 +6,5 @@ pub mod Lists
 pub mod ReadBack
 pub mod Refusals
 pub mod RoundTrip
+pub mod Changes
 pub mod Sounding
