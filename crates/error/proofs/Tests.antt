@@ -5,7 +5,7 @@ use mathlib.Core.Path.{_≡_, refl, ap, sym}
 use mathlib.Core.Logic.{_≢_, _↔_}
 use mathlib.Core.Bool.{Bool, true, false, not, _&&_, cond}
 use mathlib.Core.List.{List, [], _∷_, _++_}
-use lib.Dec.{T, ltb, ltb→lt}
+use lib.Dec.{T, ltb, eqb, ltb→lt, eqb→eq}
 use Rattle.error.specs.Tests.{Test, firstOf}
 
 -- no test of the list holds
@@ -93,3 +93,36 @@ first-of (t ∷ ts) k e n = go (t .holds) refl (λ f. first-of ts k f n) e
           holds = f .holds;
           number = f .number;
         }
+
+-- ---- tests after others
+pub first-append-zero : (ts us : List Test) → NoneHolds ts → firstOf (ts ++ us) ≡ firstOf us
+unfolding firstOf
+first-append-zero [] us n = refl
+first-append-zero (t ∷ ts) us n = go (t .holds) (first-append-zero ts us) n
+  where
+    go : (b : Bool) → (NoneHolds ts → firstOf (ts ++ us) ≡ firstOf us) → (T (not b) × NoneHolds ts) → cond b (t .number) (firstOf (ts ++ us)) ≡ firstOf us
+    go true r x = absurd (x .0)
+    go false r x = r (x .1)
+
+pub first-append : (ts us : List Test) → firstOf ts ≢ 0 → firstOf (ts ++ us) ≡ firstOf ts
+unfolding firstOf
+first-append [] us n = absurd (n refl)
+first-append (t ∷ ts) us n = go (t .holds) (first-append ts us) n
+  where
+    go : (b : Bool) → (firstOf ts ≢ 0 → firstOf (ts ++ us) ≡ firstOf ts) → cond b (t .number) (firstOf ts) ≢ 0 → cond b (t .number) (firstOf (ts ++ us)) ≡ cond b (t .number) (firstOf ts)
+    go true r x = refl
+    go false r x = r x
+
+-- ---- tests of one number
+abbrev pub allOf : ℕ → List Test → Bool
+allOf k [] = true
+allOf k (t ∷ ts) = eqb (t .number) k && allOf k ts
+
+pub one-number : (k : ℕ) (ts : List Test) → T (allOf k ts) → firstOf ts ≢ 0 → firstOf ts ≡ k
+unfolding firstOf
+one-number k [] a n = absurd (n refl)
+one-number k (t ∷ ts) a n = go (t .holds) (one-number k ts (and-r (eqb (t .number) k) (allOf k ts) a)) n
+  where
+    go : (b : Bool) → (firstOf ts ≢ 0 → firstOf ts ≡ k) → cond b (t .number) (firstOf ts) ≢ 0 → cond b (t .number) (firstOf ts) ≡ k
+    go true r x = eqb→eq (t .number) k (and-l (eqb (t .number) k) (allOf k ts) a)
+    go false r x = r x

@@ -28,9 +28,9 @@ changed bytes i v h g =
 changed-refused : (bytes : List ℕ) (i v : ℕ) → i < 14 → ((b : List ℕ) → WellFormed b → getD (trailerIn b) i 0 ≡ v → ⊥) → readBytes (set bytes (length bytes - 14 + i) v) ≡ none
 changed-refused bytes i v g never =
     refuses (set bytes (length bytes - 14 + i) v) λ w.
-        let l = length-set bytes (length bytes - 14 + i) v in
-        let m = w .least in
-        never (set bytes (length bytes - 14 + i) v) w (changed bytes i v (omega arith) g)
+    let l = length-set bytes (length bytes - 14 + i) v in
+    let m = w .least in
+    never (set bytes (length bytes - 14 + i) v) w (changed bytes i v (omega arith) g)
 
 pub model-changed : (bytes : List ℕ) (v : ℕ) → (v < 1) ⊎ (4 < v) → readBytes (set bytes (length bytes - 14 + 10) v) ≡ none
 model-changed bytes v (inl h) = changed-refused bytes 10 v (omega arith) (λ b w e. let m = w .model-least in omega arith)
@@ -49,7 +49,7 @@ last-zero-changed bytes v h = changed-refused bytes 13 v (omega arith) (λ b w e
 pub length-changed : (bytes others : List ℕ) → WellFormed bytes → trailerIn others ≡ trailerIn bytes → codesIn others ≡ codesIn bytes → length others ≢ length bytes → readBytes others ≡ none
 length-changed bytes others w t c n =
     refuses others λ v.
-        n (v .meet ∙ (λ i. numberIn (take 4 (t i)) + 8 * (5 + 3 * numberIn (take 2 (drop 4 (t i))) + externalColumns (c i) * numberIn (take 2 (drop 4 (t i))) + 2 * numberIn (take 2 (drop 6 (t i))) + externalColumns (c i) * numberIn (take 2 (drop 6 (t i)))) + numberIn (take 2 (drop 8 (t i))) + 14) ∙ sym (w .meet))
+    n (v .meet ∙ (λ i. numberIn (take 4 (t i)) + 8 * (5 + 3 * numberIn (take 2 (drop 4 (t i))) + externalColumns (c i) * numberIn (take 2 (drop 4 (t i))) + 2 * numberIn (take 2 (drop 6 (t i))) + externalColumns (c i) * numberIn (take 2 (drop 6 (t i)))) + numberIn (take 2 (drop 8 (t i))) + 14) ∙ sym (w .meet))
 
 -- ---- a length that the trailer states: the bytes before the trailer are the same
 pub record SameBody (bytes others : List ℕ) : Type 0 where
@@ -106,8 +106,8 @@ only-one : (a b : ℕ) {x y : ℕ} → (a < b → x < y) → (b < a → y < x) �
 only-one a b f g e = elim (decLt a b) [
   | yes p ↦ absurd (let h = f p in omega arith)
   | no p ↦ elim (decLt b a) [
-      | yes q ↦ absurd (let h = g q in omega arith)
-      | no q ↦ omega arith
+    | yes q ↦ absurd (let h = g q in omega arith)
+    | no q ↦ omega arith
   ]
 ]
 
@@ -115,47 +115,47 @@ module _ (bytes others : List ℕ) (w : WellFormed bytes) (same : SameBody bytes
   pub start-changed : wellsIn others ≡ wellsIn bytes → nodesIn others ≡ nodesIn bytes → codeCountIn others ≡ codeCountIn bytes → startIn others ≢ startIn bytes → readBytes others ≡ none
   start-changed n m c d =
       refuses others λ v.
-          let k = same-columns bytes others same w v c in
-          let sums : total (startIn others) (wellsIn bytes) (nodesIn bytes) (columnsIn bytes) (codeCountIn bytes) ≡ total (startIn bytes) (wellsIn bytes) (nodesIn bytes) (columnsIn bytes) (codeCountIn bytes) =
-          sym (λ i. total (startIn others) (n i) (m i) (k i) (c i)) ∙ sym (v .meet) ∙ same .len ∙ w .meet in
-          d (only-one (startIn others) (startIn bytes) (λ h. omega arith) (λ h. omega arith) sums)
+      let k = same-columns bytes others same w v c in
+      let sums : total (startIn others) (wellsIn bytes) (nodesIn bytes) (columnsIn bytes) (codeCountIn bytes) ≡ total (startIn bytes) (wellsIn bytes) (nodesIn bytes) (columnsIn bytes) (codeCountIn bytes) =
+      sym (λ i. total (startIn others) (n i) (m i) (k i) (c i)) ∙ sym (v .meet) ∙ same .len ∙ w .meet in
+      d (only-one (startIn others) (startIn bytes) (λ h. omega arith) (λ h. omega arith) sums)
 
   pub wells-changed : startIn others ≡ startIn bytes → nodesIn others ≡ nodesIn bytes → codeCountIn others ≡ codeCountIn bytes → wellsIn others ≢ wellsIn bytes → readBytes others ≡ none
   wells-changed s m c d =
       refuses others λ v.
-          let k = same-columns bytes others same w v c in
-          let sums : total (startIn bytes) (wellsIn others) (nodesIn bytes) (columnsIn bytes) (codeCountIn bytes) ≡ total (startIn bytes) (wellsIn bytes) (nodesIn bytes) (columnsIn bytes) (codeCountIn bytes) =
-          sym (λ i. total (s i) (wellsIn others) (m i) (k i) (c i)) ∙ sym (v .meet) ∙ same .len ∙ w .meet in
-          d (only-one (wellsIn others) (wellsIn bytes)
-          (more-wells (startIn bytes) (wellsIn others) (wellsIn bytes) (nodesIn bytes) (columnsIn bytes) (codeCountIn bytes))
-          (more-wells (startIn bytes) (wellsIn bytes) (wellsIn others) (nodesIn bytes) (columnsIn bytes) (codeCountIn bytes))
-          sums)
+      let k = same-columns bytes others same w v c in
+      let sums : total (startIn bytes) (wellsIn others) (nodesIn bytes) (columnsIn bytes) (codeCountIn bytes) ≡ total (startIn bytes) (wellsIn bytes) (nodesIn bytes) (columnsIn bytes) (codeCountIn bytes) =
+      sym (λ i. total (s i) (wellsIn others) (m i) (k i) (c i)) ∙ sym (v .meet) ∙ same .len ∙ w .meet in
+      d (only-one (wellsIn others) (wellsIn bytes)
+      (more-wells (startIn bytes) (wellsIn others) (wellsIn bytes) (nodesIn bytes) (columnsIn bytes) (codeCountIn bytes))
+      (more-wells (startIn bytes) (wellsIn bytes) (wellsIn others) (nodesIn bytes) (columnsIn bytes) (codeCountIn bytes))
+      sums)
 
   pub nodes-changed : startIn others ≡ startIn bytes → wellsIn others ≡ wellsIn bytes → codeCountIn others ≡ codeCountIn bytes → nodesIn others ≢ nodesIn bytes → readBytes others ≡ none
   nodes-changed s n c d =
       refuses others λ v.
-          let k = same-columns bytes others same w v c in
-          let sums : total (startIn bytes) (wellsIn bytes) (nodesIn others) (columnsIn bytes) (codeCountIn bytes) ≡ total (startIn bytes) (wellsIn bytes) (nodesIn bytes) (columnsIn bytes) (codeCountIn bytes) =
-          sym (λ i. total (s i) (n i) (nodesIn others) (k i) (c i)) ∙ sym (v .meet) ∙ same .len ∙ w .meet in
-          d (only-one (nodesIn others) (nodesIn bytes)
-          (more-nodes (startIn bytes) (wellsIn bytes) (nodesIn others) (nodesIn bytes) (columnsIn bytes) (codeCountIn bytes))
-          (more-nodes (startIn bytes) (wellsIn bytes) (nodesIn bytes) (nodesIn others) (columnsIn bytes) (codeCountIn bytes))
-          sums)
+      let k = same-columns bytes others same w v c in
+      let sums : total (startIn bytes) (wellsIn bytes) (nodesIn others) (columnsIn bytes) (codeCountIn bytes) ≡ total (startIn bytes) (wellsIn bytes) (nodesIn bytes) (columnsIn bytes) (codeCountIn bytes) =
+      sym (λ i. total (s i) (n i) (nodesIn others) (k i) (c i)) ∙ sym (v .meet) ∙ same .len ∙ w .meet in
+      d (only-one (nodesIn others) (nodesIn bytes)
+      (more-nodes (startIn bytes) (wellsIn bytes) (nodesIn others) (nodesIn bytes) (columnsIn bytes) (codeCountIn bytes))
+      (more-nodes (startIn bytes) (wellsIn bytes) (nodesIn bytes) (nodesIn others) (columnsIn bytes) (codeCountIn bytes))
+      sums)
 
   -- with the count of the codes their number of 4s may change too, but only the same way
   pub code-count-changed : startIn others ≡ startIn bytes → wellsIn others ≡ wellsIn bytes → nodesIn others ≡ nodesIn bytes → codeCountIn others ≢ codeCountIn bytes → readBytes others ≡ none
   code-count-changed s n m d =
       refuses others λ v.
-          let body = take (length bytes - 14) bytes in
-          let k : columnsIn others ≡ externalColumns (drop (length bytes - 14 - codeCountIn others) body) = ap externalColumns (codes-in-other bytes others same v) in
-          let l : columnsIn bytes ≡ externalColumns (drop (length bytes - 14 - codeCountIn bytes) body) = ap externalColumns (codes-are bytes w) in
-          let sums : total (startIn bytes) (wellsIn bytes) (nodesIn bytes) (columnsIn others) (codeCountIn others) ≡ total (startIn bytes) (wellsIn bytes) (nodesIn bytes) (columnsIn bytes) (codeCountIn bytes) =
-          sym (λ i. total (s i) (n i) (m i) (columnsIn others) (codeCountIn others)) ∙ sym (v .meet) ∙ same .len ∙ w .meet in
-          d (only-one (codeCountIn others) (codeCountIn bytes)
-          (λ h.
-          let g = columns-later (length bytes - 14 - codeCountIn bytes) (length bytes - 14 - codeCountIn others) body (omega arith) in
-          more-codes (startIn bytes) (wellsIn bytes) (nodesIn bytes) (columnsIn others) (columnsIn bytes) (codeCountIn others) (codeCountIn bytes) (omega arith) h)
-          (λ h.
-          let g = columns-later (length bytes - 14 - codeCountIn others) (length bytes - 14 - codeCountIn bytes) body (omega arith) in
-          more-codes (startIn bytes) (wellsIn bytes) (nodesIn bytes) (columnsIn bytes) (columnsIn others) (codeCountIn bytes) (codeCountIn others) (omega arith) h)
-          sums)
+      let body = take (length bytes - 14) bytes in
+      let k : columnsIn others ≡ externalColumns (drop (length bytes - 14 - codeCountIn others) body) = ap externalColumns (codes-in-other bytes others same v) in
+      let l : columnsIn bytes ≡ externalColumns (drop (length bytes - 14 - codeCountIn bytes) body) = ap externalColumns (codes-are bytes w) in
+      let sums : total (startIn bytes) (wellsIn bytes) (nodesIn bytes) (columnsIn others) (codeCountIn others) ≡ total (startIn bytes) (wellsIn bytes) (nodesIn bytes) (columnsIn bytes) (codeCountIn bytes) =
+      sym (λ i. total (s i) (n i) (m i) (columnsIn others) (codeCountIn others)) ∙ sym (v .meet) ∙ same .len ∙ w .meet in
+      d (only-one (codeCountIn others) (codeCountIn bytes)
+      (λ h.
+      let g = columns-later (length bytes - 14 - codeCountIn bytes) (length bytes - 14 - codeCountIn others) body (omega arith) in
+      more-codes (startIn bytes) (wellsIn bytes) (nodesIn bytes) (columnsIn others) (columnsIn bytes) (codeCountIn others) (codeCountIn bytes) (omega arith) h)
+      (λ h.
+      let g = columns-later (length bytes - 14 - codeCountIn others) (length bytes - 14 - codeCountIn bytes) body (omega arith) in
+      more-codes (startIn bytes) (wellsIn bytes) (nodesIn bytes) (columnsIn bytes) (columnsIn others) (codeCountIn bytes) (codeCountIn others) (omega arith) h)
+      sums)

@@ -5,17 +5,18 @@ use mathlib.Core.Path.{_≡_, refl, ap, sym, _∙_, subst}
 use mathlib.Core.Logic.{_↔_, _≢_}
 use mathlib.Core.Bool.{Bool, true, false, not, _&&_, _||_, cond}
 use mathlib.Core.List.{List, [], _∷_}
+use mathlib.Core.Option.{Option, none, some}
 use lib.Dec.{T, eqb, ltb, ltb→lt, lt→ltb, eqb→eq}
 use lib.ListN.{length}
 use lib.Ieee.Fits.{eq→eqb}
 use Rattle.error.specs.Tests.{Test, test, firstOf}
-use Rattle.error.proofs.Tests.{First, none-is-zero, zero-is-none, first-of}
+use Rattle.error.proofs.Tests.{First, none-is-zero, zero-is-none, first-of, first-append-zero, first-append, one-number}
 use Rattle.survey.specs.Survey.{Survey, wells, nodeCount, columns, nodeExternals, numbers}
-use Rattle.survey.specs.Areas.{Areas}
-use Rattle.survey.specs.Reader.{wellsIn, nodesIn, columnsIn, codeCountIn, malformed, tooShort, readerTests, readingOf, reader}
+use Rattle.survey.specs.Areas.{Areas, allFilled}
+use Rattle.survey.specs.Reader.{Reading, headerOf, surveyIn, wellsIn, nodesIn, columnsIn, codeCountIn, fileTests, areaTests, readerTests, readBytes, readingOf, reader}
 use Rattle.survey.specs.Writer.{allFinite, writerFile, writerTests, writingOf, writer}
-use Rattle.survey.proofs.Truth.{none-of, not-not, equal, at-most}
-use Rattle.survey.proofs.WellFormed.{WellFormed, well-formed, not-malformed}
+use Rattle.survey.proofs.Truth.{not-not, equal, at-most, only-where}
+use Rattle.survey.proofs.WellFormed.{WellFormed, no-flaw, no-refusal, reads, read-well-formed, refused-exactly}
 
 -- ---- the writer
 pub writer-number : (s : Survey) (area : List ℕ) → writer s area .number ≡ firstOf (writerTests s area)
@@ -39,37 +40,25 @@ pub record Writable (s : Survey) (area : List ℕ) : Type 0 where
   pub few-codes : length (s .codes) ≤ 65535
   pub room : length (writerFile s) ≤ length area
 
--- a test that is made only where another holds
-only-where : (a b : Bool) → T (not (a && not b)) ↔ (T a → T b)
-only-where true b = (λ x y. not-not b .0 x, λ f. not-not b .1 (f tt))
-only-where false b = (λ x y. absurd y, λ f. tt)
-
--- the tests of the writer's 16 after the first
-counts : Survey → List Bool
-counts s = ltb 65535 (wells s) ∷ ltb 65535 (nodeCount s) ∷ ltb 65535 (length (s .codes)) ∷ []
-
 pub writable : (s : Survey) (area : List ℕ) → writer s area .number ≡ 0 → Writable s area
-unfolding counts
 writable s area e =
     let n = zero-is-none (writerTests s area) tt (sym (writer-number s area) ∙ e) in
     let k = columns s in
     let o = only-where (ltb 0 k) (eqb (length (s .nodeExternal)) (k * nodeCount s)) .0 (n .1 .1 .1 .0) in
-    let f = none-of (ltb 65536 (length (writerFile s))) (counts s) .0 (n .1 .1 .1 .1 .1 .0) in
     record {
       coordinates = equal (length (s .coordinates)) (2 * wells s) .0 (n .0);
       nodes = equal (length (s .nodes) % 2) 0 .0 (n .1 .0);
       external = equal (length (s .external)) (k * wells s) .0 (n .1 .1 .0);
       nodeExternal = λ h. eqb→eq (length (s .nodeExternal)) (k * nodeCount s) (o (lt→ltb 0 k h));
       finite = not-not (allFinite (numbers s)) .0 (n .1 .1 .1 .1 .0);
-      size = at-most 65536 (length (writerFile s)) .0 (f .0);
-      few-wells = at-most 65535 (wells s) .0 (f .1 .0);
-      few-nodes = at-most 65535 (nodeCount s) .0 (f .1 .1 .0);
-      few-codes = at-most 65535 (length (s .codes)) .0 (f .1 .1 .1 .0);
-      room = at-most (length area) (length (writerFile s)) .0 (n .1 .1 .1 .1 .1 .1 .0);
+      size = at-most 65536 (length (writerFile s)) .0 (n .1 .1 .1 .1 .1 .0);
+      few-wells = at-most 65535 (wells s) .0 (n .1 .1 .1 .1 .1 .1 .0);
+      few-nodes = at-most 65535 (nodeCount s) .0 (n .1 .1 .1 .1 .1 .1 .1 .0);
+      few-codes = at-most 65535 (length (s .codes)) .0 (n .1 .1 .1 .1 .1 .1 .1 .1 .0);
+      room = at-most (length area) (length (writerFile s)) .0 (n .1 .1 .1 .1 .1 .1 .1 .1 .1 .0);
     }
 
 pub not-refused : (s : Survey) (area : List ℕ) → Writable s area → writer s area .number ≡ 0
-unfolding counts
 not-refused s area w =
     let k = columns s in
     writer-number s area
@@ -84,11 +73,19 @@ not-refused s area w =
             (
               not-not (allFinite (numbers s)) .1 (w .finite),
               (
-                none-of (ltb 65536 (length (writerFile s))) (counts s) .1
-                    (at-most 65536 (length (writerFile s)) .1 (w .size), (at-most 65535 (wells s) .1 (w .few-wells), (at-most 65535 (nodeCount s) .1 (w .few-nodes), (at-most 65535 (length (s .codes)) .1 (w .few-codes), tt)))),
+                at-most 65536 (length (writerFile s)) .1 (w .size),
                 (
-                  at-most (length area) (length (writerFile s)) .1 (w .room),
-                  tt,
+                  at-most 65535 (wells s) .1 (w .few-wells),
+                  (
+                    at-most 65535 (nodeCount s) .1 (w .few-nodes),
+                    (
+                      at-most 65535 (length (s .codes)) .1 (w .few-codes),
+                      (
+                        at-most (length area) (length (writerFile s)) .1 (w .room),
+                        tt,
+                      ),
+                    ),
+                  ),
                 ),
               ),
             ),
@@ -122,35 +119,21 @@ pub record Room (bytes : List ℕ) (areas : Areas) : Type 0 where
   pub nodeExternal : columnsIn bytes * nodesIn bytes ≤ length (areas .nodeExternal)
   pub codes : codeCountIn bytes ≤ length (areas .codes)
 
-lengths : List ℕ → Areas → List Bool
-lengths bytes areas =
-    ltb (length (areas .coordinates)) (2 * wellsIn bytes)
-    ∷ ltb (length (areas .external)) (columnsIn bytes * wellsIn bytes)
-    ∷ ltb (length (areas .nodes)) (2 * nodesIn bytes)
-    ∷ ltb (length (areas .nodeExternal)) (columnsIn bytes * nodesIn bytes)
-    ∷ ltb (length (areas .codes)) (codeCountIn bytes)
-    ∷ []
-
-short : List ℕ → Areas → Bool
-short bytes areas = tooShort (wellsIn bytes) (nodesIn bytes) (columnsIn bytes) (codeCountIn bytes) areas
-
-room : (bytes : List ℕ) (areas : Areas) → T (not (short bytes areas)) → Room bytes areas
-unfolding short lengths
-room bytes areas h =
-    let f = none-of (ltb (length (areas .values)) (wellsIn bytes)) (lengths bytes areas) .0 h in
+room : (bytes : List ℕ) (areas : Areas) → firstOf (areaTests bytes areas) ≡ 0 → Room bytes areas
+room bytes areas e =
+    let n = zero-is-none (areaTests bytes areas) tt e in
     record {
-      values = at-most (length (areas .values)) (wellsIn bytes) .0 (f .0);
-      coordinates = at-most (length (areas .coordinates)) (2 * wellsIn bytes) .0 (f .1 .0);
-      external = at-most (length (areas .external)) (columnsIn bytes * wellsIn bytes) .0 (f .1 .1 .0);
-      nodes = at-most (length (areas .nodes)) (2 * nodesIn bytes) .0 (f .1 .1 .1 .0);
-      nodeExternal = at-most (length (areas .nodeExternal)) (columnsIn bytes * nodesIn bytes) .0 (f .1 .1 .1 .1 .0);
-      codes = at-most (length (areas .codes)) (codeCountIn bytes) .0 (f .1 .1 .1 .1 .1 .0);
+      values = at-most (length (areas .values)) (wellsIn bytes) .0 (n .0);
+      coordinates = at-most (length (areas .coordinates)) (2 * wellsIn bytes) .0 (n .1 .0);
+      external = at-most (length (areas .external)) (columnsIn bytes * wellsIn bytes) .0 (n .1 .1 .0);
+      nodes = at-most (length (areas .nodes)) (2 * nodesIn bytes) .0 (n .1 .1 .1 .0);
+      nodeExternal = at-most (length (areas .nodeExternal)) (columnsIn bytes * nodesIn bytes) .0 (n .1 .1 .1 .1 .0);
+      codes = at-most (length (areas .codes)) (codeCountIn bytes) .0 (n .1 .1 .1 .1 .1 .0);
     }
 
-not-short : (bytes : List ℕ) (areas : Areas) → Room bytes areas → T (not (short bytes areas))
-unfolding short lengths
-not-short bytes areas r =
-    none-of (ltb (length (areas .values)) (wellsIn bytes)) (lengths bytes areas) .1 (
+enough : (bytes : List ℕ) (areas : Areas) → Room bytes areas → firstOf (areaTests bytes areas) ≡ 0
+enough bytes areas r =
+    none-is-zero (areaTests bytes areas) (
       at-most (length (areas .values)) (wellsIn bytes) .1 (r .values),
       (
         at-most (length (areas .coordinates)) (2 * wellsIn bytes) .1 (r .coordinates),
@@ -170,59 +153,81 @@ not-short bytes areas r =
       ),
     )
 
--- 0, 16 and 18 by the two tests
-abbrev numberBy : Bool → Bool → ℕ
-numberBy a b = cond a 16 (cond b 18 0)
+-- 16 comes before 18: past the file's tests the areas' alone count
+after-sixteen : (bytes : List ℕ) (areas : Areas) → WellFormed bytes → reader bytes areas .number ≡ firstOf (areaTests bytes areas)
+after-sixteen bytes areas w = reader-number bytes areas ∙ first-append-zero (fileTests bytes) (areaTests bytes areas) (no-flaw bytes w)
 
-by-tests : (a b : Bool) → firstOf (test 16 a ∷ test 18 b ∷ []) ≡ numberBy a b
-unfolding firstOf
-by-tests a b = refl
+is-eighteen : (bytes : List ℕ) (areas : Areas) → firstOf (areaTests bytes areas) ≢ 0 → firstOf (areaTests bytes areas) ≡ 18
+is-eighteen bytes areas n = one-number 18 (areaTests bytes areas) tt n
 
-number-by-tests : (bytes : List ℕ) (areas : Areas) → reader bytes areas .number ≡ numberBy (malformed bytes) (short bytes areas)
-unfolding short
-number-by-tests bytes areas = reader-number bytes areas ∙ by-tests (malformed bytes) (short bytes areas)
+malformed-sixteen : (bytes : List ℕ) (areas : Areas) → (WellFormed bytes → ⊥) → reader bytes areas .number ≡ 16
+malformed-sixteen bytes areas n =
+    let some-flaw : firstOf (fileTests bytes) ≢ 0 = λ e. n (no-refusal bytes .0 e) in
+    reader-number bytes areas
+    ∙ first-append (fileTests bytes) (areaTests bytes areas) some-flaw
+    ∙ one-number 16 (fileTests bytes) tt some-flaw
 
-zero-by : (a b : Bool) → (numberBy a b ≡ 0) ↔ (T (not a) × T (not b))
-zero-by true b = (λ x. absurd (omega arith), λ x. absurd (x .0))
-zero-by false true = (λ x. absurd (omega arith), λ x. absurd (x .1))
-zero-by false false = (λ x. (tt, tt), λ x. refl)
+well-formed-or-not : (bytes : List ℕ) → Dec (WellFormed bytes)
+well-formed-or-not bytes = go (firstOf (fileTests bytes)) refl
+  where
+    go : (r : ℕ) → firstOf (fileTests bytes) ≡ r → Dec (WellFormed bytes)
+    go zero e = yes (no-refusal bytes .0 e)
+    go (suc r) e = no (λ w. let z = no-refusal bytes .1 w in omega arith)
 
-sixteen-by : (a b : Bool) → (numberBy a b ≡ 16) ↔ (T (not a) → ⊥)
-sixteen-by true b = (λ x y. y, λ x. refl)
-sixteen-by false true = (λ x y. omega arith, λ x. absurd (x tt))
-sixteen-by false false = (λ x y. omega arith, λ x. absurd (x tt))
+not-sixteen : (bytes : List ℕ) (areas : Areas) → reader bytes areas .number ≢ 16 → WellFormed bytes
+not-sixteen bytes areas n = elim (well-formed-or-not bytes) [
+  | yes w ↦ w
+  | no m ↦ absurd (n (malformed-sixteen bytes areas m))
+]
 
-eighteen-by : (a b : Bool) → (numberBy a b ≡ 18) ↔ (T (not a) × (T (not b) → ⊥))
-eighteen-by true b = (λ x. absurd (omega arith), λ x. absurd (x .0))
-eighteen-by false true = (λ x. (tt, λ y. y), λ x. refl)
-eighteen-by false false = (λ x. absurd (omega arith), λ x. absurd (x .1 tt))
+not-both : (bytes : List ℕ) (areas : Areas) → firstOf (areaTests bytes areas) ≡ 16 → ⊥
+not-both bytes areas e = let x : firstOf (areaTests bytes areas) ≡ 18 = is-eighteen bytes areas (λ z. omega arith) in omega arith
 
 pub read-exactly : (bytes : List ℕ) (areas : Areas) → (reader bytes areas .number ≡ 0) ↔ (WellFormed bytes × Room bytes areas)
-read-exactly bytes areas =
-    let e = number-by-tests bytes areas in
-    let z = zero-by (malformed bytes) (short bytes areas) in (
-      λ x. let y = z .0 (sym e ∙ x) in (well-formed bytes (y .0), room bytes areas (y .1)),
-      λ x. e ∙ z .1 (not-malformed bytes (x .0), not-short bytes areas (x .1)),
-    )
+read-exactly bytes areas = (
+  λ e. let w = not-sixteen bytes areas (λ x. omega arith) in (w, room bytes areas (sym (after-sixteen bytes areas w) ∙ e)),
+  λ x. after-sixteen bytes areas (x .0) ∙ enough bytes areas (x .1),
+)
 
 pub sixteen-exactly : (bytes : List ℕ) (areas : Areas) → (reader bytes areas .number ≡ 16) ↔ (WellFormed bytes → ⊥)
-sixteen-exactly bytes areas =
-    let e = number-by-tests bytes areas in
-    let z = sixteen-by (malformed bytes) (short bytes areas) in
-    (λ x w. z .0 (sym e ∙ x) (not-malformed bytes w), λ n. e ∙ z .1 (λ h. n (well-formed bytes h)))
+sixteen-exactly bytes areas = (
+  λ e w. not-both bytes areas (sym (after-sixteen bytes areas w) ∙ e),
+  malformed-sixteen bytes areas,
+)
 
 pub eighteen-exactly : (bytes : List ℕ) (areas : Areas) → (reader bytes areas .number ≡ 18) ↔ (WellFormed bytes × (Room bytes areas → ⊥))
-eighteen-exactly bytes areas =
-    let e = number-by-tests bytes areas in
-    let z = eighteen-by (malformed bytes) (short bytes areas) in (
-      λ x. let y = z .0 (sym e ∙ x) in (well-formed bytes (y .0), λ r. y .1 (not-short bytes areas r)),
-      λ x. e ∙ z .1 (not-malformed bytes (x .0), λ h. x .1 (room bytes areas h)),
-    )
+eighteen-exactly bytes areas = (
+  λ e.
+      let w = not-sixteen bytes areas (λ x. omega arith) in
+      (w, λ r. let x = after-sixteen bytes areas w in let y = enough bytes areas r in omega arith),
+  λ x. after-sixteen bytes areas (x .0) ∙ is-eighteen bytes areas (λ e. x .1 (room bytes areas e)),
+)
+
+-- what `readBytes` refuses is what the call refuses by 16
+pub none-is-sixteen : (bytes : List ℕ) (areas : Areas) → (readBytes bytes ≡ none) ↔ (reader bytes areas .number ≡ 16)
+none-is-sixteen bytes areas = (
+  λ e. sixteen-exactly bytes areas .1 (refused-exactly bytes .0 e),
+  λ e. refused-exactly bytes .1 (sixteen-exactly bytes areas .0 e),
+)
+
+-- any number but 0 is the first in the paper's order whose condition holds
+pub reader-refuses : (bytes : List ℕ) (areas : Areas) (k : ℕ) → reader bytes areas .number ≡ k → k ≢ 0 → First (readerTests bytes areas) k
+reader-refuses bytes areas k e n = first-of (readerTests bytes areas) k (sym (reader-number bytes areas) ∙ e) n
 
 -- ---- what a call leaves
 pub reader-reads : (bytes : List ℕ) (areas : Areas) → WellFormed bytes → Room bytes areas → reader bytes areas ≡ readingOf 0 bytes areas
 unfolding reader
 reader-reads bytes areas w r = ap (λ (k : ℕ). readingOf k bytes areas) (sym (reader-number bytes areas) ∙ read-exactly bytes areas .1 (w, r))
+
+-- the answer is of what `readBytes` reads
+pub reader-survey : (bytes : List ℕ) (areas : Areas) (s : Survey) → readBytes bytes ≡ some s → Room bytes areas
+    → reader bytes areas ≡ record { number = 0; header = some (headerOf (wellsIn bytes) (nodesIn bytes) (codeCountIn bytes) s); areas = allFilled s areas }
+reader-survey bytes areas s e r =
+    let w = read-well-formed bytes s e in
+    let f = reads bytes w in
+    let is : surveyIn bytes ≡ s = cc in
+    reader-reads bytes areas w r
+    ∙ λ i. record { number = 0; header = some (headerOf (wellsIn bytes) (nodesIn bytes) (codeCountIn bytes) (is i)); areas = allFilled (is i) areas }
 
 -- "A refusal .. writes nothing"
 pub reader-untouched : (bytes : List ℕ) (areas : Areas) → reader bytes areas .number ≢ 0 → reader bytes areas .areas ≡ areas

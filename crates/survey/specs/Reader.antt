@@ -1,9 +1,9 @@
 -- The reader of the survey file: what it takes out of bytes, when it refuses, and its areas at exit. It judges nothing but the layout. Assumes nothing.
 use Prim.Native.Nat.{ℕ, zero, suc, _+_, _-_, _*_}
-use mathlib.Core.Bool.{Bool, true, false, not, _&&_, _||_}
-use mathlib.Core.List.{List, [], _∷_}
+use mathlib.Core.Bool.{not}
+use mathlib.Core.List.{List, [], _∷_, _++_}
 use mathlib.Core.Option.{Option, none, some}
-use lib.Dec.{eqb, ltb, leb}
+use lib.Dec.{eqb, ltb}
 use lib.ListN.{length, getD, take, drop}
 use lib.Ieee.{Float, nan}
 use Rattle.error.specs.Tests.{Test, test, firstOf}
@@ -59,19 +59,20 @@ abbrev pub lengthIn : List ℕ → ℕ
 lengthIn bytes = fileLength (startIn bytes) (wellsIn bytes) (nodesIn bytes) (columnsIn bytes) (codeCountIn bytes)
 
 -- ---- "16: under 14 or over 65,536 bytes, lengths that do not meet exactly, another model or version, trailer zeros not zero"
-unfoldable pub malformed : List ℕ → Bool
-unfolding numberIn
-malformed bytes =
-    ltb (length bytes) trailerLength
-    || ltb longestFile (length bytes)
-    || ltb (length bytes - trailerLength) (codeCountIn bytes)
-    || not (eqb (length bytes) (lengthIn bytes))
-    || not (leb 1 (modelIn bytes) && leb (modelIn bytes) 4)
-    || not (eqb (versionIn bytes) fileVersion)
-    || not (eqb (zeroIn bytes) 0)
-    || not (eqb (lastZeroIn bytes) 0)
+abbrev pub fileTests : List ℕ → List Test
+fileTests bytes =
+    test 16 (ltb (length bytes) trailerLength)
+    ∷ test 16 (ltb longestFile (length bytes))
+    ∷ test 16 (ltb (length bytes - trailerLength) (codeCountIn bytes))
+    ∷ test 16 (not (eqb (length bytes) (lengthIn bytes)))
+    ∷ test 16 (ltb (modelIn bytes) 1)
+    ∷ test 16 (ltb 4 (modelIn bytes))
+    ∷ test 16 (not (eqb (versionIn bytes) fileVersion))
+    ∷ test 16 (not (eqb (zeroIn bytes) 0))
+    ∷ test 16 (not (eqb (lastZeroIn bytes) 0))
+    ∷ []
 
--- ---- what bytes that are not malformed say
+-- ---- what bytes say that none of these refuses
 -- "in the enum's order"; another number, which is refused, would be the last
 abbrev pub modelOf : ℕ → VariogramModel
 modelOf zero = Linear
@@ -109,31 +110,29 @@ surveyIn bytes =
     (f64sIn (numberCount (wellsIn bytes) (nodesIn bytes) (columnsIn bytes)) (drop (startIn bytes) bytes))
     (codesIn bytes)
 
--- the survey that bytes are, if they are not malformed
-abbrev pub unlessMalformed : Bool → List ℕ → Option Survey
-unlessMalformed true bytes = none
-unlessMalformed false bytes = some (surveyIn bytes)
+-- the survey that bytes are, or none by a refusal
+abbrev pub unlessRefused : ℕ → List ℕ → Option Survey
+unlessRefused zero bytes = some (surveyIn bytes)
+unlessRefused (suc refusal) bytes = none
 
 unfoldable pub readBytes : List ℕ → Option Survey
-unfolding malformed surveyIn
-readBytes bytes = unlessMalformed (malformed bytes) bytes
+unfolding surveyIn firstOf
+readBytes bytes = unlessRefused (firstOf (fileTests bytes)) bytes
 
 -- ---- the call
 -- "an answer area too short: .. for the file's reader, each list's length, after 16"
-abbrev pub tooShort : ℕ → ℕ → ℕ → ℕ → Areas → Bool
-tooShort n m k c areas =
-    ltb (length (areas .values)) n
-    || ltb (length (areas .coordinates)) (2 * n)
-    || ltb (length (areas .external)) (k * n)
-    || ltb (length (areas .nodes)) (2 * m)
-    || ltb (length (areas .nodeExternal)) (k * m)
-    || ltb (length (areas .codes)) c
+abbrev pub areaTests : List ℕ → Areas → List Test
+areaTests bytes areas =
+    test 18 (ltb (length (areas .values)) (wellsIn bytes))
+    ∷ test 18 (ltb (length (areas .coordinates)) (2 * wellsIn bytes))
+    ∷ test 18 (ltb (length (areas .external)) (columnsIn bytes * wellsIn bytes))
+    ∷ test 18 (ltb (length (areas .nodes)) (2 * nodesIn bytes))
+    ∷ test 18 (ltb (length (areas .nodeExternal)) (columnsIn bytes * nodesIn bytes))
+    ∷ test 18 (ltb (length (areas .codes)) (codeCountIn bytes))
+    ∷ []
 
 abbrev pub readerTests : List ℕ → Areas → List Test
-readerTests bytes areas =
-    test 16 (malformed bytes)
-    ∷ test 18 (tooShort (wellsIn bytes) (nodesIn bytes) (columnsIn bytes) (codeCountIn bytes) areas)
-    ∷ []
+readerTests bytes areas = fileTests bytes ++ areaTests bytes areas
 
 -- the lengths, and the numbers that are no list
 abbrev pub headerOf : ℕ → ℕ → ℕ → Survey → Header
@@ -164,5 +163,5 @@ readingOf zero bytes areas =
 readingOf (suc refusal) bytes areas = record { number = suc refusal; header = none; areas = areas }
 
 unfoldable pub reader : List ℕ → Areas → Reading
-unfolding malformed surveyIn firstOf
+unfolding surveyIn firstOf
 reader bytes areas = readingOf (firstOf (readerTests bytes areas)) bytes areas

@@ -1,6 +1,6 @@
 -- The writer of the survey file: when it refuses, and its area at exit. Assumes nothing.
 use Prim.Native.Nat.{ℕ, zero, suc, _+_, _*_, _%_}
-use mathlib.Core.Bool.{Bool, true, false, not, _&&_, _||_}
+use mathlib.Core.Bool.{Bool, true, not, _&&_}
 use mathlib.Core.List.{List, [], _∷_}
 use mathlib.Core.Option.{Option, none, some}
 use lib.Dec.{eqb, ltb}
@@ -31,7 +31,10 @@ writerTests s area =
     ∷ test 6 (not (eqb (length (s .external)) (columns s * wells s)))
     ∷ test 8 (ltb 0 (columns s) && not (eqb (length (s .nodeExternal)) (columns s * nodeCount s)))
     ∷ test 11 (not (allFinite (numbers s)))
-    ∷ test 16 (ltb longestFile (length (writerFile s)) || ltb greatestCount (wells s) || ltb greatestCount (nodeCount s) || ltb greatestCount (length (s .codes)))
+    ∷ test 16 (ltb longestFile (length (writerFile s)))
+    ∷ test 16 (ltb greatestCount (wells s))
+    ∷ test 16 (ltb greatestCount (nodeCount s))
+    ∷ test 16 (ltb greatestCount (length (s .codes)))
     ∷ test 18 (ltb (length area) (length (writerFile s)))
     ∷ []
 
