@@ -1,15 +1,15 @@
 -- Laws of numbers as bytes: what is written reads back, and how long it is. Assumes nothing.
 use Prim.Native.Nat.{ℕ, zero, suc, _+_, _*_, _/_, _%_, _^_, _<_}
-use native.Mathlib.Nat.{div-lt-iff-lt-mul, pow-suc}
+use native.Mathlib.Nat.{div-lt-iff-lt-mul, pow-suc, mod-lt}
 use native.Mathlib.Omega.{arith}
 use mathlib.Core.Path.{_≡_, refl, ap, ap₂, sym, _∙_, subst}
-use mathlib.Core.Bool.{Bool, true, false, _&&_}
+use mathlib.Core.Bool.{Bool, true, false, _&&_, false≢true}
 use mathlib.Core.List.{List, [], _∷_, _++_}
-use lib.Dec.{T, lit<}
+use lib.Dec.{T, ltb, lt→ltb, lit<}
 use lib.ListN.{length, take, drop, length-append}
-use lib.Ieee.{Float, binary64, fits, toBits, ofBits}
-use lib.Ieee.Bits.{ofBits-toBits, toBits-lt}
-use lib.Ieee.Fits.{and-l, and-r}
+use lib.Ieee.{Float, nan, inf, fin, binary64, fits, toBits, ofBits, isNan, nanBits}
+use lib.Ieee.Bits.{ofBits-toBits, toBits-lt, nanBits-is}
+use lib.Ieee.Fits.{and-i, and-l, and-r}
 use Rattle.survey.specs.Bytes.{littleEndian, numberIn, f64Bytes, f64sIn}
 
 -- every number of the list is an f64, as every number is that the language hands over
@@ -18,11 +18,6 @@ allFit [] = true
 allFit (x ∷ xs) = fits binary64 x && allFit xs
 
 -- ---- a number in bytes
-pub length-little : (width x : ℕ) → length (littleEndian width x) ≡ width
-unfolding littleEndian
-length-little zero x = refl
-length-little (suc width) x = ap suc (length-little width (x / 256))
-
 pub number-little : (width x : ℕ) → x < 256 ^ width → numberIn (littleEndian width x) ≡ x
 unfolding littleEndian numberIn
 number-little zero x h = omega arith
@@ -56,3 +51,38 @@ f64s-back (x ∷ xs) rest f =
     ap₂ (λ (z : Float) (zs : List Float). z ∷ zs)
     (ap (λ (b : List ℕ). ofBits binary64 (numberIn b)) (first-eight y (f64Bytes xs) rest) ∙ f64-back x (and-l (fits binary64 x) (allFit xs) f))
     (ap (λ (b : List ℕ). f64sIn (length xs) b) (past-eight y (f64Bytes xs) rest) ∙ f64s-back xs rest (and-r (fits binary64 x) (allFit xs) f))
+
+-- and there are as many as were asked for
+pub length-f64sIn : (count : ℕ) (bytes : List ℕ) → length (f64sIn count bytes) ≡ count
+unfolding f64sIn
+length-f64sIn zero bytes = refl
+length-f64sIn (suc count) bytes = ap suc (length-f64sIn count (drop 8 bytes))
+
+-- "all NaNs counting as one": every NaN pattern is read as the one NaN
+pub nan-pattern : (bytes : List ℕ) → nanBits binary64 (numberIn (take 8 bytes)) ≡ true → f64sIn 1 bytes ≡ nan ∷ []
+unfolding f64sIn isNan
+nan-pattern bytes h = ap {B = List Float} (λ x. x ∷ []) (is-nan (ofBits binary64 (numberIn (take 8 bytes))) (sym (nanBits-is binary64 (numberIn (take 8 bytes))) ∙ h))
+  where
+    is-nan : (x : Float) → isNan x ≡ true → x ≡ nan
+    is-nan nan e = refl
+    is-nan (inf s) e = absurd (false≢true e)
+    is-nan (fin s m e) f = absurd (false≢true f)
+
+-- ---- a byte is below 256
+abbrev pub allBytes : List ℕ → Bool
+allBytes [] = true
+allBytes (b ∷ bytes) = ltb b 256 && allBytes bytes
+
+pub bytes-append : (xs ys : List ℕ) → T (allBytes xs) → T (allBytes ys) → T (allBytes (xs ++ ys))
+bytes-append [] ys p q = q
+bytes-append (x ∷ xs) ys p q = and-i (ltb x 256) (allBytes (xs ++ ys)) (and-l (ltb x 256) (allBytes xs) p) (bytes-append xs ys (and-r (ltb x 256) (allBytes xs) p) q)
+
+pub bytes-little : (width x : ℕ) → T (allBytes (littleEndian width x))
+unfolding littleEndian
+bytes-little zero x = tt
+bytes-little (suc width) x = and-i (ltb (x % 256) 256) (allBytes (littleEndian width (x / 256))) (lt→ltb (x % 256) 256 (mod-lt x (lit< tt))) (bytes-little width (x / 256))
+
+pub bytes-f64 : (xs : List Float) → T (allBytes (f64Bytes xs))
+unfolding f64Bytes
+bytes-f64 [] = tt
+bytes-f64 (x ∷ xs) = bytes-append (littleEndian 8 (toBits binary64 x)) (f64Bytes xs) (bytes-little 8 (toBits binary64 x)) (bytes-f64 xs)

@@ -7,4 +7,5 @@ pub mod ReadBack
 pub mod Refusals
 pub mod RoundTrip
 pub mod Changes
+pub mod Lengths
 pub mod Sounding

@@ -14,7 +14,7 @@ use Rattle.survey.specs.Bytes.{littleEndian, numberIn, f64Bytes, f64sIn}
 use Rattle.survey.specs.Survey.{Survey, externalColumns, wells, nodeCount, columns, numbers, numberCount, withoutIgnored}
 use Rattle.survey.specs.File.{modelNumber, body, trailer, fileOf, fileLength}
 use Rattle.survey.specs.Reader.{trailerIn, startIn, wellsIn, nodesIn, codeCountIn, codesIn, columnsIn, modelIn, versionIn, zeroIn, lastZeroIn, modelOf, surveyFrom, surveyIn, readBytes}
-use Rattle.survey.proofs.Bytes.{allFit, number-little, length-f64Bytes, f64s-back}
+use Rattle.survey.proofs.Bytes.{allFit, allBytes, number-little, length-f64Bytes, f64s-back, bytes-append, bytes-little, bytes-f64}
 use Rattle.survey.proofs.Lists.{Lists, length-numbers, survey-back}
 use Rattle.survey.proofs.WellFormed.{WellFormed, reads}
 
@@ -99,6 +99,31 @@ pub file-length : (note : List ℕ) (s : Survey) → Lists s → length (fileOf 
 file-length note s l =
     ap length (file-parts note s) ∙ length-parts note s
     ∙ ap (λ (n : ℕ). length note + 8 * n + length (s .codes) + 14) (length-numbers s l)
+
+-- and all of it is bytes, if the note and the codes are
+trailer-bytes : (start : ℕ) (s : Survey) → T (allBytes (trailer start s))
+unfolding trailer
+trailer-bytes start s =
+    bytes-append (littleEndian 4 start ++ littleEndian 2 (wells s) ++ littleEndian 2 (nodeCount s) ++ littleEndian 2 (length (s .codes))) (modelNumber (s .model) ∷ 1 ∷ 0 ∷ 0 ∷ [])
+    (bytes-append (littleEndian 4 start ++ littleEndian 2 (wells s) ++ littleEndian 2 (nodeCount s)) (littleEndian 2 (length (s .codes)))
+    (bytes-append (littleEndian 4 start ++ littleEndian 2 (wells s)) (littleEndian 2 (nodeCount s))
+    (bytes-append (littleEndian 4 start) (littleEndian 2 (wells s)) (bytes-little 4 start) (bytes-little 2 (wells s)))
+    (bytes-little 2 (nodeCount s)))
+    (bytes-little 2 (length (s .codes))))
+    (model-byte (s .model))
+  where
+    model-byte : (m : VariogramModel) → T (allBytes (modelNumber m ∷ 1 ∷ 0 ∷ 0 ∷ []))
+    model-byte Spherical = tt
+    model-byte Exponential = tt
+    model-byte Gaussian = tt
+    model-byte Linear = tt
+
+pub file-bytes : (note : List ℕ) (s : Survey) → T (allBytes note) → T (allBytes (s .codes)) → T (allBytes (fileOf note s))
+file-bytes note s p q =
+    let rest = s .codes ++ trailer (length note) s in
+    subst (λ (b : List ℕ). T (allBytes b)) (sym (file-parts note s))
+    (bytes-append note (f64Bytes (numbers s) ++ rest) p
+    (bytes-append (f64Bytes (numbers s)) rest (bytes-f64 (numbers s)) (bytes-append (s .codes) (trailer (length note) s) q (trailer-bytes (length note) s))))
 
 -- bytes that are a file's parts
 module _ (note : List ℕ) (s : Survey) (f : Filable s) (bytes : List ℕ) (is : bytes ≡ note ++ (f64Bytes (numbers s) ++ (s .codes ++ trailer (length note) s))) (most : length bytes ≤ 65536) where
