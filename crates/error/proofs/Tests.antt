@@ -1,11 +1,12 @@
 -- Laws of `firstOf`: it is 0 exactly when no test holds; and where it is not, it is the number of a test that holds with none before it that does. Assumes nothing.
-use Prim.Native.Nat.{ℕ, _<_}
+use Prim.Native.Nat.{ℕ, zero, suc, _<_}
 use native.Mathlib.Omega.{arith}
-use mathlib.Core.Path.{_≡_, refl, ap, sym}
+use mathlib.Core.Path.{_≡_, refl, ap, sym, _∙_, subst}
 use mathlib.Core.Logic.{_≢_, _↔_}
 use mathlib.Core.Bool.{Bool, true, false, not, _&&_, cond}
 use mathlib.Core.List.{List, [], _∷_, _++_}
-use lib.Dec.{T, ltb, eqb, ltb→lt, eqb→eq}
+use lib.Dec.{T, T-not, ltb, eqb, ltb→lt, lt→ltb, eqb→eq, eqb-refl}
+use lib.Ieee.Fits.{and-i, and-l, and-r}
 use Rattle.error.specs.Tests.{Test, firstOf}
 
 -- no test of the list holds
@@ -27,14 +28,6 @@ pub record First (ts : List Test) (k : ℕ) : Type 0 where
   pub none-before : NoneHolds before
   pub holds : T (it .holds)
   pub number : it .number ≡ k
-
-and-l : (a b : Bool) → T (a && b) → T a
-and-l true b x = tt
-and-l false b x = x
-
-and-r : (a b : Bool) → T (a && b) → T b
-and-r true b x = x
-and-r false b x = absurd x
 
 -- ---- 0 exactly when none holds
 pub none-is-zero : (ts : List Test) → NoneHolds ts → firstOf ts ≡ 0
@@ -126,3 +119,42 @@ one-number k (t ∷ ts) a n = go (t .holds) (one-number k ts (and-r (eqb (t .num
     go : (b : Bool) → (firstOf ts ≢ 0 → firstOf ts ≡ k) → cond b (t .number) (firstOf ts) ≢ 0 → cond b (t .number) (firstOf ts) ≡ k
     go true r x = eqb→eq (t .number) k (and-l (eqb (t .number) k) (allOf k ts) a)
     go false r x = r x
+
+abbrev pub noneOf : ℕ → List Test → Bool
+noneOf k [] = true
+noneOf k (t ∷ ts) = not (eqb (t .number) k) && noneOf k ts
+
+other-number : (k : ℕ) (ts : List Test) → T (noneOf k ts) → firstOf ts ≡ k → k ≢ 0 → ⊥
+unfolding firstOf
+other-number k [] a e n = n (sym e)
+other-number k (t ∷ ts) a e n = go (t .holds) (λ f. other-number k ts (and-r (not (eqb (t .number) k)) (noneOf k ts) a) f n) e
+  where
+    go : (b : Bool) → (firstOf ts ≡ k → ⊥) → cond b (t .number) (firstOf ts) ≡ k → ⊥
+    go true r x = T-not (eqb (t .number) k) (and-l (not (eqb (t .number) k)) (noneOf k ts) a) (subst (λ (j : ℕ). T (eqb (t .number) j)) x (eqb-refl (t .number)))
+    go false r x = r x
+
+-- ---- "each number has its condition and is not given otherwise": k is given exactly when a test of this number holds and none before these does
+module _ (k : ℕ) (before same after : List Test) (positive : k ≢ 0) (named : T (numbered before)) (not-before : T (noneOf k before)) (all-same : T (allOf k same)) (not-after : T (noneOf k after)) where
+  given : NoneHolds before → (NoneHolds same → ⊥) → firstOf (before ++ (same ++ after)) ≡ k
+  given n h =
+      let found : firstOf same ≢ 0 = λ e. h (zero-is-none same (all-numbered same all-same) e) in
+      first-append-zero before (same ++ after) n ∙ first-append same after found ∙ one-number k same all-same found
+    where
+      all-numbered : (ts : List Test) → T (allOf k ts) → T (numbered ts)
+      all-numbered [] a = tt
+      all-numbered (t ∷ ts) a =
+          let e = eqb→eq (t .number) k (and-l (eqb (t .number) k) (allOf k ts) a) in
+          and-i (ltb 0 (t .number)) (numbered ts) (lt→ltb 0 (t .number) (omega arith)) (all-numbered ts (and-r (eqb (t .number) k) (allOf k ts) a))
+
+  none-before : firstOf (before ++ (same ++ after)) ≡ k → NoneHolds before
+  none-before e = go (firstOf before) refl
+    where
+      go : (r : ℕ) → firstOf before ≡ r → NoneHolds before
+      go zero f = zero-is-none before named f
+      go (suc r) f = absurd (other-number k before not-before (sym (first-append before (same ++ after) (λ z. omega arith)) ∙ e) positive)
+
+  one-holds : firstOf (before ++ (same ++ after)) ≡ k → NoneHolds same → ⊥
+  one-holds e n = other-number k after not-after (sym (first-append-zero before (same ++ after) (none-before e) ∙ first-append-zero same after n) ∙ e) positive
+
+  pub exactly : (firstOf (before ++ (same ++ after)) ≡ k) ↔ (NoneHolds before × (NoneHolds same → ⊥))
+  exactly = (λ e. (none-before e, one-holds e), λ x. given (x .0) (x .1))

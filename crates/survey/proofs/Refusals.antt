@@ -4,13 +4,13 @@ use native.Mathlib.Omega.{arith}
 use mathlib.Core.Path.{_≡_, refl, ap, sym, _∙_, subst}
 use mathlib.Core.Logic.{_↔_, _≢_}
 use mathlib.Core.Bool.{Bool, true, false, not, _&&_, _||_, cond}
-use mathlib.Core.List.{List, [], _∷_}
+use mathlib.Core.List.{List, [], _∷_, _++_, map}
 use mathlib.Core.Option.{Option, none, some}
 use lib.Dec.{T, eqb, ltb, ltb→lt, lt→ltb, eqb→eq}
-use lib.ListN.{length}
+use lib.ListN.{length, take, drop}
 use lib.Ieee.Fits.{eq→eqb}
 use Rattle.error.specs.Tests.{Test, test, firstOf}
-use Rattle.error.proofs.Tests.{First, none-is-zero, zero-is-none, first-of, first-append-zero, first-append, one-number}
+use Rattle.error.proofs.Tests.{NoneHolds, First, numbered, allOf, noneOf, exactly, none-is-zero, zero-is-none, first-of, first-append-zero, first-append, one-number}
 use Rattle.survey.specs.Survey.{Survey, wells, nodeCount, columns, nodeExternals, numbers}
 use Rattle.survey.specs.Areas.{Areas, allFilled}
 use Rattle.survey.specs.Reader.{Reading, headerOf, surveyIn, wellsIn, nodesIn, columnsIn, codeCountIn, fileTests, areaTests, readerTests, readBytes, readingOf, reader}
@@ -100,6 +100,37 @@ written-exactly s area = (writable s area, not-refused s area)
 -- any other number is the first in the paper's order whose condition holds
 pub writer-refuses : (s : Survey) (area : List ℕ) (k : ℕ) → writer s area .number ≡ k → k ≢ 0 → First (writerTests s area) k
 writer-refuses s area k e n = first-of (writerTests s area) k (sym (writer-number s area) ∙ e) n
+
+-- "in that order"
+pub writer-order : (s : Survey) (area : List ℕ) → map (λ (t : Test). t .number) (writerTests s area) ≡ 1 ∷ 2 ∷ 6 ∷ 8 ∷ 11 ∷ 16 ∷ 16 ∷ 16 ∷ 16 ∷ 18 ∷ []
+writer-order s area = refl
+
+-- the number k is given exactly when one of its tests holds, which are `count` after the first `from`, and none of the first `from` does
+abbrev pub Given : ℕ → List Test → ℕ → ℕ → ℕ → Type 0
+Given number ts k from count = (number ≡ k) ↔ (NoneHolds (take from ts) × (NoneHolds (take count (drop from ts)) → ⊥))
+
+given : (number : ℕ) (ts : List Test) (k from count : ℕ) → firstOf ts ≡ number → take from ts ++ (take count (drop from ts) ++ drop count (drop from ts)) ≡ ts
+    → k ≢ 0 → T (numbered (take from ts)) → T (noneOf k (take from ts)) → T (allOf k (take count (drop from ts))) → T (noneOf k (drop count (drop from ts)))
+    → Given number ts k from count
+given number ts k from count f e n a b c d =
+    subst (λ (r : ℕ). Given r ts k from count) (ap firstOf e ∙ f) (exactly k (take from ts) (take count (drop from ts)) (drop count (drop from ts)) n a b c d)
+
+-- each of the writer's numbers, exactly in its case
+pub writer-given : (s : Survey) (area : List ℕ) → let r = writer s area .number in
+    let ts = writerTests s area in
+    Given r ts 1 0 1 × Given r ts 2 1 1 × Given r ts 6 2 1 × Given r ts 8 3 1 × Given r ts 11 4 1 × Given r ts 16 5 4 × Given r ts 18 9 1
+writer-given s area =
+    let r = writer s area .number in
+    let ts = writerTests s area in
+    let is = sym (writer-number s area) in (
+      given r ts 1 0 1 is refl (omega arith) tt tt tt tt,
+      given r ts 2 1 1 is refl (omega arith) tt tt tt tt,
+      given r ts 6 2 1 is refl (omega arith) tt tt tt tt,
+      given r ts 8 3 1 is refl (omega arith) tt tt tt tt,
+      given r ts 11 4 1 is refl (omega arith) tt tt tt tt,
+      given r ts 16 5 4 is refl (omega arith) tt tt tt tt,
+      given r ts 18 9 1 is refl (omega arith) tt tt tt tt,
+    )
 
 -- ---- the reader
 pub reader-number : (bytes : List ℕ) (areas : Areas) → reader bytes areas .number ≡ firstOf (readerTests bytes areas)
