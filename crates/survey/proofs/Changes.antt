@@ -3,15 +3,15 @@ use Prim.Native.Nat.{ℕ, zero, suc, _+_, _-_, _*_, _≤_, _<_}
 use native.Mathlib.Nat.{mul-le-mul-left, mul-le-mul-right, le-of-lt}
 use native.Mathlib.Decide.{decLt}
 use native.Mathlib.Omega.{arith}
-use mathlib.Core.Path.{_≡_, refl, ap, sym, _∙_, subst}
+use mathlib.Core.Path.{_≡_, ap, sym, _∙_, subst}
 use mathlib.Core.Logic.{_≢_, _⊎_, inl, inr}
-use mathlib.Core.List.{List, [], _∷_, _++_}
-use mathlib.Core.Option.{Option, none}
-use lib.ListN.{length, getD, set, take, drop, length-set, length-drop, length-take, length-append, take-append-drop}
+use mathlib.Core.List.{List, [], _∷_}
+use mathlib.Core.Option.{none}
+use lib.ListN.{length, getD, set, take, drop, length-set, length-drop}
 use lib.Seq.{getD-set-same, drop-set-add, length-take-le, take-add, drop-at, drop-drop}
 use Rattle.survey.specs.Bytes.{numberIn}
 use Rattle.survey.specs.Survey.{externalColumns}
-use Rattle.survey.specs.Reader.{trailerIn, startIn, wellsIn, nodesIn, codeCountIn, codesIn, columnsIn, modelIn, versionIn, zeroIn, lastZeroIn, readBytes}
+use Rattle.survey.specs.Reader.{trailerIn, startIn, wellsIn, nodesIn, codeCountIn, codesIn, columnsIn, readBytes}
 use Rattle.survey.proofs.WellFormed.{WellFormed, refuses}
 
 -- ---- a byte of the trailer

@@ -1,10 +1,10 @@
 -- An area that a list was written to: the list, and then what was there. Assumes nothing.
-use Prim.Native.Nat.{ℕ, zero, suc, _+_, _≤_, _<_}
+use Prim.Native.Nat.{ℕ, zero, suc, _+_, _≤_}
 use native.Mathlib.Nat.{zero-add}
 use native.Mathlib.Omega.{arith}
 use mathlib.Core.Path.{_≡_, refl, ap, sym, _∙_}
-use mathlib.Core.List.{List, [], _∷_, _++_}
-use lib.ListN.{length, getD, set, take, drop, length-set}
+use mathlib.Core.List.{List, _++_}
+use lib.ListN.{length, getD, set, take, drop}
 use lib.Seq.{take-suc, drop-cons, append-snoc, set-at, length-take-le, take-length, take-append-seam, drop-append-seam}
 use Rattle.area.specs.Area.{written}
 use Rattle.survey.specs.Areas.{filled}

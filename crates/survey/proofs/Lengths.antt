@@ -1,7 +1,7 @@
 -- How long the lists are that are read, and what the reader's areas hold at exit: each its list, and past it what was there. Assumes nothing.
-use Prim.Native.Nat.{ℕ, zero, suc, _+_, _-_, _*_, _≤_}
+use Prim.Native.Nat.{ℕ, _+_, _-_, _*_, _≤_}
 use native.Mathlib.Omega.{arith}
-use mathlib.Core.Path.{_≡_, refl, ap, sym, _∙_, subst}
+use mathlib.Core.Path.{_≡_, ap, sym, _∙_, subst}
 use mathlib.Core.List.{List, _++_}
 use lib.ListN.{length, drop, length-drop}
 use lib.Seq.{length-take-le}

@@ -1,12 +1,11 @@
 -- The lists of a survey in the row of its numbers: how many these are, and that each list is cut out again at its place. Assumes nothing.
-use Prim.Native.Nat.{ℕ, zero, suc, _+_, _*_}
+use Prim.Native.Nat.{ℕ, _+_, _*_}
 use native.Mathlib.Omega.{arith}
-use mathlib.Core.Path.{_≡_, refl, ap, sym, _∙_}
+use mathlib.Core.Path.{_≡_, refl, ap, _∙_}
 use mathlib.Core.List.{List, [], _∷_, _++_, append-assoc}
-use lib.ListN.{length, take, drop, length-append}
+use lib.ListN.{length, take, length-append}
 use lib.Seq.{take-at, drop-at, take-all}
 use lib.Ieee.{Float}
-use Rattle.variogram.specs.declared.VariogramModel.{VariogramModel}
 use Rattle.survey.specs.Survey.{Survey, wells, nodeCount, columns, nodeExternals, numbers, numberCount, withoutIgnored}
 use Rattle.survey.specs.Reader.{part, surveyFrom}
 

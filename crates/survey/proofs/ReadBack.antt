@@ -1,10 +1,10 @@
 -- A file that is laid out as the paper says, after any note, reads as the survey that was laid out. Assumes nothing.
-use Prim.Native.Nat.{ℕ, zero, suc, _+_, _-_, _*_, _≤_, _<_}
+use Prim.Native.Nat.{ℕ, _+_, _-_, _*_, _≤_, _<_}
 use native.Mathlib.Omega.{arith}
 use mathlib.Core.Path.{_≡_, refl, ap, sym, _∙_, subst}
 use mathlib.Core.List.{List, [], _∷_, _++_, append-assoc}
 use mathlib.Core.Option.{Option, some}
-use lib.Dec.{T, lit<, lit≤}
+use lib.Dec.{T, lit≤}
 use lib.ListN.{length, getD, take, drop, length-append}
 use lib.Seq.{take-at, drop-at}
 use lib.Ieee.{Float}
@@ -13,7 +13,7 @@ use Rattle.variogram.specs.declared.VariogramModel.the-variants.{Spherical, Exp
 use Rattle.survey.specs.Bytes.{littleEndian, numberIn, f64Bytes, f64sIn}
 use Rattle.survey.specs.Survey.{Survey, externalColumns, wells, nodeCount, columns, numbers, numberCount, withoutIgnored}
 use Rattle.survey.specs.File.{modelNumber, body, trailer, fileOf, fileLength}
-use Rattle.survey.specs.Reader.{trailerIn, startIn, wellsIn, nodesIn, codeCountIn, codesIn, columnsIn, modelIn, versionIn, zeroIn, lastZeroIn, modelOf, surveyFrom, surveyIn, readBytes}
+use Rattle.survey.specs.Reader.{trailerIn, startIn, wellsIn, nodesIn, codeCountIn, codesIn, columnsIn, modelIn, modelOf, surveyFrom, surveyIn, readBytes}
 use Rattle.survey.proofs.Bytes.{allFit, allBytes, number-little, length-f64Bytes, f64s-back, bytes-append, bytes-little, bytes-f64}
 use Rattle.survey.proofs.Lists.{Lists, length-numbers, survey-back}
 use Rattle.survey.proofs.WellFormed.{WellFormed, reads}

@@ -1,19 +1,18 @@
 -- When the writer refuses and by which number, and so the reader: the first in the paper's order whose condition holds, and 0 exactly when none does. Assumes nothing.
-use Prim.Native.Nat.{ℕ, zero, suc, _+_, _*_, _%_, _≤_, _<_}
+use Prim.Native.Nat.{ℕ, zero, suc, _*_, _%_, _≤_, _<_}
 use native.Mathlib.Omega.{arith}
 use mathlib.Core.Path.{_≡_, refl, ap, sym, _∙_, subst}
 use mathlib.Core.Logic.{_↔_, _≢_}
-use mathlib.Core.Bool.{Bool, true, false, not, _&&_, _||_, cond}
 use mathlib.Core.List.{List, [], _∷_, _++_, map}
-use mathlib.Core.Option.{Option, none, some}
+use mathlib.Core.Option.{none, some}
 use lib.Dec.{T, eqb, ltb, ltb→lt, lt→ltb, eqb→eq}
 use lib.ListN.{length, take, drop}
 use lib.Ieee.Fits.{eq→eqb}
-use Rattle.error.specs.Tests.{Test, test, firstOf}
+use Rattle.error.specs.Tests.{Test, firstOf}
 use Rattle.error.proofs.Tests.{NoneHolds, First, numbered, allOf, noneOf, exactly, none-is-zero, zero-is-none, first-of, first-append-zero, first-append, one-number}
-use Rattle.survey.specs.Survey.{Survey, wells, nodeCount, columns, nodeExternals, numbers}
+use Rattle.survey.specs.Survey.{Survey, wells, nodeCount, columns, numbers}
 use Rattle.survey.specs.Areas.{Areas, allFilled}
-use Rattle.survey.specs.Reader.{Reading, headerOf, surveyIn, wellsIn, nodesIn, columnsIn, codeCountIn, fileTests, areaTests, readerTests, readBytes, readingOf, reader}
+use Rattle.survey.specs.Reader.{headerOf, surveyIn, wellsIn, nodesIn, columnsIn, codeCountIn, fileTests, areaTests, readerTests, readBytes, readingOf, reader}
 use Rattle.survey.specs.Writer.{allFinite, writerFile, writerTests, writingOf, writer}
 use Rattle.survey.proofs.Truth.{not-not, equal, at-most, only-where}
 use Rattle.survey.proofs.WellFormed.{WellFormed, no-flaw, no-refusal, reads, read-well-formed, refused-exactly}

@@ -1,24 +1,23 @@
 -- "what it wrote reads back bit for bit": the bytes that the writer says it wrote are read as the survey, every number's bits, model and codes. Assumes nothing.
-use Prim.Native.Nat.{ℕ, zero, suc, _+_, _*_, _/_, _%_, _≤_, _<_}
+use Prim.Native.Nat.{ℕ, zero, suc, _*_, _≤_, _<_}
 use native.Mathlib.Nat.{zero-mul}
 use native.Mathlib.Omega.{arith}
-use mathlib.Core.Path.{_≡_, refl, ap, sym, _∙_, subst}
+use mathlib.Core.Path.{_≡_, refl, ap, sym, _∙_}
 use mathlib.Core.Logic.{_⊎_, inl, inr}
-use mathlib.Core.Bool.{Bool, true, false, cond}
-use mathlib.Core.List.{List, [], _∷_}
-use mathlib.Core.Option.{Option, none, some}
-use lib.Dec.{T, eqb, eqb→eq, eqb·suc-zero}
+use mathlib.Core.Bool.{cond}
+use mathlib.Core.List.{List, []}
+use mathlib.Core.Option.{Option, some}
+use lib.Dec.{T, eqb, eqb·suc-zero}
 use lib.ListN.{length, take, drop}
 use lib.Ieee.{Float}
 use Rattle.error.specs.Tests.{firstOf}
-use Rattle.survey.specs.Survey.{Survey, wells, nodeCount, columns, nodeExternals, numbers, withoutIgnored}
+use Rattle.survey.specs.Survey.{Survey, wells, nodeCount, columns, numbers, withoutIgnored}
 use Rattle.survey.specs.File.{fileOf}
 use Rattle.survey.specs.Areas.{Areas, filled, allFilled}
-use Rattle.survey.specs.Reader.{Reading, headerOf, surveyIn, readBytes, reader}
+use Rattle.survey.specs.Reader.{headerOf, surveyIn, readBytes, reader}
 use Rattle.survey.specs.Writer.{writerFile, writerTests, writingOf, writer}
 use Rattle.survey.proofs.Bytes.{allFit}
 use Rattle.survey.proofs.Filled.{take-filled, drop-filled}
-use Rattle.survey.proofs.Lists.{Lists}
 use Rattle.survey.proofs.ReadBack.{Filable, Counts, file-well-formed, file-counts, file-survey, file-reads}
 use Rattle.survey.proofs.WellFormed.{WellFormed}
 use Rattle.survey.proofs.Refusals.{Writable, Room, writable, reader-reads}

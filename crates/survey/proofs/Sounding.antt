@@ -3,14 +3,14 @@ use Prim.Native.Nat.{ℕ}
 use mathlib.Core.Path.{_≡_, refl}
 use mathlib.Core.Bool.{false}
 use mathlib.Core.List.{List, [], _∷_, _++_}
-use mathlib.Core.Option.{Option, none, some}
+use mathlib.Core.Option.{none, some}
 use lib.ListN.{length, drop, replicate}
 use lib.Ieee.{Float, nan, inf, binary64, ofBits}
 use Rattle.variogram.specs.declared.VariogramModel.{VariogramModel}
 use Rattle.variogram.specs.declared.VariogramModel.the-variants.{Spherical, Gaussian, Linear}
 use Rattle.survey.specs.Survey.{Survey}
 use Rattle.survey.specs.Reader.{readBytes}
-use Rattle.survey.specs.Writer.{Writing, writerFile, writer}
+use Rattle.survey.specs.Writer.{writerFile, writer}
 
 -- "A: (0,0) value 5, node (1,0)", "Constant, Spherical 0, 1, 1, r = t = 0"
 abbrev pub soundingA : Survey

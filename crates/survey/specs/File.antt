@@ -1,5 +1,5 @@
 -- The layout of a survey file: paper 01, "Survey file". Assumes nothing.
-use Prim.Native.Nat.{ℕ, zero, suc, _+_, _*_}
+use Prim.Native.Nat.{ℕ, _+_, _*_}
 use mathlib.Core.List.{List, [], _∷_, _++_}
 use lib.ListN.{length}
 use Rattle.variogram.specs.declared.VariogramModel.{VariogramModel}
