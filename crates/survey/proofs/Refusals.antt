@@ -5,7 +5,7 @@ use mathlib.Core.Path.{_≡_, refl, ap, sym, _∙_, subst}
 use mathlib.Core.Logic.{_↔_, _≢_}
 use mathlib.Core.List.{List, [], _∷_, _++_, map}
 use mathlib.Core.Option.{none, some}
-use lib.Dec.{T, eqb, ltb, ltb→lt, lt→ltb, eqb→eq}
+use lib.Dec.{T, eqb, ltb, ltb→lt, lt→ltb, nleb→lt, eqb→eq}
 use lib.ListN.{length, take, drop}
 use lib.Ieee.Fits.{eq→eqb}
 use Rattle.error.specs.Tests.{Test, firstOf}
@@ -50,7 +50,7 @@ writable s area e =
       external = equal (length (s .external)) (k * wells s) .0 (n .1 .1 .0);
       nodeExternal = λ h. eqb→eq (length (s .nodeExternal)) (k * nodeCount s) (o (lt→ltb 0 k h));
       finite = not-not (allFinite (numbers s)) .0 (n .1 .1 .1 .1 .0);
-      size = at-most 65536 (length (writerFile s)) .0 (n .1 .1 .1 .1 .1 .0);
+      size = let h = n .1 .1 .1 .1 .1 .0 in omega (arith, nleb→lt);
       few-wells = at-most 65535 (wells s) .0 (n .1 .1 .1 .1 .1 .1 .0);
       few-nodes = at-most 65535 (nodeCount s) .0 (n .1 .1 .1 .1 .1 .1 .1 .0);
       few-codes = at-most 65535 (length (s .codes)) .0 (n .1 .1 .1 .1 .1 .1 .1 .1 .0);
@@ -183,19 +183,20 @@ enough bytes areas r =
       ),
     )
 
--- 16 comes before 18: past the file's tests the areas' alone count
-after-sixteen : (bytes : List ℕ) (areas : Areas) → WellFormed bytes → reader bytes areas .number ≡ firstOf (areaTests bytes areas)
-after-sixteen bytes areas w = reader-number bytes areas ∙ first-append-zero (fileTests bytes) (areaTests bytes areas) (no-flaw bytes w)
-
-is-eighteen : (bytes : List ℕ) (areas : Areas) → firstOf (areaTests bytes areas) ≢ 0 → firstOf (areaTests bytes areas) ≡ 18
-is-eighteen bytes areas n = one-number 18 (areaTests bytes areas) tt n
-
+-- 16 comes before 18, whatever the areas are
 malformed-sixteen : (bytes : List ℕ) (areas : Areas) → (WellFormed bytes → ⊥) → reader bytes areas .number ≡ 16
 malformed-sixteen bytes areas n =
     let some-flaw : firstOf (fileTests bytes) ≢ 0 = λ e. n (no-refusal bytes .0 e) in
     reader-number bytes areas
     ∙ first-append (fileTests bytes) (areaTests bytes areas) some-flaw
     ∙ one-number 16 (fileTests bytes) tt some-flaw
+
+-- past the file's tests the areas' alone count
+after-sixteen : (bytes : List ℕ) (areas : Areas) → WellFormed bytes → reader bytes areas .number ≡ firstOf (areaTests bytes areas)
+after-sixteen bytes areas w = reader-number bytes areas ∙ first-append-zero (fileTests bytes) (areaTests bytes areas) (no-flaw bytes w)
+
+is-eighteen : (bytes : List ℕ) (areas : Areas) → firstOf (areaTests bytes areas) ≢ 0 → firstOf (areaTests bytes areas) ≡ 18
+is-eighteen bytes areas n = one-number 18 (areaTests bytes areas) tt n
 
 well-formed-or-not : (bytes : List ℕ) → Dec (WellFormed bytes)
 well-formed-or-not bytes = go (firstOf (fileTests bytes)) refl

@@ -5,6 +5,7 @@ use mathlib.Core.Path.{_≡_, refl, ap}
 use mathlib.Core.Logic.{_↔_}
 use mathlib.Core.List.{List}
 use mathlib.Core.Option.{none, some}
+use lib.Dec.{nleb→lt}
 use lib.ListN.{length}
 use Rattle.error.specs.Tests.{firstOf}
 use Rattle.error.proofs.Tests.{NoneHolds, none-is-zero, zero-is-none}
@@ -29,7 +30,7 @@ well-formed bytes n =
     let l : length bytes ≡ lengthIn bytes = equal (length bytes) (lengthIn bytes) .0 (n .1 .1 .1 .0) in
     record {
       least = at-most (length bytes) 14 .0 (n .0);
-      most = at-most 65536 (length bytes) .0 (n .1 .0);
+      most = let h = n .1 .0 in omega (arith, nleb→lt);
       codes = at-most (length bytes - 14) (codeCountIn bytes) .0 (n .1 .1 .0);
       meet = omega arith;
       model-least = at-most (modelIn bytes) 1 .0 (n .1 .1 .1 .1 .0);
