@@ -63,6 +63,15 @@ wrote s area count e =
     go zero x = (refl, cc, refl)
     go (suc r) x = let z : _≡_ {A = ℕ} 0 1 = cc in absurd (omega arith)
 
+-- a writer that does not refuse says how many bytes it wrote: the file's length
+pub count-is : (s : Survey) (area : List ℕ) → writer s area .number ≡ 0 → writer s area .count ≡ some (length (writerFile s))
+unfolding writer
+count-is s area e = go (firstOf (writerTests s area)) e
+  where
+    go : (r : ℕ) → writingOf r s area .number ≡ 0 → writingOf r s area .count ≡ some (length (writerFile s))
+    go zero x = refl
+    go (suc r) x = absurd (omega arith)
+
 -- ---- theorem 7, the way back
 -- Node externals that are ignored, k = 0, are not written. Every other number comes back with its bits, -0 with its sign, and so do model and codes.
 pub round-trip : (s : Survey) (area : List ℕ) (count : ℕ) → T (allFit (numbers s)) → writer s area .count ≡ some count
