@@ -1,12 +1,12 @@
--- Laws of finite sums of whole and of natural numbers: linear, two of them change places, the magnitude of a sum. Assumes nothing.
-use Prim.Native.Nat.{ℕ, zero, suc, _*_, _≤_, _<_, _+_}
-use native.Mathlib.Nat.{suc-mul, le-refl, add-le-add, mul-zero, mul-add}
+-- Laws of finite sums of whole numbers: linear, two of them change places, the magnitude of a sum. Assumes nothing.
+use Prim.Native.Nat.{ℕ, zero, suc, _*_, _≤_, _<_}
+use native.Mathlib.Nat.{suc-mul}
 use native.Mathlib.Omega.{arith}
 use mathlib.Core.Path.{_≡_, refl, sym, ap, ap₂, _∙_}
 use lib.Signed.{_≤ℤ_, ≤ℤ-refl}
 use lib.IntN.{ℤ, pos, negℤ, natAbs, _+ℤ_, _-ℤ_, _*ℤ_, negℤ-+ℤ, *ℤ-zero, *ℤ-comm}
-use Rattle.exact.specs.Whole.{sumℤ, sumℕ}
-use Rattle.exact.proofs.Whole.{+ℤ-middle, *ℤ-+ℤ, natAbs-+ℤ, ≤ℤ-add}
+use Rattle.exact.specs.Whole.{sumℤ}
+use Rattle.exact.proofs.Whole.{+ℤ-middle, *ℤ-+ℤ, natAbs-+ℤ, pos-≤ℤ, ≤ℤ-trans, ≤ℤ-add}
 
 -- two sums of the same terms
 pub sumℤ-same : (n : ℕ) (f g : ℕ → ℤ) → ((i : ℕ) → i < n → f i ≡ g i) → sumℤ n f ≡ sumℤ n g
@@ -56,25 +56,8 @@ sumℤ-bound (suc n) f b h =
     let last = h n (omega arith) in
     omega (arith, natAbs-+ℤ (sumℤ n f) (f n), rest, last, suc-mul n b)
 
--- ---- sums of natural numbers
-
-pub sumℕ-same : (n : ℕ) (f g : ℕ → ℕ) → ((i : ℕ) → i < n → f i ≡ g i) → sumℕ n f ≡ sumℕ n g
-sumℕ-same zero f g h = refl
-sumℕ-same (suc n) f g h = ap₂ (λ (x y : ℕ). x + y) (sumℕ-same n f g (λ i l. h i (omega arith))) (h n (omega arith))
-
-pub sumℕ-le : (n : ℕ) (f g : ℕ → ℕ) → ((i : ℕ) → i < n → f i ≤ g i) → sumℕ n f ≤ sumℕ n g
-sumℕ-le zero f g h = le-refl 0
-sumℕ-le (suc n) f g h = add-le-add (sumℕ-le n f g (λ i l. h i (omega arith))) (h n (omega arith))
-
-pub mul-sumℕ : (n c : ℕ) (f : ℕ → ℕ) → sumℕ n (λ i. c * f i) ≡ c * sumℕ n f
-mul-sumℕ zero c f = sym (mul-zero c)
-mul-sumℕ (suc n) c f = ap (λ (x : ℕ). x + c * f n) (mul-sumℕ n c f) ∙ sym (mul-add c (sumℕ n f) (f n))
-
-pub sumℤ-pos : (n : ℕ) (f : ℕ → ℕ) → sumℤ n (λ i. pos (f i)) ≡ pos (sumℕ n f)
-sumℤ-pos zero f = refl
-sumℤ-pos (suc n) f = ap (λ (z : ℤ). z +ℤ pos (f n)) (sumℤ-pos n f)
-
 -- the magnitude of a sum is at most the sum of the magnitudes
-pub sumℤ-natAbs : (n : ℕ) (f : ℕ → ℤ) → natAbs (sumℤ n f) ≤ sumℕ n (λ i. natAbs (f i))
-sumℤ-natAbs zero f = le-refl 0
-sumℤ-natAbs (suc n) f = omega (arith, natAbs-+ℤ (sumℤ n f) (f n), sumℤ-natAbs n f)
+pub sumℤ-natAbs : (n : ℕ) (f : ℕ → ℤ) → pos (natAbs (sumℤ n f)) ≤ℤ sumℤ n (λ i. pos (natAbs (f i)))
+sumℤ-natAbs zero f = ≤ℤ-refl (pos 0)
+sumℤ-natAbs (suc n) f =
+    ≤ℤ-trans (pos-≤ℤ (natAbs-+ℤ (sumℤ n f) (f n))) (≤ℤ-add (sumℤ-natAbs n f) (≤ℤ-refl (pos (natAbs (f n)))))
