@@ -3,3 +3,5 @@ pub mod Hold
 pub mod Clear
 pub mod Keeps
 pub mod Run
+pub mod Stops
+pub mod Edges

@@ -1,6 +1,7 @@
 -- Elimination, stage by stage as paper 01 says it, on "the matrix beside the identity, s rows of 2s", which lies in a list row after row.
 -- One definition serves both calls: `skip` says whether a row whose factor is zero is passed over. Assumes nothing.
-use Prim.Native.Nat.{ℕ, zero, suc, _+_, _-_, _*_}
+use Prim.Native.Nat.{ℕ, zero, suc, _+_, _-_, _*_, _≤_, _<_}
+use mathlib.Core.Path.{_≡_}
 use mathlib.Core.Bool.{Bool, true, false, _&&_, cond}
 use mathlib.Core.List.{List}
 use lib.Dec.{eqb, ltb}
@@ -88,3 +89,21 @@ unfolding run
 eliminated skip s xs =
     let all = run skip s s 0 xs in
     cond (ltb (length xs) (2 * s * s)) (ended TooShort xs) all
+
+-- the area once the steps below n are done
+unfoldable pub stepped : Bool → ℕ → ℕ → List Float → List Float
+unfolding step
+stepped skip s zero xs = xs
+stepped skip s (suc n) xs = step skip s n (stepped skip s n xs)
+
+-- the area holds the matrix, and the first n of its s steps go through: none of them holds a small magnitude
+pub record Through (skip : Bool) (s n : ℕ) (xs : List Float) : Type 0 where
+  pub whole : 2 * s * s ≤ length xs
+  pub steps : n ≤ s
+  pub none : (k : ℕ) → k < n → small s k (stepped skip s k xs) ≡ false
+
+-- "19 needs the held pivot of a step": the steps before step i go through, and the magnitude that step i holds is small
+pub record StopsAt (skip : Bool) (s i : ℕ) (xs : List Float) : Type 0 where
+  pub before : Through skip s i xs
+  pub reached : i < s
+  pub below : small s i (stepped skip s i xs) ≡ true
