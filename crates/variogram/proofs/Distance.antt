@@ -8,9 +8,9 @@ use mathlib.Core.List.{List}
 use lib.Dec.{leb}
 use lib.ListN.{length, getD, List·getD-eq-default}
 use lib.Ieee.{Float, nan, inf, fin, binary64, add, sub, mul, neg, ofBits}
-use borrow.Author.Tests.{le-leb, lt-leb, leb-false}
+use borrow.Author.Tests.{le-leb, lt-leb, leb-true, leb-false}
 use Rattle.ieee.specs.Root.{sqrtOf}
-use Rattle.variogram.specs.Distance.{square, squaredDistance2d, distance2d, squares, axisFrom, offered, distance}
+use Rattle.variogram.specs.Distance.{square, squaredDistance2d, distance2d, squares, axisFrom, offered, hasPoint, distance}
 use Rattle.variogram.proofs.Squares.{square-opposite, plus-square}
 
 -- ---- the dimensions
@@ -81,7 +81,7 @@ unfolding sqrtOf
 root-nan = refl
 
 -- A point that does not lie in its list is at a distance that is a NaN, and so is every point where the dimension is not offered.
-pub past-end : (xs : List Float) (i : ℕ) (ys : List Float) (j d : ℕ) → (offered d && leb (j * d + d) (length ys)) ≡ false → distance xs i ys j d ≡ nan
+pub past-end : (xs : List Float) (i : ℕ) (ys : List Float) (j d : ℕ) → hasPoint ys j d ≡ false → distance xs i ys j d ≡ nan
 unfolding distance
 past-end xs i ys j zero h = refl
 past-end xs i ys j (suc k) h = go (offered (suc k)) refl
@@ -93,3 +93,27 @@ past-end xs i ys j (suc k) h = go (offered (suc k)) refl
         let past : length ys < j * suc k + suc k = leb-false (j * suc k + suc k) (length ys) t in
         let last : length ys ≤ j * suc k + k = omega arith in
         rw (e, last-nan (axisFrom xs (i * suc k)) (axisFrom ys (j * suc k)) k (List·getD-eq-default ys nan last)) root-nan
+
+-- and so from either side
+pub past-start : (xs : List Float) (i : ℕ) (ys : List Float) (j d : ℕ) → hasPoint xs i d ≡ false → distance xs i ys j d ≡ nan
+past-start xs i ys j d h = distance-back xs i ys j d ∙ past-end ys j xs i d h
+
+-- ---- a point that lies in its list
+and-first : (a b : Bool) → (a && b) ≡ true → a ≡ true
+and-first true b h = refl
+and-first false b h = h
+
+and-second : (a b : Bool) → (a && b) ≡ true → b ≡ true
+and-second true b h = h
+and-second false b h = cc
+
+module _ (xs : List Float) (i d : ℕ) (h : hasPoint xs i d ≡ true) where
+  pub point-offered : offered d ≡ true
+  point-offered = and-first (offered d) (leb (i * d + d) (length xs)) h
+
+  pub point-within : i * d + d ≤ length xs
+  point-within = leb-true (i * d + d) (length xs) (and-second (offered d) (leb (i * d + d) (length xs)) h)
+
+pub distance-offered : (xs : List Float) (i : ℕ) (ys : List Float) (j d : ℕ) → offered d ≡ true → distance xs i ys j d ≡ sqrtOf (squares (axisFrom xs (i * d)) (axisFrom ys (j * d)) d)
+unfolding distance
+distance-offered xs i ys j d h = rw h

@@ -3,7 +3,7 @@ use Prim.Native.Nat.{ℕ, zero, suc, _+_, _*_}
 use mathlib.Core.Bool.{Bool, true, false, cond, _&&_}
 use mathlib.Core.List.{List}
 use lib.Dec.{leb}
-use lib.ListN.{getD}
+use lib.ListN.{length, getD}
 use lib.Ieee.{Float, nan, binary64, add, sub, mul, ofBits}
 use Rattle.ieee.specs.Root.{sqrtOf}
 
@@ -32,6 +32,10 @@ axisFrom xs start k = getD xs (start + k) nan
 -- "d not 1, 2 or 3" is refused
 abbrev pub offered : ℕ → Bool
 offered d = leb 1 d && leb d 3
+
+-- whether the point i, of d numbers, lies in a list of such points
+abbrev pub hasPoint : List Float → ℕ → ℕ → Bool
+hasPoint xs i d = offered d && leb (i * d + d) (length xs)
 
 -- The distance of the point i of xs from the point j of ys, in lists of points of d numbers each, row after row.
 -- Where d is not offered it is a NaN, and so where a point does not lie in its list, since an axis past the end is a NaN.

@@ -1,12 +1,10 @@
 // The variogram models, and the distances at which they are evaluated.
 ghost use mathlib.Core.Path.{_≡_};
-ghost use mathlib.Core.Bool.{_&&_};
-ghost use Prim.Native.Nat.{_+_, _*_, _≤_};
-ghost use lib.Dec.{leb};
+ghost use Prim.Native.Nat.{_+_, _≤_};
 ghost use lib.ListN.{length};
 ghost use lib.Ieee.{nan};
 ghost use Rattle.variogram.specs.Model.{variogram, semivariance};
-ghost use Rattle.variogram.specs.Distance.{squaredDistance2d, offered, axisFrom, squares};
+ghost use Rattle.variogram.specs.Distance.{squaredDistance2d, distance2d, squares, axisFrom, hasPoint, distance};
 
 // Variogram models, in the Rust's order. The base offers Spherical and Linear.
 pub enum VariogramModel {
@@ -83,9 +81,16 @@ pub fn squared_distance_2d(ax: f64, ay: f64, bx: f64, by: f64) -> f64
     dx * dx + dy * dy
 }
 
+// The distance of the fit: the root of the squared distance.
+pub fn distance_2d(ax: f64, ay: f64, bx: f64, by: f64) -> f64
+    ensures { λ r. ⌜ r ≡ distance2d ax ay bx by ⌝ }
+{
+    ieee::sqrt(squared_distance_2d(ax, ay, bx, by))
+}
+
 // Whether points of d numbers are offered, and the point i of such lies in the list p.
 fn has_point(p: &[f64], i: usize, d: usize) -> bool
-    ensures { λ r. ⌜ r ≡ (offered d && leb (i * d + d) (length (now (p .entry)))) ⌝ }
+    ensures { λ r. ⌜ r ≡ hasPoint (now (p .entry)) i d ⌝ }
 {
     if d < 1 {
         return false;
@@ -111,4 +116,17 @@ fn sum_of_squares(p1: &[f64], a: usize, p2: &[f64], b: usize, d: usize) -> f64
         dist_sq = dist_sq + diff * diff;
     }
     dist_sq
+}
+
+// The distance of the older calls, from the point i of p1 to the point j of p2: lists of points of d numbers each, row after row.
+// A NaN where d is not 1, 2 or 3, or where one of the points does not lie in its list.
+pub fn calculate_distance(p1: &[f64], i: usize, p2: &[f64], j: usize, d: usize) -> f64
+    ensures { λ r. ⌜ r ≡ distance (now (p1 .entry)) i (now (p2 .entry)) j d ⌝ }
+{
+    if has_point(p1, i, d) {
+        if has_point(p2, j, d) {
+            return ieee::sqrt(sum_of_squares(p1, i * d, p2, j * d, d));
+        }
+    }
+    not_a_number()
 }

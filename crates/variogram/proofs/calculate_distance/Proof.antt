@@ -1,0 +1,73 @@
+-- `variogram::calculate_distance` meets its contract: what `has_point` says of both points, and a NaN for the rest. Assumes nothing.
+use Prim.Native.Nat.{_+_, _*_, _≤_}
+use mathlib.Core.Path.{_≡_, _∙_, ap, sym}
+use mathlib.Core.Bool.{true}
+use mathlib.Core.Logic.{⊎-elim}
+use native.Mathlib.Omega.{arith}
+use borrow.Author.Needs.{needs}
+use lib.ListN.{length}
+use Rattle.ieee.specs.Root.{sqrtOf}
+use Rattle.variogram.specs.Distance.{offered, hasPoint}
+use Rattle.variogram.proofs.Distance.{past-end, past-start, point-offered, point-within, distance-offered}
+use Rattle.variogram.proofs.calculate_distance.Statement.{statement}
+use Rattle.variogram.proofs.calculate_distance.Tie as tie
+
+has-point-requires : tie.Need-has-point-requires
+has-point-requires c κs = search needs
+
+has-point-requires-2 : tie.Need-has-point-requires-2
+has-point-requires-2 c κs = search needs
+
+-- where both tests are passed, the dimension is offered and both points lie in their lists
+passed : (c : tie.Then2)
+    → let a = c .before .before .before .before .before .before .args in
+    (offered (a .d) ≡ true) × (a .i * a .d + a .d ≤ length (a .p1 .now)) × (a .j * a .d + a .d ≤ length (a .p2 .now))
+passed c =
+    let a = c .before .before .before .before .before .before .args in
+    let first : hasPoint (a .p1 .now) (a .i) (a .d) ≡ true = sym (c .before .before .before .has-point .ensures) ∙ c .before .before .if1 .taken in
+    let second : hasPoint (a .p2 .now) (a .j) (a .d) ≡ true = sym (c .before .has-point2 .ensures) ∙ c .if2 .taken in (
+      point-offered (a .p1 .now) (a .i) (a .d) first,
+      point-within (a .p1 .now) (a .i) (a .d) first,
+      point-within (a .p2 .now) (a .j) (a .d) second,
+    )
+
+mul-sum-of-squares : tie.Need-mul-sum-of-squares
+mul-sum-of-squares c = omega (arith, passed c .1)
+
+mul-sum-of-squares-2 : tie.Need-mul-sum-of-squares-2
+mul-sum-of-squares-2 c = omega (arith, passed c .2)
+
+sum-of-squares-requires : tie.Need-sum-of-squares-requires
+sum-of-squares-requires c κs = (passed c .1, passed c .2)
+
+sqrt-requires : tie.Need-sqrt-requires
+sqrt-requires c κs = search needs
+
+returns : tie.Need-returns
+returns c =
+    let at = c .before .before in
+    c .sqrt .ensures ∙ ap sqrtOf (c .before .sum-of-squares .ensures) ∙ sym (distance-offered _ _ _ _ _ (passed at .0))
+
+not-a-number-requires : tie.Need-not-a-number-requires
+not-a-number-requires c κs = search needs
+
+returns-2 : tie.Need-returns-2
+returns-2 c =
+    c .not-a-number .ensures
+    ∙ sym (⊎-elim (λ w. past-end _ _ _ _ _ (sym (w .1 .ensures) ∙ w .2 .left))
+    (λ w. past-start _ _ _ _ _ (sym (c .before .before .has-point .ensures) ∙ w .left))
+    (c .before .if1 .came))
+
+pub calculate-distance-spec : {M : Type 1} → statement M
+calculate-distance-spec =
+    tie.close
+    (tie.spec
+    has-point-requires
+    has-point-requires-2
+    mul-sum-of-squares
+    mul-sum-of-squares-2
+    sum-of-squares-requires
+    sqrt-requires
+    returns
+    not-a-number-requires
+    returns-2)

@@ -1,0 +1,128 @@
+"""Variograms and distances of the original, as records that `vectors_variogram` replays, always the same ones.
+
+Usage: python3 tools/oracle/variogram_vectors.py > crates/vectors_variogram/stdin     (after tools/oracle/build.sh)
+
+A record is eight little-endian words of 64 bits: what is called, six numbers, and the original's answer.
+
+    1, 4         Variogram::evaluate, Spherical and Linear: nugget, sill, range, h, 0, 0
+    11, 12, 13   calculate_distance over 1, 2 and 3 axes: three numbers of each point, zeros for those not taken
+    20, 21       squared_distance_2d, and its root: ax, ay, bx, by, 0, 0
+"""
+import random
+import struct
+import sys
+
+from oracle import NAN, ask, bits, value, word, words
+
+RANDOM = random.Random(20260819)
+EPSILON = 0x3CB0_0000_0000_0000
+INFINITY = 0x7FF0_0000_0000_0000
+MINUS = 1 << 63
+LARGEST = INFINITY - 1
+
+PLAIN = [bits(x) for x in (0.0, 0.1, 0.25, 0.5, 1.0, 1.5, 2.0, 3.0, 10.0, 1000.0, 4725310.25)]
+ODD = [MINUS, 1, 2, 0x000F_FFFF_FFFF_FFFF, 0x0010_0000_0000_0000, EPSILON, LARGEST, LARGEST - 1, bits(1e-300), bits(1e300)]
+NOT_FINITE = [INFINITY, INFINITY | MINUS, NAN]
+
+
+def any_number():
+    return RANDOM.getrandbits(1) << 63 | RANDOM.randrange(2047) << 52 | RANDOM.getrandbits(52)
+
+
+def number():
+    """A number that is plain, random, at an edge, or, seldom, not finite."""
+    kind = RANDOM.randrange(20)
+    if kind < 8:
+        return RANDOM.choice(PLAIN)
+    if kind < 13:
+        return bits(RANDOM.uniform(-10, 1000))
+    if kind < 16:
+        return RANDOM.choice(ODD) ^ (RANDOM.getrandbits(1) << 63)
+    if kind < 19:
+        return any_number()
+    return RANDOM.choice(NOT_FINITE)
+
+
+def beside(pattern):
+    """A pattern with the two next to it in the order of patterns."""
+    return [(pattern + step) % (1 << 64) for step in (-1, 0, 1)]
+
+
+def distances_for(range_bits):
+    """Distances worth trying at a range: about it, about 2^-52, within it, and anything."""
+    span = value(range_bits)
+    some = beside(range_bits) + beside(EPSILON) + [0, MINUS, INFINITY, NAN, LARGEST, bits(-1.0)]
+    some += [bits(span * RANDOM.uniform(0, 1.2)) for _ in range(6)] + [bits(RANDOM.uniform(0, 3)), number()]
+    return some
+
+
+def variograms():
+    ranges = PLAIN + ODD + [r ^ MINUS for r in PLAIN + ODD] + NOT_FINITE
+    for model in (1, 4):
+        for fixed in ranges:
+            for h in RANDOM.sample(distances_for(fixed), 8):
+                yield model, [number(), number(), fixed, h]
+        for _ in range(700 if model == 1 else 500):
+            span = number()
+            yield model, [number(), number(), span, RANDOM.choice(distances_for(span))]
+        for _ in range(800 if model == 1 else 400):
+            span = 10 ** RANDOM.uniform(-3, 6)
+            nugget, sill, h = RANDOM.uniform(0, 2), RANDOM.uniform(0, 20), span * RANDOM.uniform(0, 1.2)
+            yield model, [bits(nugget), bits(sill), bits(span), bits(h)]
+
+
+def coordinate():
+    kind = RANDOM.randrange(10)
+    if kind < 4:
+        return bits(round(RANDOM.uniform(4e6, 5e6), 2))
+    if kind < 6:
+        return bits(float(RANDOM.randrange(-5, 6)))
+    return number()
+
+
+def near(pattern):
+    """The same number, one beside it, or another."""
+    kind = RANDOM.randrange(6)
+    if kind == 0:
+        return pattern
+    if kind == 1:
+        return RANDOM.choice(beside(pattern))
+    if kind == 2:
+        return bits(value(pattern) + RANDOM.choice([1e-200, 1e-160, 1e-8, 0.125, 1e150]))
+    return coordinate()
+
+
+def pairs(axes):
+    big, tiny = LARGEST, 1
+    for a, b in ((big, big ^ MINUS), (tiny, MINUS | tiny), (0, MINUS), (MINUS, 0), (0, 0), (bits(1e160), 0), (bits(1e-170), 0)):
+        yield [a] * axes, [b] * axes
+    while True:
+        a = [coordinate() for _ in range(axes)]
+        yield a, [near(x) for x in a]
+
+
+def distances():
+    for kind, axes, count in ((11, 1, 150), (12, 2, 200), (13, 3, 250), (20, 2, 400), (21, 2, 500)):
+        for _, (a, b) in zip(range(count), pairs(axes)):
+            rest = [0] * (3 - axes)
+            yield kind, a + rest + b + rest if kind < 20 else a + b
+
+
+def call(kind, numbers):
+    if kind < 10:
+        return f"evaluate {kind} {words(numbers)}"
+    if kind < 20:
+        axes = kind - 10
+        return f"distance {axes} {words(numbers[:axes])} {words(numbers[3:3 + axes])}"
+    return f"distance2 {words(numbers)}"
+
+
+def main():
+    records = [(kind, [NAN if value(n) != value(n) else n for n in numbers]) for kind, numbers in [*variograms(), *distances()]]
+    for (kind, numbers), answer in zip(records, ask([call(*r) for r in records])):
+        taken = answer.split()[-1 if kind == 21 else 0]
+        six = numbers + [0] * (6 - len(numbers))
+        sys.stdout.buffer.write(struct.pack("<8Q", kind, *six, int(taken, 16)))
+
+
+main()
