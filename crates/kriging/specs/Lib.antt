@@ -7,3 +7,4 @@ pub mod Audit
 pub mod Limits
 pub mod Refusals
 pub mod Fit
+pub mod System
