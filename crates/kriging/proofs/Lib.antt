@@ -2,3 +2,6 @@
 pub mod SystemDrift
 pub mod SystemTable
 pub mod System
+pub mod RefusalsRising
+pub mod RefusalsTests
+pub mod Refusals

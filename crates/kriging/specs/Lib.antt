@@ -8,3 +8,4 @@ pub mod Limits
 pub mod Refusals
 pub mod Fit
 pub mod System
+pub mod Lowest
