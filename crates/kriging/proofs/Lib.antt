@@ -5,3 +5,4 @@ pub mod System
 pub mod RefusalsRising
 pub mod RefusalsTests
 pub mod Refusals
+pub mod RefusalsFit

@@ -5,7 +5,7 @@ use native.Mathlib.Omega.{arith}
 use mathlib.Core.Path.{_≡_, refl, sym, subst}
 use mathlib.Core.Logic.{_≢_, _⊎_, inl, inr, _↔_}
 use mathlib.Core.List.{List}
-use lib.Dec.{T}
+use lib.Dec.{T, lit≤}
 use lib.ListN.{length}
 use Rattle.error.specs.Tests.{Test, firstOf}
 use Rattle.kriging.specs.Survey.{Survey, Areas, wells, nodeCount, columns, externals, size}
@@ -95,3 +95,20 @@ module _ (s : Survey) (a : Areas) where
             | yes p ↦ absurd (n (refusal s a) (given (refusal s a) refl (omega arith)))
             | no m ↦ omega arith
           ]
+
+-- and no number past 18 has a condition here: 19 is a pivot's
+pub condition-most : (s : Survey) (a : Areas) {k : ℕ} → Condition s a k → k ≤ 18
+condition-most s a (coordinates h) = lit≤ tt
+condition-most s a (odd-nodes h) = lit≤ tt
+condition-most s a (no-basis h) = lit≤ tt
+condition-most s a (code h) = lit≤ tt
+condition-most s a (regularization h) = lit≤ tt
+condition-most s a (externals-length h) = lit≤ tt
+condition-most s a (few-wells h) = lit≤ tt
+condition-most s a (node-externals-length k h) = lit≤ tt
+condition-most s a (too-many h) = lit≤ tt
+condition-most s a (tolerance h) = lit≤ tt
+condition-most s a (numbers h) = lit≤ tt
+condition-most s a (model h) = lit≤ tt
+condition-most s a (work-short h) = lit≤ tt
+condition-most s a (answer-short h) = lit≤ tt

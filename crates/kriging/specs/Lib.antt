@@ -9,3 +9,4 @@ pub mod Refusals
 pub mod Fit
 pub mod System
 pub mod Lowest
+pub mod Untouched
