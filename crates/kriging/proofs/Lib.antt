@@ -6,3 +6,5 @@ pub mod RefusalsRising
 pub mod RefusalsTests
 pub mod Refusals
 pub mod RefusalsFit
+pub mod Nodes
+pub mod NodesExit

@@ -1,6 +1,6 @@
 -- The assembled matrix is the kriging system's, entry by entry, beside the identity; its right-hand side and its variance are the node's; and it is symmetric, bit for bit. Assumes nothing.
 use Prim.Native.Nat.{ℕ, suc, _+_, _-_, _*_, _/_, _%_, _<_, _≤_}
-use native.Mathlib.Nat.{mul-add-div-right, mul-add-mod-self-right, div-eq-of-lt, mod-eq-of-lt, add-zero, zero-add}
+use native.Mathlib.Nat.{zero-add}
 use native.Mathlib.Decide.{decLt, ℕ-discrete}
 use native.Mathlib.Omega.{arith}
 use mathlib.Core.Path.{_≡_, refl, ap, ap₂, sym, _∙_}
@@ -23,7 +23,7 @@ use Rattle.kriging.specs.Assembly.{zero, between, entry, augmented, asse
 use Rattle.kriging.specs.Node.{rightHand, runningSum, table, varianceOf}
 use Rattle.kriging.specs.System.{Place, wellPlace, nodePlace, variogramOf, driftAt, Index, Well, Drift, Within, coefficientOf, rightOf, addedTo, varianceSum, rowOf}
 use Rattle.kriging.proofs.SystemDrift.{drift-well, drift-node, node-row-length}
-use Rattle.kriging.proofs.SystemTable.{table-length, joined-at, joined-past, sum-on}
+use Rattle.kriging.proofs.SystemTable.{row-back, column-back, table-length, joined-at, joined-past, sum-on}
 
 -- ---- rows and unknowns
 -- a row of the system is the row of one equation
@@ -57,14 +57,6 @@ module _ (s : Survey) where
   entry-is (Drift l) (Drift k) hu hv = rw (past l, past k)
 
 -- ---- the work area: the matrix, and the identity beside it
--- the place of row i and column j, taken apart again
-module _ (w i j : ℕ) (h : j < w) where
-  row-back : (i * w + j) / w ≡ i
-  row-back = mul-add-div-right (omega arith) i j ∙ ap (λ (n : ℕ). i + n) (div-eq-of-lt h) ∙ add-zero i
-
-  column-back : (i * w + j) % w ≡ j
-  column-back = mul-add-mod-self-right i w j ∙ mod-eq-of-lt h
-
 -- an area long enough holds the matrix beside the identity, row after row
 augmented-at : (s : Survey) (work : List Float) (i j : ℕ) (d : Float) → 2 * size s * size s ≤ length work → i < size s → j < 2 * size s
     → getD (assembled s work) (i * (2 * size s) + j) d ≡ augmented s i j

@@ -1,6 +1,6 @@
--- Laws of `table`, of a running sum and of two lists joined, place by place. Assumes nothing.
-use Prim.Native.Nat.{ℕ, zero, suc, _+_, _-_, _<_, _≤_}
-use native.Mathlib.Nat.{add-zero, add-suc, not-suc-le-zero}
+-- Laws of `table`, of a running sum and of two lists joined, place by place; and of a place in rows, taken apart. Assumes nothing.
+use Prim.Native.Nat.{ℕ, zero, suc, _+_, _-_, _*_, _/_, _%_, _<_, _≤_}
+use native.Mathlib.Nat.{add-zero, add-suc, not-suc-le-zero, mul-add-div-right, mul-add-mod-self-right, div-eq-of-lt, mod-eq-of-lt}
 use native.Mathlib.Numerals.{add-one}
 use native.Mathlib.Decide.{decLt}
 use native.Mathlib.Omega.{arith}
@@ -57,3 +57,11 @@ pub same-sum : (k : ℕ) (f g : ℕ → Float) → ((i : ℕ) → i < k → f i 
 unfolding runningSum
 same-sum zero f g h = refl
 same-sum (suc k) f g h = ap₂ (λ (x y : Float). add binary64 x y) (same-sum k f g (λ i b. h i (omega arith))) (h k (omega arith))
+
+-- the place of row i and column j, taken apart again
+module _ (w i j : ℕ) (h : j < w) where
+  pub row-back : (i * w + j) / w ≡ i
+  row-back = mul-add-div-right (omega arith) i j ∙ ap (λ (n : ℕ). i + n) (div-eq-of-lt h) ∙ add-zero i
+
+  pub column-back : (i * w + j) % w ≡ j
+  column-back = mul-add-mod-self-right i w j ∙ mod-eq-of-lt h

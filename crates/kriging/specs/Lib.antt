@@ -10,3 +10,4 @@ pub mod Fit
 pub mod System
 pub mod Lowest
 pub mod Untouched
+pub mod Alike
