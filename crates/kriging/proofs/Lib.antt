@@ -8,3 +8,5 @@ pub mod Refusals
 pub mod RefusalsFit
 pub mod Nodes
 pub mod NodesExit
+pub mod NodesWork
+pub mod NodesAlone

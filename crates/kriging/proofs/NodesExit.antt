@@ -17,7 +17,7 @@ use Rattle.kriging.proofs.SystemTable.{row-back, column-back}
 use Rattle.kriging.proofs.RefusalsFit.{worked, zero-exactly, accepted-areas}
 
 -- a fill from the start, place by place
-filled : {A : Type 0} (k : ℕ) (f : ℕ → A) (xs : List A) (j : ℕ) (d : A) → k ≤ length xs → j < k → getD (written 0 k f xs) j d ≡ f j
+pub filled : {A : Type 0} (k : ℕ) (f : ℕ → A) (xs : List A) (j : ℕ) (d : A) → k ≤ length xs → j < k → getD (written 0 k f xs) j d ≡ f j
 filled {A} k f xs j d long h =
     ap (λ (p : ℕ). getD (written 0 k f xs) p d) (sym (zero-add j)) ∙ at-place 0 k f xs j d (let e = zero-add k in omega arith) h
 

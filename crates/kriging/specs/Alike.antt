@@ -1,7 +1,9 @@
--- Two surveys that differ at most in their nodes, and two nodes alike: what a node's answer may depend on. Assumes nothing.
-use Prim.Native.Nat.{ℕ, _<_}
+-- Two surveys that differ at most in their nodes, two nodes alike, and two answers alike. Assumes nothing.
+use Prim.Native.Nat.{ℕ, _+_, _*_, _<_}
 use mathlib.Core.Path.{_≡_}
-use Rattle.kriging.specs.Survey.{Survey, externals, nodeX, nodeY, nodeExternalAt}
+use lib.ListN.{getD}
+use lib.Ieee.{Float, nan}
+use Rattle.kriging.specs.Survey.{Survey, Areas, wells, externals, nodeX, nodeY, nodeExternalAt}
 
 -- the same in everything but the lists of nodes
 pub record SameWells (s t : Survey) : Type 0 where
@@ -17,3 +19,10 @@ pub record SameNode (s t : Survey) (q r : ℕ) : Type 0 where
   pub x : nodeX s q ≡ nodeX t r
   pub y : nodeY s q ≡ nodeY t r
   pub external : (c : ℕ) → c < externals s → nodeExternalAt s q c ≡ nodeExternalAt t r c
+
+-- what the answer areas a hold at node q of s is what b hold at node r of t
+pub record SameAnswer (s t : Survey) (q r : ℕ) (a b : Areas) : Type 0 where
+  pub figure : getD (a .predicted) q nan ≡ getD (b .predicted) r nan
+  pub variance : getD (a .variance) q nan ≡ getD (b .variance) r nan
+  pub verdict : getD (a .verdicts) q 0 ≡ getD (b .verdicts) r 0
+  pub weight : (i : ℕ) → i < wells s → getD (a .weights) (q * wells s + i) nan ≡ getD (b .weights) (r * wells t + i) nan
