@@ -10,3 +10,5 @@ pub mod Nodes
 pub mod NodesExit
 pub mod NodesWork
 pub mod NodesAlone
+pub mod SystemNode
+pub mod SystemDiagonal

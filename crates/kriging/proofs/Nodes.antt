@@ -60,28 +60,6 @@ renamed {s} {t} h = λ i. record {
   tolerance = h .tolerance i;
 }
 
--- what a node gets, from its right-hand side and its drift row
-abbrev nodeWith : Survey → List Float → List Float → List Float → Node
-unfolding solution figureOf varianceOf verdictOf
-nodeWith t work b row =
-    let z = solution (size t) work b in
-    let figure = figureOf t z in
-    record {
-      z = z;
-      figure = figure;
-      variance = varianceOf (size t) z b;
-      verdict = verdictOf (record {
-        n = wells t;
-        p = columns t;
-        weight = λ i. getD z i nan;
-        drift = drift t;
-        nodeDrift = λ j. getD row j nan;
-        value = valueAt t;
-        figure = figure;
-        tolerance = t .tolerance;
-      });
-    }
-
 module _ (t : Survey) (nodes nodeExternal : List Float) (q r : ℕ) (h : SameNode (withNodes t nodes nodeExternal) t q r) where
   node-row-same : nodeRow (withNodes t nodes nodeExternal) q ≡ nodeRow t r
   node-row-same =
@@ -97,7 +75,7 @@ module _ (t : Survey) (nodes nodeExternal : List Float) (q r : ℕ) (h : SameNod
 
   node-same : (work : List Float) → nodeOf (withNodes t nodes nodeExternal) work q ≡ nodeOf t work r
   unfolding nodeOf
-  node-same work = ap₂ (nodeWith t work) right-same node-row-same
+  node-same work = rw (right-same, node-row-same)
 
 -- what a node gets depends on the node and its external values alone
 pub node-alone : (s t : Survey) (q r : ℕ) → SameWells s t → SameNode s t q r → (work : List Float) → nodeOf s work q ≡ nodeOf t work r

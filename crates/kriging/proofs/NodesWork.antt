@@ -133,13 +133,6 @@ solution-same s xs ys b h =
     same-sum s _ _
     (λ j hj. ap (λ (x : Float). mul binary64 x (getD b j nan)) (h .same (i * (2 * s) + (s + j)) (let e = row-end (2 * s) i s hi in omega arith))))
 
--- what a node gets, from its z
-abbrev nodeFrom : Survey → ℕ → List Float → Node
-unfolding rightHand figureOf varianceOf verdictOf
-nodeFrom s q z =
-    let figure = figureOf s z in
-    record { z = z; figure = figure; variance = varianceOf (size s) z (rightHand s q); verdict = verdictOf (auditOf s q z figure) }
-
 pub node-agree : (s : Survey) (xs ys : List Float) (q : ℕ) → Agree (size s * (2 * size s)) xs ys → nodeOf s xs q ≡ nodeOf s ys q
 unfolding nodeOf
-node-agree s xs ys q h = ap (nodeFrom s q) (solution-same (size s) xs ys (rightHand s q) h)
+node-agree s xs ys q h = rw (solution-same (size s) xs ys (rightHand s q) h)

@@ -13,14 +13,13 @@ use lib.ListN.{length, getD, length-append}
 use lib.Ieee.{Float, nan, binary64, mul, ofBits}
 use Rattle.area.proofs.Places.{at-place}
 use Rattle.area.proofs.Rows.{row-end}
-use Rattle.ieee.specs.Floats.{maxOf}
 use Rattle.variogram.specs.Model.{semivariance}
 use Rattle.variogram.specs.Distance.{distance2d}
 use Rattle.variogram.proofs.Distance.{distance2d-back}
 use Rattle.kriging.specs.Survey.{Survey, wells, columns, size, wellX, wellY}
 use Rattle.kriging.specs.Drift.{drift, one, nodeRow}
 use Rattle.kriging.specs.Assembly.{zero, between, entry, augmented, assembled}
-use Rattle.kriging.specs.Node.{rightHand, runningSum, table, varianceOf}
+use Rattle.kriging.specs.Node.{rightHand, runningSum, table}
 use Rattle.kriging.specs.System.{Place, wellPlace, nodePlace, variogramOf, driftAt, Index, Well, Drift, Within, coefficientOf, rightOf, addedTo, varianceSum, rowOf}
 use Rattle.kriging.proofs.SystemDrift.{drift-well, drift-node, node-row-length}
 use Rattle.kriging.proofs.SystemTable.{row-back, column-back, table-length, joined-at, joined-past, sum-on}
@@ -73,8 +72,7 @@ module _ (s : Survey) (work : List Float) (d : Float) (long : 2 * size s * size 
   left-half : (i j : ℕ) → i < size s → j < size s → getD (assembled s work) (i * (2 * size s) + j) d ≡ entry s i j
   unfolding augmented
   left-half i j hi hj =
-      augmented-at s work i j d long hi (omega arith)
-      ∙ ap (λ (b : Bool). cond b (entry s i j) (cond (eqb j (size s + i)) one zero)) (lt-ltb j (size s) hj)
+      augmented-at s work i j d long hi (omega arith) ∙ rw (lt-ltb j (size s) hj)
 
   pub matrix-at : (u v : Index) → Within s u → Within s v → getD (assembled s work) (rowOf s u * (2 * size s) + rowOf s v) d ≡ coefficientOf s u v
   matrix-at u v hu hv = left-half (rowOf s u) (rowOf s v) (row-below s u hu) (row-below s v hv) ∙ entry-is s u v hu hv
@@ -83,8 +81,7 @@ module _ (s : Survey) (work : List Float) (d : Float) (long : 2 * size s * size 
   right-half : (i j : ℕ) → i < size s → j < size s → getD (assembled s work) (i * (2 * size s) + (size s + j)) d ≡ cond (eqb (size s + j) (size s + i)) one zero
   unfolding augmented
   right-half i j hi hj =
-      augmented-at s work i (size s + j) d long hi (omega arith)
-      ∙ ap (λ (b : Bool). cond b (entry s i (size s + j)) (cond (eqb (size s + j) (size s + i)) one zero)) (le-ltb (size s + j) (size s) (omega arith))
+      augmented-at s work i (size s + j) d long hi (omega arith) ∙ rw (le-ltb (size s + j) (size s) (omega arith))
 
   pub identity-one : (i : ℕ) → i < size s → getD (assembled s work) (i * (2 * size s) + (size s + i)) d ≡ one
   identity-one i h = right-half i i h h ∙ ap (λ (b : Bool). cond b one zero) (eq-eqb (size s + i) (size s + i) refl)
@@ -111,12 +108,6 @@ variance-is s q z =
     sum-on (wells s) _ _ _ (columns s)
     (λ i b. ap (λ (x : Float). mul binary64 (getD z i nan) x) (right-is s q (Well i) b))
     (λ l b. ap (λ (x : Float). mul binary64 (getD z (wells s + l) nan) x) (right-is s q (Drift l) b))
-
--- and after: the clamp, "minus zero, anything below zero and NaN become +0"
-pub variance-clamped : (s : Survey) (q : ℕ) (z : List Float)
-    → varianceOf (size s) z (rightHand s q) ≡ maxOf (varianceSum s (nodePlace s q) (λ u. getD z (rowOf s u) nan)) zero
-unfolding varianceOf
-variance-clamped s q z = ap (λ (x : Float). maxOf x zero) (variance-is s q z)
 
 -- ---- symmetry, bit for bit, for every survey
 between-back : (s : Survey) (i j : ℕ) → between s i j ≡ between s j i
