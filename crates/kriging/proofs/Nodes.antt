@@ -1,21 +1,19 @@
 -- Node by node: what a node gets depends on the node and its external values alone, whatever the other nodes are. Assumes nothing.
-use Prim.Native.Nat.{ℕ, zero, suc, _+_, _<_, _≤_}
-use native.Mathlib.Nat.{add-zero, zero-add}
+use Prim.Native.Nat.{ℕ, _+_, _<_, _≤_}
+use native.Mathlib.Nat.{zero-add}
 use native.Mathlib.Omega.{arith}
-use mathlib.Core.Path.{_≡_, refl, ap, ap₂, sym, _∙_, subst}
+use mathlib.Core.Path.{_≡_, refl, ap, ap₂, _∙_, subst}
 use mathlib.Core.Bool.{Bool, true, false, cond}
 use mathlib.Core.List.{List, [], _∷_, _++_}
 use lib.Dec.{eqb}
-use lib.ListN.{getD}
-use lib.Ieee.{Float, nan}
+use lib.Ieee.{Float}
 use Rattle.variogram.specs.Model.{semivariance}
 use Rattle.variogram.specs.Distance.{distance2d}
-use Rattle.kriging.specs.Survey.{Survey, wells, columns, size, externalCount, externals, wellX, wellY, nodeX, nodeY, nodeExternalAt, valueAt}
-use Rattle.kriging.specs.Drift.{block, driftRow, nodeRow, drift}
+use Rattle.kriging.specs.Survey.{Survey, wells, size, externalCount, wellX, wellY, nodeX, nodeY, nodeExternalAt}
+use Rattle.kriging.specs.Drift.{block, driftRow, nodeRow}
 use Rattle.kriging.specs.Assembly.{assembled}
-use Rattle.kriging.specs.Node.{table, rightHand, solution, figureOf, varianceOf}
-use Rattle.kriging.specs.Audit.{Audited, verdictOf}
-use Rattle.kriging.specs.Fit.{Node, nodeOf}
+use Rattle.kriging.specs.Node.{table, rightHand}
+use Rattle.kriging.specs.Fit.{nodeOf}
 use Rattle.kriging.specs.Alike.{SameWells, SameNode}
 
 -- ---- a drift row reads the external columns that its codes take, and no other

@@ -1,5 +1,5 @@
 -- Node by node, at exit: two accepted fits of surveys that differ at most in their nodes, in whatever areas, have the same figure, variance, verdict and weights wherever two nodes are alike. Assumes nothing.
-use Prim.Native.Nat.{ℕ, _+_, _*_, _<_, _≤_}
+use Prim.Native.Nat.{ℕ, _*_, _<_, _≤_}
 use native.Mathlib.Omega.{arith}
 use mathlib.Core.Path.{_≡_, refl, ap, ap₂, sym, _∙_, subst, subst₂}
 use mathlib.Core.Bool.{true}
@@ -8,7 +8,7 @@ use lib.ListN.{length, getD}
 use lib.Ieee.{Float, nan}
 use Rattle.elimination.specs.Elimination.{Outcome, stepped}
 use Rattle.elimination.proofs.Stops.{finished}
-use Rattle.kriging.specs.Survey.{Survey, Areas, wells, nodeCount, size}
+use Rattle.kriging.specs.Survey.{Survey, Areas, nodeCount, size}
 use Rattle.kriging.specs.Assembly.{assembled}
 use Rattle.kriging.specs.Fit.{Node, nodeOf, fitted}
 use Rattle.kriging.specs.Alike.{SameWells, SameNode, SameAnswer}

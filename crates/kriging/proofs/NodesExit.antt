@@ -1,17 +1,17 @@
 -- An accepted fit's areas place by place: at node q they hold node q's figure, variance, verdict and weights, and the coefficient area holds the trend's coefficients. Assumes nothing.
-use Prim.Native.Nat.{ℕ, zero, suc, _+_, _*_, _/_, _%_, _<_, _≤_}
+use Prim.Native.Nat.{ℕ, _+_, _*_, _<_, _≤_}
 use native.Mathlib.Nat.{zero-add}
 use native.Mathlib.Omega.{arith}
-use mathlib.Core.Path.{_≡_, refl, ap, ap₂, sym, _∙_}
+use mathlib.Core.Path.{_≡_, ap, ap₂, sym, _∙_}
 use mathlib.Core.List.{List}
 use lib.ListN.{length, getD}
 use lib.Ieee.{Float, nan}
 use Rattle.area.specs.Area.{written}
 use Rattle.area.proofs.Places.{at-place}
 use Rattle.area.proofs.Rows.{row-end}
-use Rattle.kriging.specs.Survey.{Survey, Areas, wells, nodeCount, columns, size}
-use Rattle.kriging.specs.Fit.{Node, nodeOf, coefficient, answered, fitted}
-use Rattle.kriging.specs.Lowest.{Condition, AnswerShort, figures, variances, verdicts, weights, coefficients, answer-short}
+use Rattle.kriging.specs.Survey.{Survey, Areas, wells, nodeCount, columns}
+use Rattle.kriging.specs.Fit.{nodeOf, coefficient, answered, fitted}
+use Rattle.kriging.specs.Lowest.{AnswerShort, figures, variances, verdicts, weights, coefficients, answer-short}
 use Rattle.kriging.proofs.Refusals.{none-exactly}
 use Rattle.kriging.proofs.SystemTable.{row-back, column-back}
 use Rattle.kriging.proofs.RefusalsFit.{worked, zero-exactly, accepted-areas}

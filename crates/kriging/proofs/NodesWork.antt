@@ -15,10 +15,9 @@ use Rattle.area.proofs.Rows.{row-end}
 use Rattle.elimination.specs.Elimination.{at, magnitude, held, hold, swapped, divided, reduced, spared, cleared, step, stepped}
 use Rattle.ieee.specs.Floats.{absOf}
 use Rattle.elimination.proofs.Hold.{hold-below}
-use Rattle.kriging.specs.Survey.{Survey, wells, columns, size}
-use Rattle.kriging.specs.Node.{rightHand, solution, inverseAt, figureOf, varianceOf, runningSum}
-use Rattle.kriging.specs.Audit.{verdictOf}
-use Rattle.kriging.specs.Fit.{Node, nodeOf, auditOf}
+use Rattle.kriging.specs.Survey.{Survey, size}
+use Rattle.kriging.specs.Node.{rightHand, solution}
+use Rattle.kriging.specs.Fit.{nodeOf}
 use Rattle.kriging.proofs.SystemTable.{same-table, same-sum}
 
 -- both areas hold n numbers or more, and the first n are the same

@@ -1,19 +1,17 @@
 -- "The lowest applying number wins in a fit": before it eliminates, the number given is the lowest whose condition holds, and 0 exactly where none does. Assumes nothing.
-use Prim.Native.Nat.{ℕ, zero, suc, _+_, _*_, _%_, _<_, _≤_}
+use Prim.Native.Nat.{ℕ, _*_, _%_, _<_, _≤_}
 use native.Mathlib.Decide.{decLt}
 use native.Mathlib.Omega.{arith}
-use mathlib.Core.Path.{_≡_, refl, sym, subst}
-use mathlib.Core.Logic.{_≢_, _⊎_, inl, inr, _↔_}
-use mathlib.Core.List.{List}
+use mathlib.Core.Path.{_≡_, refl, subst}
+use mathlib.Core.Logic.{_≢_, inl, inr, _↔_}
 use lib.Dec.{T, lit≤}
 use lib.ListN.{length}
-use Rattle.error.specs.Tests.{Test, firstOf}
 use Rattle.kriging.specs.Survey.{Survey, Areas, wells, nodeCount, columns, externals, size}
 use Rattle.kriging.specs.Refusals.{tests, refusal}
 use Rattle.kriging.specs.Lowest.{Condition, Lowest}
 use Rattle.kriging.specs.Lowest.{coordinates, odd-nodes, no-basis, code, regularization, externals-length, few-wells, node-externals-length, too-many, tolerance, numbers, model, work-short, answer-short}
 use Rattle.kriging.proofs.RefusalsRising.{rising, Holding, given-holds, none-lower}
-use Rattle.kriging.proofs.RefusalsTests.{Tells, both, equal, different, below, some-bad-code, bad-amount, not-offered, too-many-is, number-not-finite, answer-short-is}
+use Rattle.kriging.proofs.RefusalsTests.{both, equal, different, below, some-bad-code, bad-amount, not-offered, too-many-is, number-not-finite, answer-short-is}
 
 module _ (s : Survey) (a : Areas) where
   in-order : T (rising 0 (tests s a))

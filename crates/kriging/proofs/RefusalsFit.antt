@@ -1,12 +1,11 @@
 -- How a fit ends, and in which areas: turned away, with every area as it was; stopped at a pivot below 2^-52, with the work area alone changed; or done. And each of these exactly where its condition holds. Assumes nothing.
-use Prim.Native.Nat.{ℕ, zero, suc, _+_, _*_, _<_, _≤_}
+use Prim.Native.Nat.{ℕ, zero, suc, _*_, _≤_}
 use native.Mathlib.Decide.{decLt}
 use native.Mathlib.Omega.{arith}
 use mathlib.Core.Path.{_≡_, refl, ap, sym, _∙_, subst}
 use mathlib.Core.Logic.{_≢_, _↔_}
 use mathlib.Core.Bool.{true}
 use mathlib.Core.List.{List}
-use lib.Dec.{lit≤}
 use lib.ListN.{length}
 use lib.Ieee.{Float}
 use Rattle.area.specs.Area.{Kept}
@@ -21,7 +20,7 @@ use Rattle.kriging.specs.Survey.{Survey, Areas, wells, nodeCount, column
 use Rattle.kriging.specs.Assembly.{assembled}
 use Rattle.kriging.specs.Refusals.{refusal}
 use Rattle.kriging.specs.Fit.{Node, Ended, nodeOf, answered, withWork, ended, afterwards, fitWhere, fitted}
-use Rattle.kriging.specs.Lowest.{Condition, Lowest, work-short}
+use Rattle.kriging.specs.Lowest.{Lowest, work-short}
 use Rattle.kriging.specs.Untouched.{Untouched}
 use Rattle.kriging.proofs.Refusals.{lowest-wins, none-exactly, condition-most}
 

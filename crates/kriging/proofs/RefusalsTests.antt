@@ -1,21 +1,20 @@
 -- Each test of a fit holds exactly where its condition does. Assumes nothing.
-use Prim.Native.Nat.{ℕ, zero, suc, _+_, _*_, _%_, _<_}
+use Prim.Native.Nat.{ℕ, zero, suc, _*_, _<_}
 use native.Mathlib.Nat.{not-suc-le-zero, le-of-suc-le-suc}
 use native.Mathlib.Omega.{arith}
-use mathlib.Core.Path.{_≡_, refl, ap, sym, _∙_, subst}
-use mathlib.Core.Logic.{_≢_, _⊎_, inl, inr, _↔_}
+use mathlib.Core.Path.{_≡_, refl, sym, subst}
+use mathlib.Core.Logic.{_≢_, _⊎_, inl, inr}
 use mathlib.Core.Bool.{Bool, true, false, not, _&&_, _||_}
 use mathlib.Core.List.{List, [], _∷_}
-use lib.Dec.{T, ltb, leb, eqb, ltb→lt, lt→ltb, eqb→eq, eqb-refl, T-not, not-T}
+use lib.Dec.{T, ltb, eqb, ltb→lt, lt→ltb, eqb→eq, eqb-refl, T-not, not-T}
 use lib.ListN.{length, getD}
 use lib.Ieee.{Float, nan, inf, fin, binary64, lt, ofBits}
 use lib.Ieee.Fits.{and-l, and-r}
-use lib.Ieee.Scale.{finite}
 use Rattle.variogram.specs.declared.VariogramModel.{VariogramModel}
 use Rattle.variogram.specs.declared.VariogramModel.the-variants.{Spherical, Exponential, Gaussian, Linear}
-use Rattle.kriging.specs.Survey.{Survey, Areas, wells, nodeCount, columns, externals, size}
+use Rattle.kriging.specs.Survey.{Survey, Areas, wells, nodeCount, columns, externals}
 use Rattle.kriging.specs.Limits.{mostWells, mostColumns, mostNodes}
-use Rattle.kriging.specs.Refusals.{any, differ, badCode, badAmount, notFinite, anyNotFinite, notOffered, shortAnswer, tests}
+use Rattle.kriging.specs.Refusals.{any, differ, badCode, badAmount, notFinite, anyNotFinite, notOffered, shortAnswer}
 use Rattle.kriging.specs.Lowest.{NotFinite, not-a-number, infinite, SomeNotFinite, BadCode, too-low, too-high, SomeBadCode, BadAmount, negative, not-finite, TooMany, wells-over, columns-over, nodes-over, NotOffered, exponential, gaussian}
 use Rattle.kriging.specs.Lowest.{NumberNotFinite, nugget, sill, range, value, coordinate, external, node, node-external}
 use Rattle.kriging.specs.Lowest.{AnswerShort, figures, variances, verdicts, weights, coefficients}

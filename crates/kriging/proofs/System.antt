@@ -1,5 +1,5 @@
 -- The assembled matrix is the kriging system's, entry by entry, beside the identity; its right-hand side and its variance are the node's; and it is symmetric, bit for bit. Assumes nothing.
-use Prim.Native.Nat.{ℕ, suc, _+_, _-_, _*_, _/_, _%_, _<_, _≤_}
+use Prim.Native.Nat.{ℕ, _+_, _-_, _*_, _/_, _%_, _<_, _≤_}
 use native.Mathlib.Nat.{zero-add}
 use native.Mathlib.Decide.{decLt, ℕ-discrete}
 use native.Mathlib.Omega.{arith}
@@ -10,17 +10,15 @@ use mathlib.Core.List.{List}
 use borrow.Author.Tests.{lt-ltb, le-ltb, eq-eqb, ne-eqb}
 use lib.Dec.{eqb, ltb}
 use lib.ListN.{length, getD, length-append}
-use lib.Ieee.{Float, nan, binary64, mul, ofBits}
+use lib.Ieee.{Float, nan, binary64, mul}
 use Rattle.area.proofs.Places.{at-place}
 use Rattle.area.proofs.Rows.{row-end}
-use Rattle.variogram.specs.Model.{semivariance}
-use Rattle.variogram.specs.Distance.{distance2d}
 use Rattle.variogram.proofs.Distance.{distance2d-back}
 use Rattle.kriging.specs.Survey.{Survey, wells, columns, size, wellX, wellY}
 use Rattle.kriging.specs.Drift.{drift, one, nodeRow}
 use Rattle.kriging.specs.Assembly.{zero, between, entry, augmented, assembled}
 use Rattle.kriging.specs.Node.{rightHand, runningSum, table}
-use Rattle.kriging.specs.System.{Place, wellPlace, nodePlace, variogramOf, driftAt, Index, Well, Drift, Within, coefficientOf, rightOf, addedTo, varianceSum, rowOf}
+use Rattle.kriging.specs.System.{nodePlace, variogramOf, Index, Well, Drift, Within, coefficientOf, rightOf, varianceSum, rowOf}
 use Rattle.kriging.proofs.SystemDrift.{drift-well, drift-node, node-row-length}
 use Rattle.kriging.proofs.SystemTable.{row-back, column-back, table-length, joined-at, joined-past, sum-on}
 

@@ -1,15 +1,13 @@
 -- The diagonal's 0 is the variogram between a well and itself, so that r is added to it there as it stands: in every survey that is not refused. Assumes nothing.
-use Prim.Native.Nat.{ℕ, _+_, _*_, _<_, _≤_}
-use native.Mathlib.Decide.{decLt, ℕ-discrete}
+use Prim.Native.Nat.{ℕ, _+_, _*_, _<_}
+use native.Mathlib.Decide.{ℕ-discrete}
 use native.Mathlib.Omega.{arith}
-use mathlib.Core.Path.{_≡_, refl, ap, _∙_, sym}
-use mathlib.Core.Bool.{Bool, true, false, cond}
-use mathlib.Core.List.{List}
+use mathlib.Core.Path.{_≡_, refl, ap, _∙_}
+use mathlib.Core.Bool.{true}
 use borrow.Author.Tests.{eq-eqb}
-use lib.Dec.{T, eqb}
+use lib.Dec.{T}
 use lib.ListN.{length, getD}
-use lib.IntN.{pos}
-use lib.Ieee.{Float, nan, inf, fin, binary64, add, sub, mul, lt, ofBits, round}
+use lib.Ieee.{Float, nan, inf, fin, binary64, add, mul, lt, ofBits, round}
 use lib.Ieee.Scale.{finite}
 use Rattle.ieee.specs.Root.{sqrtOf}
 use Rattle.ieee.proofs.Zero.{sub-self}
@@ -19,8 +17,8 @@ use Rattle.variogram.specs.Distance.{squaredDistance2d, distance2d}
 use Rattle.variogram.proofs.Model.{same-spot}
 use Rattle.kriging.specs.Survey.{Survey, Areas, wells, wellX, wellY}
 use Rattle.kriging.specs.Refusals.{refusal}
-use Rattle.kriging.specs.Lowest.{NotFinite, not-a-number, infinite, SomeNotFinite, NumberNotFinite, coordinate, Condition, coordinates, numbers}
-use Rattle.kriging.specs.System.{Place, wellPlace, variogramOf, Well, coefficientOf}
+use Rattle.kriging.specs.Lowest.{NotFinite, not-a-number, infinite, coordinate, coordinates, numbers}
+use Rattle.kriging.specs.System.{wellPlace, variogramOf, Well, coefficientOf}
 use Rattle.kriging.proofs.Refusals.{none-exactly}
 
 -- a place is at distance +0 of itself

@@ -1,12 +1,12 @@
 -- What a node gets, in the terms of the kriging system: z is the inverse times the system's right-hand side, the figure is Σ λ_i value_i, and the variance Σ_i λ_i γ(x_i, x_0) + Σ_l μ_l f_l(x_0), clamped. Assumes nothing.
-use Prim.Native.Nat.{ℕ, zero, suc, _+_, _*_, _<_}
-use mathlib.Core.Path.{_≡_, refl, ap, ap₂, _∙_}
+use Prim.Native.Nat.{ℕ, _+_}
+use mathlib.Core.Path.{_≡_, refl, ap, _∙_}
 use mathlib.Core.List.{List}
 use lib.ListN.{getD}
-use lib.Ieee.{Float, nan, binary64, add, mul, ofBits}
+use lib.Ieee.{Float, nan, binary64, mul, ofBits}
 use Rattle.ieee.specs.Floats.{maxOf}
 use Rattle.kriging.specs.Survey.{Survey, wells, columns, size, valueAt}
-use Rattle.kriging.specs.Node.{runningSum, inverseAt, rightHand, solution, figureOf, varianceOf}
+use Rattle.kriging.specs.Node.{runningSum, inverseAt, solution, figureOf, varianceOf}
 use Rattle.kriging.specs.Fit.{Node, nodeOf}
 use Rattle.kriging.specs.System.{nodePlace, Index, Well, Drift, Within, rightOf, addedTo, varianceSum, rowOf}
 use Rattle.kriging.proofs.System.{row-below, right-is, variance-is}

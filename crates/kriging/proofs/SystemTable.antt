@@ -1,5 +1,5 @@
 -- Laws of `table`, of a running sum and of two lists joined, place by place; and of a place in rows, taken apart. Assumes nothing.
-use Prim.Native.Nat.{ℕ, zero, suc, _+_, _-_, _*_, _/_, _%_, _<_, _≤_}
+use Prim.Native.Nat.{ℕ, zero, suc, _+_, _*_, _/_, _%_, _<_}
 use native.Mathlib.Nat.{add-zero, add-suc, not-suc-le-zero, mul-add-div-right, mul-add-mod-self-right, div-eq-of-lt, mod-eq-of-lt}
 use native.Mathlib.Numerals.{add-one}
 use native.Mathlib.Decide.{decLt}
@@ -8,7 +8,7 @@ use mathlib.Core.Path.{_≡_, refl, ap, ap₂, sym, _∙_}
 use mathlib.Core.List.{List, [], _∷_, _++_}
 use lib.ListN.{length, getD, length-append, List·getD-append}
 use lib.Seq.{getD-append-add, getD-at}
-use lib.Ieee.{Float, nan, binary64, add, ofBits}
+use lib.Ieee.{Float, binary64, add, ofBits}
 use Rattle.kriging.specs.Node.{table, runningSum}
 use Rattle.kriging.specs.System.{addedTo}
 

@@ -2,7 +2,7 @@
 use Prim.Native.Nat.{ℕ, _+_, _*_, _<_}
 use mathlib.Core.Path.{_≡_}
 use lib.ListN.{getD}
-use lib.Ieee.{Float, nan}
+use lib.Ieee.{nan}
 use Rattle.kriging.specs.Survey.{Survey, Areas, wells, externals, nodeX, nodeY, nodeExternalAt}
 
 -- the same in everything but the lists of nodes

@@ -1,5 +1,5 @@
 -- What turns a fit away, as the paper says it and not as tests: for each number its condition, and which number is given. Paper 01, "What turns a call away". Assumes nothing.
-use Prim.Native.Nat.{ℕ, _+_, _*_, _%_, _<_}
+use Prim.Native.Nat.{ℕ, _*_, _%_, _<_}
 use mathlib.Core.Path.{_≡_}
 use mathlib.Core.Logic.{_≢_}
 use mathlib.Core.Bool.{Bool, true}
@@ -8,7 +8,6 @@ use lib.ListN.{length, getD}
 use lib.Ieee.{Float, nan, inf, binary64, lt, ofBits}
 use Rattle.variogram.specs.declared.VariogramModel.{VariogramModel}
 use Rattle.variogram.specs.declared.VariogramModel.the-variants.{Exponential, Gaussian}
-use Rattle.variogram.specs.declared.Variogram.{Variogram}
 use Rattle.kriging.specs.Survey.{Survey, Areas, wells, nodeCount, columns, externals, size}
 
 -- a NaN or an infinity
