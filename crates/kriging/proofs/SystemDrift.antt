@@ -6,7 +6,7 @@ use mathlib.Core.Path.{_≡_, refl, ap, ap₂, sym, _∙_}
 use mathlib.Core.Bool.{Bool, true, false, cond}
 use mathlib.Core.List.{List, [], _∷_, _++_, map, map-append}
 use lib.Dec.{eqb}
-use lib.ListN.{length, getD, length-append}
+use lib.ListN.{length, getD, length-append, length-map}
 use lib.Ieee.{Float, nan}
 use Rattle.kriging.specs.Survey.{Survey, codeColumns, columnSum, columns}
 use Rattle.kriging.specs.Drift.{block, driftRow, wellRow, nodeRow, drift}
@@ -64,6 +64,13 @@ module _ (a : Place) where
   drift-at : (s : Survey) (l : ℕ) → driftAt s l a ≡ getD (driftRow (s .bases) (a .x) (a .y) (a .external) 0) l nan
   unfolding driftAt values
   drift-at s l = ap (λ (xs : List Float). getD xs l nan) (row-values (s .bases) 0)
+
+-- "p is their sum": there are p drift functions
+pub drift-count : (s : Survey) → length (monomials 0 (s .bases)) ≡ columns s
+unfolding values
+drift-count s =
+    let a = wellPlace s 0 in
+    sym (length-map (monomials 0 (s .bases)) (λ m. valueOf m a)) ∙ ap length (row-values a (s .bases) 0) ∙ row-length (s .bases) _ _ _ 0
 
 -- F_il is f_l at well i
 pub drift-well : (s : Survey) (i l : ℕ) → drift s i l ≡ driftAt s l (wellPlace s i)
