@@ -5,3 +5,16 @@ pub mod Verdict
 pub mod AreasAccepted
 pub mod AreasExit
 pub mod Trend
+pub mod SystemDrift
+pub mod SystemTable
+pub mod System
+pub mod RefusalsRising
+pub mod RefusalsTests
+pub mod Refusals
+pub mod RefusalsFit
+pub mod Nodes
+pub mod NodesExit
+pub mod NodesWork
+pub mod NodesAlone
+pub mod SystemNode
+pub mod SystemDiagonal
