@@ -1,13 +1,8 @@
--- Laws of the definitions, and theorems over them.
-pub mod TrendSums
-pub mod VerdictRows
-pub mod Verdict
-pub mod AreasAccepted
-pub mod AreasExit
-pub mod Trend
 pub mod SystemDrift
 pub mod SystemTable
 pub mod System
+pub mod SystemNode
+pub mod SystemDiagonal
 pub mod RefusalsRising
 pub mod RefusalsTests
 pub mod Refusals
@@ -16,5 +11,9 @@ pub mod Nodes
 pub mod NodesExit
 pub mod NodesWork
 pub mod NodesAlone
-pub mod SystemNode
-pub mod SystemDiagonal
+pub mod TrendSums
+pub mod VerdictRows
+pub mod Verdict
+pub mod AreasAccepted
+pub mod AreasExit
+pub mod Trend

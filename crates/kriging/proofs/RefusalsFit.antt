@@ -15,7 +15,7 @@ use Rattle.elimination.specs.declared.Elimination.{Elimination}
 use Rattle.elimination.specs.declared.Elimination.the-variants.{Done, Stopped, TooShort}
 use Rattle.elimination.specs.Elimination.{Outcome, eliminated, stepped, Through, StopsAt}
 use Rattle.elimination.proofs.Stops.{stops-exactly, done-exactly, refused-exactly, stopped as elimination-stopped}
-use Rattle.elimination.proofs.Keeps.{kept-eliminated}
+use Rattle.elimination.proofs.Untouched.{kept-eliminated}
 use Rattle.kriging.specs.Survey.{Survey, Areas, wells, nodeCount, columns, size}
 use Rattle.kriging.specs.Assembly.{assembled}
 use Rattle.kriging.specs.Refusals.{refusal}

@@ -8,7 +8,6 @@ use lib.ListN.{length, getD}
 use lib.Ieee.{Float, nan, inf, binary64, lt, ofBits}
 use Rattle.variogram.specs.declared.VariogramModel.{VariogramModel}
 use Rattle.variogram.specs.declared.VariogramModel.the-variants.{Exponential, Gaussian}
-use Rattle.kriging.specs.Limits.{mostWells, mostColumns, mostNodes}
 use Rattle.kriging.specs.Survey.{Survey, Areas, wells, nodeCount, columns, externals, size}
 
 -- a NaN or an infinity
@@ -39,9 +38,9 @@ pub data BadAmount (x : Float) : Type 0 where
 
 -- "n > 48, p > 12 or m > 100"
 pub data TooMany (s : Survey) : Type 0 where
-  wells-over : mostWells < wells s → TooMany s
-  columns-over : mostColumns < columns s → TooMany s
-  nodes-over : mostNodes < nodeCount s → TooMany s
+  wells-over : 48 < wells s → TooMany s
+  columns-over : 12 < columns s → TooMany s
+  nodes-over : 100 < nodeCount s → TooMany s
 
 -- "nugget, sill, range, a value, coordinate, external, node or, if k > 0, node external not finite"
 pub data NumberNotFinite (s : Survey) : Type 0 where
