@@ -3,7 +3,6 @@ pub mod SystemTable
 pub mod System
 pub mod SystemNode
 pub mod SystemDiagonal
-pub mod RefusalsRising
 pub mod RefusalsTests
 pub mod Refusals
 pub mod RefusalsFit
