@@ -4,7 +4,7 @@ use native.Mathlib.Omega.{arith}
 use mathlib.Core.Path.{_≡_, refl, ap, sym, _∙_}
 use mathlib.Core.Bool.{Bool, true, false, cond}
 use mathlib.Core.List.{List}
-use lib.ListN.{length, getD, drop}
+use lib.ListN.{getD}
 use lib.Seq.{getD-drop}
 use Rattle.area.specs.Area.{written, Kept}
 use Rattle.area.proofs.Turns.{length-written}

@@ -1,11 +1,10 @@
 -- Clearing the other rows, one row more: row i itself, a row that is skipped, and a row that is cleared. Assumes nothing.
-use Prim.Native.Nat.{ℕ, _+_, _*_}
+use Prim.Native.Nat.{ℕ, _+_}
 use native.Mathlib.Numerals.{add-one}
 use mathlib.Core.Path.{_≡_, refl, ap, _∙_, sym}
 use mathlib.Core.Logic.{_≢_, _⊎_, inl, inr}
 use mathlib.Core.Bool.{Bool, true, false, not, _&&_, cond}
 use mathlib.Core.List.{List}
-use lib.Dec.{eqb}
 use lib.Ieee.{Float, binary64, ofBits, eq, ne}
 use borrow.Author.Tests.{eq-eqb, ne-eqb, not-true, not-false}
 use Rattle.elimination.specs.Elimination.{at, reduced, spared, cleared}
@@ -20,7 +19,7 @@ one-more skip w i k xs zs b h s =
     ∙ ap (λ (n : ℕ). cleared skip w i n xs) (sym (add-one k))
 
 -- row i itself stays
-own-test : (skip : Bool) (w i k : ℕ) (zs : List Float) → k ≡ i → spared skip w i k zs ≡ true
+pub own-test : (skip : Bool) (w i k : ℕ) (zs : List Float) → k ≡ i → spared skip w i k zs ≡ true
 unfolding spared
 own-test skip w i k zs e = ap (λ (b : Bool). cond b true (skip && eq (at w zs k i) (ofBits binary64 0))) (eq-eqb k i e)
 

@@ -1,11 +1,10 @@
 -- The definitions at work, each computed: the edges that paper 01 names, and the matrix of its sounding B. Assumes nothing.
-use Prim.Native.Nat.{ℕ}
 use mathlib.Core.Path.{_≡_, refl}
 use mathlib.Core.Bool.{true, false}
-use mathlib.Core.List.{List, [], _∷_}
-use lib.IntN.{ℤ, pos, negsuc}
-use lib.Ieee.{Float, nan, inf, fin, binary64, ofBits, lt, eq, sub, mul, div}
-use Rattle.elimination.specs.declared.Elimination.the-variants.{Done, Stopped, TooShort}
+use mathlib.Core.List.{[], _∷_}
+use lib.IntN.{pos, negsuc}
+use lib.Ieee.{Float, nan, fin, ofBits, lt, eq, sub, mul, div}
+use Rattle.elimination.specs.declared.Elimination.the-variants.{Done, Stopped}
 use Rattle.elimination.specs.Elimination.{hold, ended, eliminated}
 
 -- plus and minus zero, one and a half; 2^-52 and 2^-53

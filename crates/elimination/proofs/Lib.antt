@@ -6,3 +6,4 @@ pub mod Run
 pub mod Stops
 pub mod Edges
 pub mod Untouched
+pub mod Entries

@@ -6,8 +6,8 @@ use native.Mathlib.Numerals.{add-one}
 use mathlib.Core.Path.{_≡_, refl, ap, _∙_, sym}
 use mathlib.Core.Logic.{_≢_}
 use mathlib.Core.List.{List}
-use lib.ListN.{getD, set}
-use lib.Ieee.{Float, nan, binary64, div, sub, mul}
+use lib.ListN.{set}
+use lib.Ieee.{Float, nan, binary64, sub, mul}
 use Rattle.area.specs.Area.{written}
 use Rattle.area.proofs.Turns.{getD-past}
 use Rattle.area.proofs.Places.{next, other-place, set-written}

@@ -1,5 +1,5 @@
 -- The run of steps, one step at a time: how it begins, stops, goes on and ends. Assumes nothing.
-use Prim.Native.Nat.{ℕ, zero, suc, _+_, _-_, _*_, _≤_, _<_}
+use Prim.Native.Nat.{ℕ, suc, _+_, _-_, _*_, _<_}
 use native.Mathlib.Nat.{sub-zero}
 use native.Mathlib.Omega.{arith}
 use mathlib.Core.Path.{_≡_, refl, ap, _∙_, sym}
@@ -7,12 +7,11 @@ use mathlib.Core.Bool.{Bool, true, false, cond}
 use mathlib.Core.List.{List}
 use lib.Dec.{ltb}
 use lib.ListN.{length}
-use lib.Ieee.{Float, nan, binary64, ofBits, lt}
+use lib.Ieee.{Float, nan, lt}
 use Rattle.area.specs.Area.{written}
 use Rattle.area.proofs.Places.{as-it-was}
-use Rattle.elimination.specs.declared.Elimination.{Elimination}
 use Rattle.elimination.specs.declared.Elimination.the-variants.{Done, Stopped, TooShort}
-use Rattle.elimination.specs.Elimination.{at, magnitude, hold, small, swapped, step, Outcome, ended, run, eliminated}
+use Rattle.elimination.specs.Elimination.{at, magnitude, epsilon, hold, small, swapped, step, ended, run, eliminated}
 
 -- a row changes places with itself: nothing changes, so the code may leave it out
 pub swap-self : (w i : ℕ) (xs : List Float) → swapped w i i xs ≡ xs
@@ -23,11 +22,11 @@ swap-self w i xs =
 
 -- the test of the magnitude in hand is the step's
 pub same-test : (s i r : ℕ) (v : Float) (xs : List Float) (b : Bool) → r ≡ hold s i xs → v ≡ magnitude (2 * s) i xs r
-    → lt v (ofBits binary64 0x3cb0_0000_0000_0000) ≡ b → small s i xs ≡ b
+    → lt v epsilon ≡ b → small s i xs ≡ b
 unfolding small
 same-test s i r v xs b e f t =
-    ap (λ (q : ℕ). lt (magnitude (2 * s) i xs q) (ofBits binary64 0x3cb0_0000_0000_0000)) (sym e)
-    ∙ ap (λ (x : Float). lt x (ofBits binary64 0x3cb0_0000_0000_0000)) (sym f)
+    ap (λ (q : ℕ). lt (magnitude (2 * s) i xs q) epsilon) (sym e)
+    ∙ ap (λ (x : Float). lt x epsilon) (sym f)
     ∙ t
 
 pub refuses : (skip : Bool) (s : ℕ) (xs : List Float) → ltb (length xs) (2 * s * s) ≡ true → eliminated skip s xs ≡ ended TooShort xs

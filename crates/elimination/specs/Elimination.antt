@@ -32,10 +32,14 @@ unfoldable pub hold : ℕ → ℕ → List Float → ℕ
 unfolding held
 hold s i xs = held (2 * s) i (s - (i + 1)) xs
 
--- "Held magnitude below 2^-52", of which step i stops: false where the magnitude is a NaN
+-- 2^-52
+abbrev pub epsilon : Float
+epsilon = ofBits binary64 0x3cb0_0000_0000_0000
+
+-- "Held magnitude below 2^-52", at which step i stops: not where it equals 2^-52, and not where it is a NaN
 unfoldable pub small : ℕ → ℕ → List Float → Bool
 unfolding hold
-small s i xs = lt (magnitude (2 * s) i xs (hold s i xs)) (ofBits binary64 0x3cb0_0000_0000_0000)
+small s i xs = lt (magnitude (2 * s) i xs (hold s i xs)) epsilon
 
 -- "Swap": rows i and r, each with what the other held
 unfoldable pub swapped : ℕ → ℕ → ℕ → List Float → List Float
@@ -49,7 +53,7 @@ divided width i xs = written (i * width) width (λ j. div binary64 (at width xs 
 unfoldable pub reduced : ℕ → ℕ → ℕ → Float → List Float → List Float
 reduced width i k factor xs = written (k * width) width (λ j. sub binary64 (at width xs k j) (mul binary64 factor (at width xs i j))) xs
 
--- whether row k is left as it is: row i itself, and where the call skips it a row whose factor is zero, of either sign
+-- whether row k is left as it is: row i itself and, where `skip` is true, a row whose factor is zero, of either sign
 unfoldable pub spared : Bool → ℕ → ℕ → ℕ → List Float → Bool
 spared skip width i k xs = cond (eqb k i) true (skip && eq (at width xs k i) (ofBits binary64 0))
 

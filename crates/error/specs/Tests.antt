@@ -1,17 +1,17 @@
--- What turns a call away, as a list of tests in the order in which they count. Assumes nothing.
+-- "What turns a call away": the tests of a call in the order in which they are made, each with its number. The first that holds gives the number. Assumes nothing.
 use Prim.Native.Nat.{ℕ}
 use mathlib.Core.Bool.{Bool, cond}
 use mathlib.Core.List.{List, [], _∷_}
 
--- a number of the paper's list, and whether its condition holds
+-- a refusal's number, and whether its condition holds
 pub record Test : Type 0 where
   pub number : ℕ
   pub holds : Bool
 
 abbrev pub test : ℕ → Bool → Test
-test k b = record { number = k; holds = b }
+test n b = record { number = n; holds = b }
 
--- the number of the first test that holds, and 0 where none does
+-- the number of the first test that holds, 0 where none holds
 unfoldable pub firstOf : List Test → ℕ
 firstOf [] = 0
-firstOf (t ∷ ts) = cond (t .holds) (t .number) (firstOf ts)
+firstOf (t ∷ ts) = let r = firstOf ts in cond (t .holds) (t .number) r

@@ -7,6 +7,13 @@ pub mod RootRound
 pub mod RootBits
 pub mod RootCall
 pub mod RootCases
+pub mod Own
+pub mod NearestRoot
+pub mod SoundingH
+pub mod WholeBits
+pub mod FloorCases
+pub mod FloorNegative
+pub mod FloorLaw
 pub mod RoundingGrid
 pub mod RoundingWhole
 pub mod RoundingSigned

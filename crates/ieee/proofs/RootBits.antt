@@ -77,25 +77,25 @@ root-below q w M W p a P e b =
     root-lt w ((q + 1) * p) (lt-of-le-of-lt (le-trans b (le-of-eq (sym e))) (subst (λ (n : ℕ). M * (p * p) < n) (mul-mul-mul-comm (q + 1) (q + 1) p p) (mul-lt-mul-of-pos-right a (mul-pos P P))))
 
 -- a root of 54 digits is not all ones, for an n of at most 2^54 - 2
-not-all-ones : (q n : ℕ) → n ≤ 2 ^ 54 - 2 → q * q ≤ n * 2 ^ 54 → q ≤ 2 ^ 54 - 2
+pub not-all-ones : (q n : ℕ) → n ≤ 2 ^ 54 - 2 → q * q ≤ n * 2 ^ 54 → q ≤ 2 ^ 54 - 2
 not-all-ones q n hi a =
     let x : q < 2 ^ 54 - 1 = lt-of-not-le (λ (g : 2 ^ 54 - 1 ≤ q). let y : (2 ^ 54 - 1) * (2 ^ 54 - 1) ≤ q * q = mul-le-mul g g in omega arith) in
     omega arith
 
 -- nor has it fewer than 54 digits, for an n from 2^52 up
-not-few : (q n : ℕ) → 2 ^ 52 ≤ n → n * 2 ^ 54 < (q + 1) * (q + 1) → 2 ^ 53 ≤ q
+pub not-few : (q n : ℕ) → 2 ^ 52 ≤ n → n * 2 ^ 54 < (q + 1) * (q + 1) → 2 ^ 53 ≤ q
 not-few q n lo a =
     let x : 2 ^ 53 * 2 ^ 53 ≤ n * 2 ^ 54 = omega arith in
     let y : 2 ^ 53 < q + 1 = root-lt (2 ^ 53) (q + 1) (lt-of-le-of-lt x a) in
     omega arith
 
-enough : (n : ℕ) → n ≤ 2 ^ 54 - 2 → n * 2 ^ 54 < 4 ^ 54
+pub enough : (n : ℕ) → n ≤ 2 ^ 54 - 2 → n * 2 ^ 54 < 4 ^ 54
 enough n hi = omega arith
 
 small-half : (half : ℕ) → half ≤ 1559 → half - 27 ≤ 1533
 small-half half h = omega arith
 
-next-half : (half : ℕ) → 511 ≤ half → half - 27 + 1 ≡ half - 26
+pub next-half : (half : ℕ) → 511 ≤ half → half - 27 + 1 ≡ half - 26
 next-half half h = omega arith
 
 -- ---- both are the same number of multiples of 2^-1074
@@ -115,7 +115,7 @@ module _ (q h w : ℕ) (q-lo : 2 ^ 53 ≤ q) (q-hi : q ≤ 2 ^ 54 - 2) (w-lo : q
 
 -- ---- v * 2^1074 is n * 4^half, with n from 2^52 to 2^54 - 2
 module _ (v n half : ℕ) (lo : 2 ^ 52 ≤ n) (hi : n ≤ 2 ^ 54 - 2) (least : 511 ≤ half) (greatest : half ≤ 1559) (value : n * 4 ^ half ≡ v * 2 ^ 1074) where
-  scaled : n * 2 ^ 54 * (2 ^ (half - 27) * 2 ^ (half - 27)) ≡ v * 2 ^ 1074
+  pub scaled : n * 2 ^ 54 * (2 ^ (half - 27) * 2 ^ (half - 27)) ≡ v * 2 ^ 1074
   scaled =
       let h = half - 27 in
       let e : 27 + h ≡ half = omega arith in

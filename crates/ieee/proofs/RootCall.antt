@@ -25,7 +25,7 @@ positive-number nan h = h
 positive-number (inf s) h = tt
 positive-number (fin s m e) h = tt
 
-positive-sign : (x : Float) → T (positive x) → signOf x ≡ false
+pub positive-sign : (x : Float) → T (positive x) → signOf x ≡ false
 positive-sign nan h = refl
 positive-sign (inf s) h = absurd h
 positive-sign (fin true m e) h = absurd h
@@ -78,7 +78,7 @@ above-zero x f p =
 pub doubled : (s e : ℕ) → s < 2 ^ 53 → s * (1 + e % 2) ≤ 2 ^ 54 - 2
 doubled s e h = let x : s * (1 + e % 2) ≤ s * 2 = mul-le-mul-left s (omega arith) in omega arith
 
-not-halved : (s e : ℕ) → 2 ^ 52 ≤ s → 2 ^ 52 ≤ s * (1 + e % 2)
+pub not-halved : (s e : ℕ) → 2 ^ 52 ≤ s → 2 ^ 52 ≤ s * (1 + e % 2)
 not-halved s e h = let x : s * 1 ≤ s * (1 + e % 2) = mul-le-mul-left s (omega arith) in omega arith
 
 pub root-bound : (n : ℕ) → n ≤ 2 ^ 54 - 2 → wholeRoot 54 (n * 2 ^ 54) < 2 ^ 54
@@ -87,7 +87,7 @@ root-bound n h =
     let x : n * 2 ^ 54 < 2 ^ 54 * 2 ^ 54 = omega arith in
     root-lt q (2 ^ 54) (lt-of-le-of-lt (whole-root-le 54 (n * 2 ^ 54)) x)
 
-pub no-nan : (e r : ℕ) → e ≤ 1533 → r ≤ 2 ^ 53 → T (not (nanBits binary64 (e * 2 ^ 52 + r)))
+pub no-nan : (e r : ℕ) → e ≤ 2000 → r ≤ 2 ^ 53 → T (not (nanBits binary64 (e * 2 ^ 52 + r)))
 unfolding nanBits
 no-nan e r h k =
     let b = e * 2 ^ 52 + r in
@@ -95,8 +95,11 @@ no-nan e r h k =
     rw (ne-eqb (b % 2 ^ 63 / 2 ^ 52) 2047 (λ (y : b % 2 ^ 63 / 2 ^ 52 ≡ 2047). omega arith)) tt
 
 -- ---- the pattern, from a normalised significand
+pub normalised-value : (v field fraction s e : ℕ) → Normalised field fraction s e → v ≡ fieldsMultiple field fraction → s * (1 + e % 2) * 4 ^ (e / 2) ≡ v * 2 ^ 1074
+normalised-value v field fraction s e d is = mul-assoc s (1 + e % 2) (4 ^ (e / 2)) ∙ ap (λ (n : ℕ). s * n) (sym (even-power e)) ∙ d .value ∙ ap (λ (n : ℕ). n * 2 ^ 1074) (sym is)
+
 pub root-of-normalised : (v field fraction s e : ℕ) → Normalised field fraction s e → v ≡ fieldsMultiple field fraction
     → ofBits binary64 ((e / 2 - 26) * 2 ^ 52 + (wholeRoot 54 (s * (1 + e % 2) * 2 ^ 54) + 1) / 2) ≡ rootOf v
 root-of-normalised v field fraction s e d is =
     sym (root-pattern v (s * (1 + e % 2)) (e / 2) (not-halved s e (d .lower)) (doubled s e (d .upper)) (let x = d .least in omega arith) (let x = d .greatest in omega arith)
-    (mul-assoc s (1 + e % 2) (4 ^ (e / 2)) ∙ ap (λ (n : ℕ). s * n) (sym (even-power e)) ∙ d .value ∙ ap (λ (n : ℕ). n * 2 ^ 1074) (sym is)))
+    (normalised-value v field fraction s e d is))

@@ -58,7 +58,7 @@ zero-passes s e = subst (λ (n : ℕ). T (level s n false (0 * down e))) (sym (a
     go true = tt
     go false = tt
 
-above-passes : (m : ℕ) (e : ℤ) → T (lt (ofBits binary64 0) (fin false (suc m) e))
+pub above-passes : (m : ℕ) (e : ℤ) → T (lt (ofBits binary64 0) (fin false (suc m) e))
 unfolding lt ofBits
 above-passes m e =
     let p : 0 < suc m * up e = mul-pos (zero-lt-suc m) (up-pos e) in

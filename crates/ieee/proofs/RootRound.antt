@@ -49,7 +49,7 @@ closest-down j b r h = closest-at j b r (omega arith) ∙ ap (λ (o : Ordering).
 closest-up : (j b r : ℕ) → r < b → b < r * 2 → closest (j * b + r) b ≡ suc j
 closest-up j b r h k = closest-at j b r h ∙ ap (λ (o : Ordering). nearest j o) (compare-gt (r * 2) b k)
 
-parity : (q : ℕ) → (q ≡ 2 * (q / 2)) ⊎ (q ≡ 2 * (q / 2) + 1)
+pub parity : (q : ℕ) → (q ≡ 2 * (q / 2)) ⊎ (q ≡ 2 * (q / 2) + 1)
 parity q = go (q % 2) refl
   where
     go : (r : ℕ) → q % 2 ≡ r → (q ≡ 2 * (q / 2)) ⊎ (q ≡ 2 * (q / 2) + 1)

@@ -1,7 +1,7 @@
--- What the Rust's `abs`, `max` and `min` on f64 are, as far as its calls need them, at every value. Assumes nothing.
-use mathlib.Core.Bool.{Bool, true, false, cond}
-use lib.IntN.{ℤ, pos}
-use lib.Ieee.{Float, nan, inf, fin, lt}
+-- What the Rust's `abs`, `max`, `min` and `floor` on f64 are, as far as its calls need them, at every value. Assumes nothing.
+use Prim.Native.Nat.{_+_, _-_, _*_, _/_}
+use mathlib.Core.Bool.{true, false, cond}
+use lib.Ieee.{Float, nan, inf, fin, lt, up, down, binary64, round}
 
 -- the magnitude: the sign is cleared, a zero's and an infinity's too; a NaN stays one
 abbrev pub absOf : Float → Float
@@ -16,3 +16,12 @@ maxOf x y = cond (lt y x) x y
 -- x where it is less than y, else y: so y where one of them is a NaN, and y where both are zeros
 abbrev pub minOf : Float → Float → Float
 minOf x y = cond (lt x y) x y
+
+-- the greatest whole number that is not above x, with x's sign, a zero's too: below zero its magnitude is the least whole number that is not below that of x.
+-- Infinities and a NaN stay
+unfoldable pub floorOf : Float → Float
+unfolding round
+floorOf nan = nan
+floorOf (inf s) = inf s
+floorOf (fin false m e) = round binary64 false (m * up e / down e) 1
+floorOf (fin true m e) = round binary64 true ((m * up e + (down e - 1)) / down e) 1

@@ -1,4 +1,6 @@
 pub mod Floats
 pub mod Values
 pub mod Root
+pub mod NearestRoot
+pub mod Whole
 pub mod Ieee754

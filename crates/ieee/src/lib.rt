@@ -1,12 +1,14 @@
 // Floating-point functions that the Rust takes from its standard library, worked out by the program.
 ghost use mathlib.Core.Path.{_≡_};
 ghost use Prim.Native.Nat.{_+_, _*_, _^_, _<_, _≤_};
+ghost use mathlib.Core.Bool.{true, false};
 ghost use lib.Dec.{T};
 ghost use lib.Ieee.Scale.{finite};
 ghost use lib.Ieee.Positive.{positive};
-ghost use Rattle.ieee.specs.Floats.{absOf, maxOf, minOf};
-ghost use Rattle.ieee.specs.Values.{multiple};
+ghost use Rattle.ieee.specs.Floats.{absOf, maxOf, minOf, floorOf};
+ghost use Rattle.ieee.specs.Values.{multiple, signOf};
 ghost use Rattle.ieee.specs.Root.{wholeRoot, rootOf, sqrtOf, Normalised};
+ghost use Rattle.ieee.specs.Whole.{WholeBits};
 
 // Whether x is neither a NaN nor an infinity: only those two differ from themselves after a subtraction.
 pub fn is_finite(x: f64) -> bool
@@ -119,4 +121,56 @@ pub fn sqrt(x: f64) -> f64
         return x;
     }
     0.0 / 0.0
+}
+
+// The pattern of the whole part of a number that is not negative, from its own pattern. Below 1, whose exponent field is 1023,
+// it is 0; from the field 1075 on, where the last digit counts 1, it is the number itself; between, the digits of the fraction are cleared.
+fn whole_bits(bits: u64) -> u64
+    requires { ⌜ bits < 2047 * 2 ^ 52 ⌝ }
+    ensures { λ r. ⌜ WholeBits bits r ⌝ }
+{
+    let field = bits / 0x10_0000_0000_0000;
+    if field < 1023 {
+        return 0;
+    }
+    if field < 1075 {
+        let step = 1u64 << (1075 - field);
+        return bits - bits % step;
+    }
+    bits
+}
+
+// The whole part of a finite x that is not negative.
+fn whole_part(x: f64) -> f64
+    requires { ⌜ T (finite x) × (signOf x ≡ false) ⌝ }
+    ensures { λ r. ⌜ r ≡ floorOf x ⌝ }
+{
+    f64::from_bits(whole_bits(f64::to_bits(x)))
+}
+
+// The greatest whole number not above x, for a finite negative x: x itself, or 1 below its whole part.
+fn floor_negative(x: f64) -> f64
+    requires { ⌜ T (finite x) × (signOf x ≡ true) ⌝ }
+    ensures { λ r. ⌜ r ≡ floorOf x ⌝ }
+{
+    let whole = whole_part(-x);
+    if whole == -x {
+        return x;
+    }
+    -1.0 - whole
+}
+
+// The greatest whole number not above x. A zero keeps its sign; infinities and a NaN stay.
+pub fn floor(x: f64) -> f64
+    ensures { λ r. ⌜ r ≡ floorOf x ⌝ }
+{
+    if is_finite(x) {
+        if x > 0.0 {
+            return whole_part(x);
+        }
+        if x < 0.0 {
+            return floor_negative(x);
+        }
+    }
+    x
 }

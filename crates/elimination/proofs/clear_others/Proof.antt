@@ -1,11 +1,11 @@
 -- `elimination::clear_others` meets its contract: after k turns the first k rows are cleared. Assumes nothing.
 use Prim.Native.Nat.{ℕ, _≤_, _<_, _*_, _+_, _-_}
-use mathlib.Core.Path.{_≡_, refl, ap, sym, _∙_}
+use mathlib.Core.Path.{_≡_, refl, ap, _∙_}
 use mathlib.Core.Logic.{_≢_, ⊎-elim, inl, inr}
 use native.Mathlib.Omega.{arith}
 use borrow.Author.Needs.{needs}
 use lib.ListN.{length}
-use Rattle.elimination.specs.Elimination.{at, cleared}
+use Rattle.elimination.specs.Elimination.{cleared}
 use Rattle.elimination.proofs.Rows.{row-inside}
 use Rattle.elimination.proofs.Keeps.{kept-cleared}
 use Rattle.elimination.proofs.Clear.{own-row, skipped-row, cleared-row}

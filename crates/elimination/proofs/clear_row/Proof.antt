@@ -1,16 +1,13 @@
 -- `elimination::clear_row` meets its contract: after j turns the area is what j stores write. Assumes nothing.
-use Prim.Native.Nat.{ℕ, _≤_, _<_, _*_, _+_, _-_}
-use mathlib.Core.Path.{_≡_, refl, ap, _∙_}
+use Prim.Native.Nat.{_≤_, _*_, _+_, _-_}
+use mathlib.Core.Path.{_≡_, refl}
 use native.Mathlib.Omega.{arith}
 use borrow.Author.Needs.{needs}
-use lib.ListN.{length, getD, length-set}
-use lib.Ieee.{Float, nan, binary64, div, sub, mul}
+use lib.ListN.{length, length-set}
+use lib.Ieee.{binary64, sub, mul}
 use Rattle.area.specs.Area.{written}
-use Rattle.area.proofs.Turns.{turn, length-written}
 use Rattle.area.proofs.Places.{all-turns}
-use Rattle.area.proofs.Rows.{row-end}
-use mathlib.Core.Logic.{_≢_}
-use Rattle.elimination.specs.Elimination.{at, divided, reduced, swapped}
+use Rattle.elimination.specs.Elimination.{at, reduced}
 use Rattle.elimination.proofs.Rows.{clear-turn}
 use Rattle.elimination.proofs.clear_row.Statement.{statement}
 use Rattle.elimination.proofs.clear_row.Tie as tie

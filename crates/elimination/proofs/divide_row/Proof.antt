@@ -1,15 +1,14 @@
 -- `elimination::divide_row` meets its contract: after j turns the area is what j stores write. Assumes nothing.
-use Prim.Native.Nat.{ℕ, _≤_, _<_, _*_, _+_, _-_}
-use mathlib.Core.Path.{_≡_, refl, ap, _∙_}
+use Prim.Native.Nat.{ℕ, _≤_, _*_, _+_, _-_}
+use mathlib.Core.Path.{_≡_, refl}
 use native.Mathlib.Omega.{arith}
 use borrow.Author.Needs.{needs}
-use lib.ListN.{length, getD, length-set}
-use lib.Ieee.{Float, nan, binary64, div, sub, mul}
+use lib.ListN.{length, length-set}
+use lib.Ieee.{Float, nan, binary64, div}
 use Rattle.area.specs.Area.{written}
-use Rattle.area.proofs.Turns.{turn, length-written}
+use Rattle.area.proofs.Turns.{turn}
 use Rattle.area.proofs.Places.{all-turns}
-use Rattle.area.proofs.Rows.{apart}
-use Rattle.elimination.specs.Elimination.{at, divided, reduced, swapped}
+use Rattle.elimination.specs.Elimination.{at, divided}
 use Rattle.elimination.proofs.divide_row.Statement.{statement}
 use Rattle.elimination.proofs.divide_row.Tie as tie
 

@@ -1,16 +1,13 @@
 -- `elimination::swap_rows` meets its contract: after j turns each row is what j stores write. Assumes nothing.
-use Prim.Native.Nat.{ℕ, _≤_, _<_, _*_, _+_, _-_}
-use mathlib.Core.Path.{_≡_, refl, ap, _∙_}
+use Prim.Native.Nat.{_≤_, _*_, _+_, _-_}
+use mathlib.Core.Path.{_≡_, refl}
 use native.Mathlib.Omega.{arith}
 use borrow.Author.Needs.{needs}
-use lib.ListN.{length, getD, length-set}
-use lib.Ieee.{Float, nan, binary64, div, sub, mul}
+use lib.ListN.{length, length-set}
 use Rattle.area.specs.Area.{written}
-use Rattle.area.proofs.Turns.{turn, length-written}
-use Rattle.area.proofs.Places.{all-turns}
 use Rattle.area.proofs.Rows.{row-end}
 use mathlib.Core.Logic.{_≢_}
-use Rattle.elimination.specs.Elimination.{at, divided, reduced, swapped}
+use Rattle.elimination.specs.Elimination.{at, swapped}
 use Rattle.elimination.proofs.Rows.{swap-turn, swap-all}
 use Rattle.elimination.proofs.swap_rows.Statement.{statement}
 use Rattle.elimination.proofs.swap_rows.Tie as tie

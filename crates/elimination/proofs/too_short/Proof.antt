@@ -1,5 +1,5 @@
 -- `elimination::too_short` meets its contract: a quotient is below where the product is above. Assumes nothing.
-use Prim.Native.Nat.{ℕ, zero, _+_, _*_, _/_, _<_, _≤_}
+use Prim.Native.Nat.{ℕ, _*_, _/_, _<_, _≤_}
 use native.Mathlib.Nat.{div-lt-iff-lt-mul, le-div-iff-mul-le}
 use native.Mathlib.Decide.{decLt}
 use native.Mathlib.Omega.{arith}

@@ -51,7 +51,7 @@ add-result-2 c = search needs
 float-from-bits-result : tie.Need-float-from-bits-result
 float-from-bits-result c =
     let d = c .before .before .before .before .normalised in
-    no-nan (d .result .exponent / 2 - 26) ((c .root-digits .result + 1) / 2) (omega (arith, d .ensures .greatest)) (omega (arith, root-small c))
+    no-nan _ _ (omega (arith, d .ensures .greatest)) (omega (arith, root-small c))
 
 returns : tie.Need-returns
 returns c =

@@ -1,0 +1,15 @@
+-- `exact::is_negative` meets its contract: the highest bit is the sign. Assumes nothing.
+use borrow.Author.Needs.{needs}
+use Rattle.exact.proofs.Words.{are-words, their-length}
+use Rattle.exact.proofs.Order.{sign-of-words}
+use Rattle.exact.proofs.is_negative.Statement.{statement}
+use Rattle.exact.proofs.is_negative.Tie as tie
+
+array-read-result : tie.Need-array-read-result
+array-read-result c = search needs
+
+returns : tie.Need-returns
+returns c = sign-of-words (c .args .t1) (are-words 67 (c .args .t1) _ (c .good .0)) (their-length 67 (c .args .t1) _ (c .good .0))
+
+pub is-negative-spec : {M : Type 1} → statement M
+is-negative-spec = tie.close (tie.spec array-read-result returns)

@@ -1,0 +1,48 @@
+-- One node: paper 01, "Node". Assumes nothing.
+use Prim.Native.Nat.{ℕ, zero, suc, _+_, _-_, _*_}
+use mathlib.Core.Bool.{cond}
+use mathlib.Core.List.{List, [], _∷_, _++_}
+use lib.Dec.{ltb}
+use lib.ListN.{getD}
+use lib.Ieee.{Float, nan, binary64, add, mul, ofBits}
+use Rattle.ieee.specs.Floats.{maxOf}
+use Rattle.variogram.specs.Model.{semivariance}
+use Rattle.variogram.specs.Distance.{distance2d}
+use Rattle.kriging.specs.Survey.{Survey, wells, size, wellX, wellY, nodeX, nodeY, valueAt}
+use Rattle.kriging.specs.Drift.{nodeRow}
+
+-- the list of f 0, f 1, .., f (k - 1)
+abbrev pub table : {A : Type 0} → ℕ → (ℕ → A) → List A
+table zero f = []
+table (suc k) f = table k f ++ (f k ∷ [])
+
+-- "summed from 0 by rising column": f 0, f 1, .. added in turn, each addition rounded
+unfoldable pub runningSum : ℕ → (ℕ → Float) → Float
+runningSum zero f = ofBits binary64 0
+runningSum (suc k) f = add binary64 (runningSum k f) (f k)
+
+-- "b is the variogram to each well, then the node's drift entries f0"
+unfoldable pub rightHand : Survey → ℕ → List Float
+unfolding semivariance distance2d
+rightHand s q =
+    table (wells s) (λ i. semivariance (s .options .variogram) (distance2d (wellX s i) (wellY s i) (nodeX s q) (nodeY s q)))
+    ++ nodeRow s q
+
+-- "The right half is the inverse": its entry in row i and column j
+abbrev pub inverseAt : ℕ → List Float → ℕ → ℕ → Float
+inverseAt size work i j = getD work (i * (2 * size) + (size + j)) nan
+
+-- "z = inverse times b, summed from 0 by rising column"
+unfoldable pub solution : ℕ → List Float → List Float → List Float
+unfolding runningSum
+solution size work b = table size (λ i. runningSum size (λ j. mul binary64 (inverseAt size work i j) (getD b j nan)))
+
+-- "Figure: Σ z_i·value_i"
+unfoldable pub figureOf : Survey → List Float → Float
+unfolding runningSum
+figureOf s z = runningSum (wells s) (λ i. mul binary64 (getD z i nan) (valueAt s i))
+
+-- "Variance: Σ z·b over all s entries; minus zero, anything below zero and NaN become +0"
+unfoldable pub varianceOf : ℕ → List Float → List Float → Float
+unfolding runningSum
+varianceOf size z b = maxOf (runningSum size (λ i. mul binary64 (getD z i nan) (getD b i nan))) (ofBits binary64 0)

@@ -1,0 +1,90 @@
+-- What a fit is given: paper 01, "Lists". Every function here speaks of lists of any length. Assumes nothing.
+use Prim.Native.Nat.{ℕ, zero, suc, _+_, _*_, _/_}
+use mathlib.Core.Bool.{cond}
+use mathlib.Core.List.{List, [], _∷_}
+use lib.Dec.{eqb}
+use lib.ListN.{length, getD}
+use lib.Ieee.{Float, nan}
+use Rattle.kriging.specs.declared.UniversalKrigingOptions.{UniversalKrigingOptions}
+
+-- the lists and the numbers of one survey
+pub record Survey : Type 0 where
+  pub values : List Float
+  pub coords : List Float
+  pub bases : List ℕ
+  pub external : List Float
+  pub nodes : List Float
+  pub nodeExternal : List Float
+  pub options : UniversalKrigingOptions
+  pub tolerance : Float
+
+-- the areas that a caller lends
+pub record Areas : Type 0 where
+  pub work : List Float
+  pub predicted : List Float
+  pub variance : List Float
+  pub verdicts : List ℕ
+  pub weights : List Float
+  pub coefficients : List Float
+
+-- ---- counts
+
+-- "n well values"
+abbrev pub wells : Survey → ℕ
+wells s = length (s .values)
+
+-- "The m nodes are 2m numbers"
+abbrev pub nodeCount : Survey → ℕ
+nodeCount s = length (s .nodes) / 2
+
+-- "basis codes 1 Constant, 2 Linear, 3 Quadratic, 4 External, giving 1, 3, 6, 1 columns"
+abbrev pub codeColumns : ℕ → ℕ
+codeColumns c = cond (eqb c 1) 1 (cond (eqb c 2) 3 (cond (eqb c 3) 6 (cond (eqb c 4) 1 0)))
+
+-- "p is their sum"
+abbrev pub columnSum : List ℕ → ℕ
+columnSum [] = 0
+columnSum (c ∷ cs) = codeColumns c + columnSum cs
+
+abbrev pub columns : Survey → ℕ
+columns s = columnSum (s .bases)
+
+-- "k the count of code 4"
+abbrev pub externalCount : List ℕ → ℕ
+externalCount [] = 0
+externalCount (c ∷ cs) = cond (eqb c 4) 1 0 + externalCount cs
+
+abbrev pub externals : Survey → ℕ
+externals s = externalCount (s .bases)
+
+-- "Size s = n + p."
+abbrev pub size : Survey → ℕ
+size s = wells s + columns s
+
+-- ---- places
+
+-- "coordinates x, y in turn": of well i
+abbrev pub wellX : Survey → ℕ → Float
+wellX s i = getD (s .coords) (2 * i) nan
+
+abbrev pub wellY : Survey → ℕ → Float
+wellY s i = getD (s .coords) (2 * i + 1) nan
+
+-- of node q
+abbrev pub nodeX : Survey → ℕ → Float
+nodeX s q = getD (s .nodes) (2 * q) nan
+
+abbrev pub nodeY : Survey → ℕ → Float
+nodeY s q = getD (s .nodes) (2 * q + 1) nan
+
+-- "External values are k·n numbers, column after column": column c at well i
+abbrev pub wellExternal : Survey → ℕ → ℕ → Float
+wellExternal s i c = getD (s .external) (c * wells s + i) nan
+
+-- "node externals k·m, node after node": column c at node q
+abbrev pub nodeExternalAt : Survey → ℕ → ℕ → Float
+nodeExternalAt s q c = getD (s .nodeExternal) (q * externals s + c) nan
+
+-- the value of well i
+abbrev pub valueAt : Survey → ℕ → Float
+valueAt s i = getD (s .values) i nan

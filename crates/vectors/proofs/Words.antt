@@ -1,0 +1,54 @@
+-- Laws of a word's bytes and of the patterns of floats. Assumes nothing.
+use Prim.Native.Nat.{ℕ, suc, _+_, _*_, _%_, _^_, _<_, _≤_}
+use native.Mathlib.Nat.{add-comm, mul-comm}
+use native.Mathlib.Omega.{arith}
+use native.Mathlib.Numerals.{add-one}
+use mathlib.Core.Path.{_≡_, refl, ap, sym, _∙_, subst}
+use mathlib.Core.Bool.{Bool, true, false, not}
+use mathlib.Core.List.{List}
+use lib.Dec.{T}
+use borrow.Author.Tests.{lt-ltb, le-ltb}
+use lib.ListN.{getD}
+use lib.Pow.{pow-add}
+use lib.Ieee.{Float, nan, inf, fin, binary64, ofBits, nanBits, isNan, eq, ne}
+use lib.Ieee.Bits.{nanBits-is, nanBits-above}
+use lib.Ieee.Compare.{differs-from-itself}
+use Rattle.vectors.specs.Words.{wordAt}
+
+-- one byte more, below those that a word has already
+pub byte-more : (xs : List ℕ) (at k w : ℕ) → w ≡ wordAt xs (suc at) k → w * 256 + getD xs at 0 ≡ wordAt xs at (k + 1)
+unfolding wordAt
+byte-more xs at k w h = rw (add-one, h) (add-comm (wordAt xs (suc at) k * 256) (getD xs at 0) ∙ ap (λ (n : ℕ). getD xs at 0 + n) (mul-comm (wordAt xs (suc at) k) 256))
+
+pub room-more : (k w b : ℕ) → w < 2 ^ (8 * k) → b < 256 → w * 256 + b < 2 ^ (8 * (k + 1))
+room-more k w b h g =
+    let p = 2 ^ (8 * k) in
+    let e : 2 ^ (8 * (k + 1)) ≡ p * 256 = ap (λ (n : ℕ). 2 ^ n) next ∙ pow-add 2 (8 * k) 8 in
+    rw e (omega arith)
+  where
+    next : 8 * (k + 1) ≡ 8 * k + 8
+    next = omega arith
+
+-- ---- patterns
+-- a pattern above infinity's, its sign aside, is a NaN's
+nan-only : (x : Float) → isNan x ≡ true → x ≡ nan
+unfolding isNan
+nan-only nan h = refl
+nan-only (inf s) h = cc
+nan-only (fin s m e) h = cc
+
+pub nan-pattern : (n : ℕ) → 0x7ff0_0000_0000_0000 < n % 2 ^ 63 → ofBits binary64 n ≡ nan
+nan-pattern n h = nan-only (ofBits binary64 n) (sym (nanBits-is binary64 n) ∙ nanBits-above binary64 n ∙ lt-ltb 0x7ff0_0000_0000_0000 (n % 2 ^ 63) h)
+
+pub no-nan-pattern : (n : ℕ) → n % 2 ^ 63 ≤ 0x7ff0_0000_0000_0000 → T (not (nanBits binary64 n))
+no-nan-pattern n h = rw (nanBits-above binary64 n, le-ltb 0x7ff0_0000_0000_0000 (n % 2 ^ 63) h) tt
+
+-- a float that differs from itself is the NaN, and no other does
+pub differs : (x : Float) → ne x x ≡ true → x ≡ nan
+differs x h = differs-from-itself x (subst (λ (b : Bool). T b) (sym h) tt)
+
+pub same : (x : Float) → ne x x ≡ false → T (not (isNan x))
+unfolding isNan ne eq
+same nan h = let z : _≡_ {A = ℕ} 0 1 = cc in absurd (omega arith)
+same (inf s) h = tt
+same (fin s m e) h = tt

@@ -1,0 +1,99 @@
+// Replays answers of Rust's own functions on f64: standard input has a record of eight words for each, as tools/ieee_vectors.rs wrote it.
+// Writes a line for each record that comes out otherwise, and then how many were compared and how many differ.
+use libc::STDIN_FILENO;
+use libc::STDOUT_FILENO;
+
+// What has been compared so far, and whether there is more.
+struct Tally {
+    compared: u64,
+    differ: u64,
+    more: bool,
+}
+
+// 1 where a test holds, and else 0: what a record has for a bool.
+fn digit(holds: bool) -> u64 {
+    if holds { 1 } else { 0 }
+}
+
+// The pattern of the answer to a call. No call has another number, and no answer the pattern of the last line.
+fn answer(call: u64, x: f64, y: f64) -> u64 {
+    match call {
+        1 => vectors::pattern(ieee::sqrt(x)),
+        2 => vectors::pattern(ieee::floor(x)),
+        3 => vectors::pattern(ieee::abs(x)),
+        4 => vectors::pattern(ieee::max(x, y)),
+        5 => vectors::pattern(ieee::min(x, y)),
+        6 => digit(ieee::is_finite(x)),
+        _ => 0xffff_ffff_ffff_ffff,
+    }
+}
+
+// The call, its operands, what came out and what Rust has.
+fn report(call: u64, x: u64, y: u64, got: u64, want: u64) {
+    io::write_all(STDOUT_FILENO, b"differs: call ");
+    io::print_decimal(STDOUT_FILENO, call);
+    io::write_all(STDOUT_FILENO, b" of ");
+    io::print_hex(STDOUT_FILENO, x, 16);
+    io::write_all(STDOUT_FILENO, b" ");
+    io::print_hex(STDOUT_FILENO, y, 16);
+    io::write_all(STDOUT_FILENO, b", got ");
+    io::print_hex(STDOUT_FILENO, got, 16);
+    io::write_all(STDOUT_FILENO, b", want ");
+    io::print_hex(STDOUT_FILENO, want, 16);
+    io::write_all(STDOUT_FILENO, b"\n");
+}
+
+// One record more: what came of it, and at the input's end that there are no more.
+fn replayed(t: Tally) -> Tally {
+    let mut bytes = [0u8; 64];
+    let n = io::read_full(STDIN_FILENO, &mut bytes);
+    if n < 64 {
+        return Tally {
+            compared: t.compared,
+            differ: t.differ,
+            more: false,
+        };
+    }
+    let compared = std::num::wrapping_add_u64(t.compared, 1);
+    let call = vectors::word(&bytes, 0);
+    let x = vectors::word(&bytes, 1);
+    let y = vectors::word(&bytes, 2);
+    let want = vectors::word(&bytes, 7);
+    let got = answer(call, vectors::float(x), vectors::float(y));
+    if got == want {
+        return Tally {
+            compared,
+            differ: t.differ,
+            more: true,
+        };
+    }
+    report(call, x, y, got, want);
+    Tally {
+        compared,
+        differ: std::num::wrapping_add_u64(t.differ, 1),
+        more: true,
+    }
+}
+
+// A proved loop has to end, and nothing says that the input does: the loop counts its turns down.
+fn replay() -> Tally {
+    let mut t = Tally {
+        compared: 0,
+        differ: 0,
+        more: true,
+    };
+    let mut turns = u64::MAX;
+    while turns > 0 && t.more {
+        t = replayed(t);
+        turns -= 1;
+    }
+    t
+}
+
+fn main() {
+    let t = replay();
+    io::print_decimal(STDOUT_FILENO, t.compared);
+    io::write_all(STDOUT_FILENO, b" compared, ");
+    io::print_decimal(STDOUT_FILENO, t.differ);
+    io::write_all(STDOUT_FILENO, b" differ\n");
+}

@@ -1,0 +1,96 @@
+#!/usr/bin/env python3
+"""Makes crates/vectors_exact/stdin and stdout: sums of products of f64 and, by Python's whole numbers, their 67 words.
+
+A finite f64 is read by its bits as a whole number of 2^-1074, as paper 01 says it; what is not finite counts as 0.
+The vectors: extreme, subnormal and zero operands of both signs, infinities and NaNs, sums that cancel to 0, to one
+unit and to minus one unit (a borrow or a carry that runs through every word), words that are all ones, and sums of
+random patterns. Each sum is also compared with the one before it.
+Run: python3 tools/vectors_exact.py
+"""
+import os
+import random
+import struct
+
+ROOT = os.path.join(os.path.dirname(os.path.abspath(__file__)), "..", "crates", "vectors_exact")
+MOD = 1 << 4288
+
+
+def units(bits):
+    e, f, s = bits % (1 << 63) >> 52, bits % (1 << 52), bits >> 63
+    if e == 2047:
+        return 0
+    m = f if e == 0 else ((1 << 52) + f) << (e - 1)
+    return -m if s else m
+
+
+def bits(x):
+    return struct.unpack("<Q", struct.pack("<d", x))[0]
+
+
+def words(z):
+    z %= MOD
+    return [z >> (64 * i) & ((1 << 64) - 1) for i in range(67)]
+
+
+def shown(ws):
+    out, above = "", 0
+    for i in range(66, -1, -1):
+        if ws[i] != above:
+            out += "%d:%016x " % (i, ws[i])
+        above = ws[i]
+    return out
+
+
+def reading(ws):
+    n = sum(w << (64 * i) for i, w in enumerate(ws))
+    return n if n < MOD // 2 else n - MOD
+
+
+NEG = 1 << 63
+TINY, MAX, INF, NAN = 1, 0x7FEFFFFFFFFFFFFF, 0x7FF0000000000000, 0x7FF8000000000001
+ONE, LARGEST_SUBNORMAL, SMALLEST_NORMAL = bits(1.0), (1 << 52) - 1, 1 << 52
+EDGES = [0, TINY, LARGEST_SUBNORMAL, SMALLEST_NORMAL, SMALLEST_NORMAL + 1, ONE, bits(3.0), bits(0.1), bits(1e300), MAX, INF, NAN]
+
+
+def vectors(rng):
+    for a in EDGES:
+        for b in EDGES:
+            yield [(rng.randrange(2), a | NEG * rng.randrange(2), b | NEG * rng.randrange(2))]
+    for a in EDGES:
+        yield [(0, a, ONE), (1, a, ONE)]
+        yield [(0, a, MAX), (1, MAX, a), (1, TINY, TINY)]
+        yield [(1, TINY, TINY), (0, a, a), (0, TINY, TINY), (1, a, a)]
+        yield [(1, a, a), (0, a, a), (0, TINY, TINY)]
+        yield [(0, MAX, MAX), (1, TINY, TINY), (0, a, ONE), (0, TINY, TINY)]
+    for k in range(0, 2046, 37):  # 2^k - 1 unit and back: a borrow, then a carry, through k // 64 words
+        p = (k + 1) << 52 if k + 1 < 2047 else MAX
+        yield [(0, p, SMALLEST_NORMAL), (1, TINY, TINY)]
+        yield [(1, p, SMALLEST_NORMAL), (0, TINY, TINY), (0, p, SMALLEST_NORMAL)]
+    for _ in range(60):
+        yield [(rng.randrange(2), rng.getrandbits(64), rng.getrandbits(64)) for _ in range(rng.randrange(1, 9))]
+    for _ in range(40):  # near 1, as an audit's are: the sum less what it should be
+        ws = [bits(rng.uniform(-2, 2)) for _ in range(6)]
+        fs = [bits(rng.uniform(-1e6, 1e6)) for _ in range(6)]
+        target = bits(sum(struct.unpack("<d", struct.pack("<Q", w))[0] * struct.unpack("<d", struct.pack("<Q", f))[0] for w, f in zip(ws, fs)))
+        yield [(0, w, f) for w, f in zip(ws, fs)] + [(1, target, ONE)]
+
+
+def main():
+    rng = random.Random(67)
+    data, text, before = b"", "", 0
+    for vector in vectors(rng):
+        total = 0
+        for kind, x, y in vector:
+            data += struct.pack("<BQQ", kind, x, y)
+            total += (-1) ** kind * units(x) * units(y)
+        data += struct.pack("<BQQ", 2, 0, 0)
+        assert abs(total) < MOD // 2 and reading(words(total)) == total
+        text += "%d %d %s| %s\n" % (before <= total, total < 0, shown(words(total)), shown(words(abs(total))))
+        before = total
+    assert len(data) < 65536, len(data)
+    for name, content in (("stdin", data), ("stdout", text.encode())):
+        with open(os.path.join(ROOT, name), "wb") as f:
+            f.write(content)
+
+
+main()
