@@ -4,7 +4,7 @@ use Prim.Native.Nat.{ℕ, zero, suc, _+_, _*_, _≤_, _<_}
 use native.Mathlib.Nat.{zero-add, not-suc-le-zero}
 use native.Mathlib.Omega.{arith}
 use mathlib.Core.Path.{_≡_, refl, ap, sym, subst, _∙_}
-use mathlib.Core.Logic.{_↔_, _⊎_, inl, inr}
+use mathlib.Core.Logic.{_≢_, _↔_, _⊎_, inl, inr}
 use mathlib.Core.Bool.{true, false}
 use mathlib.Core.List.{List}
 use lib.ListN.{length, getD}
@@ -24,8 +24,9 @@ use Rattle.interpolator.specs.declared.KrigingType.the-variants.{Ordinar
 use Rattle.interpolator.specs.Call.{Query, Areas, Outcome, wells, nodes, added, size}
 use Rattle.interpolator.specs.System.{zeroFloat, assembled}
 use Rattle.interpolator.specs.Refusals.{refusal}
+use Rattle.interpolator.specs.Conditions.{Ruling}
 use Rattle.interpolator.specs.Interpolation.{figure, variance, answered, concluded, judged, interpolated}
-use Rattle.interpolator.proofs.Ruling.{never-19}
+use Rattle.interpolator.proofs.Ruling.{ruling, only-ruling, never-19}
 use Rattle.interpolator.proofs.Accepted.{Accepted, accepted}
 use Rattle.interpolator.proofs.Matrix.{assembled-at, kept-assembled, left-half, lower-right}
 
@@ -106,6 +107,22 @@ number-19 q a = (λ e. go (refusal q a) refl e, λ p. numbered (where-it-stops q
         let n : suc r ≡ 19 = sym (numbered (refusal-writes-nothing q a r h)) ∙ e in
         absurd (never-19 q a (h ∙ n))
 
+-- and any other number exactly where it turns the call away before that
+pub number-before : (q : Query) (a : Areas) (n : ℕ) → n ≢ 0 → n ≢ 19 → (interpolated q a .number ≡ n) ↔ Ruling q a n
+number-before q a n z s = (λ e. go (refusal q a) refl e, λ r. back n refl (only-ruling q a n r))
+  where
+    ended-so : refusal q a ≡ 0 → interpolated q a .number ≡ n → Solves q a ⊎ ((i : ℕ) × Stops q a i) → Ruling q a n
+    ended-so h e (inl t) = absurd (z (sym e ∙ numbered (where-it-solves q a h t)))
+    ended-so h e (inr p) = absurd (s (sym e ∙ numbered (where-it-stops q a (p .0) h (p .1))))
+
+    go : (k : ℕ) → refusal q a ≡ k → interpolated q a .number ≡ n → Ruling q a n
+    go zero h e = ended-so h e (solves-or-stops q a h)
+    go (suc r) h e = subst (Ruling q a) (h ∙ sym (numbered (refusal-writes-nothing q a r h)) ∙ e) (ruling q a)
+
+    back : (k : ℕ) → n ≡ k → refusal q a ≡ n → interpolated q a .number ≡ n
+    back zero e h = absurd (z e)
+    back (suc r) e h = numbered (refusal-writes-nothing q a r (h ∙ e)) ∙ sym e
+
 -- "19 needs the held pivot of a step": in the work area at exit its magnitude is below 2^-52
 pub pivot-of-19 : (q : Query) (a : Areas) → interpolated q a .number ≡ 19
     → (i : ℕ) × (i < size q) × (small (size q) i (interpolated q a .areas .work) ≡ true)
@@ -161,7 +178,7 @@ kept-solved q a = kept-then (kept-assembled q (a .work)) (kept-eliminated false 
 
 whichever : (q : Query) (a : Areas) (d : Elimination) (w : List Float) → Kept (2 * size q * size q) (a .work) w → Untouched q a (concluded d q w a)
 unfolding concluded answered
-whichever q a Done w k = (k, kept-fill (nodes q) (figure q w) (a .figures), kept-fill (nodes q) (variance q w) (a .variances))
+whichever q a Done w k = (k, kept-fill (nodes q) _ (a .figures), kept-fill (nodes q) _ (a .variances))
 whichever q a (Stopped i) w k = (k, kept-same (nodes q) (a .figures), kept-same (nodes q) (a .variances))
 whichever q a TooShort w k = (kept-same (2 * size q * size q) (a .work), kept-same (nodes q) (a .figures), kept-same (nodes q) (a .variances))
 
