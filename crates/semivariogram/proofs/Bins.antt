@@ -6,7 +6,7 @@ use native.Mathlib.Omega.{arith}
 use mathlib.Core.Path.{_≡_, refl, ap, sym, _∙_}
 use mathlib.Core.Bool.{Bool, true, false, cond, true≢false}
 use mathlib.Core.List.{List, [], _∷_, map}
-use lib.Dec.{T, eqb}
+use lib.Dec.{T, eqb, ltb}
 use lib.Pow.{pow-pos}
 use lib.ListN.{length}
 use lib.Ieee.{Float, nan, inf, fin, binary64, fits, ofBits, add, div, toUnsigned}
@@ -21,17 +21,9 @@ use Rattle.semivariogram.specs.Pairs.{Pair, rising, pairs, filtered}
 use Rattle.semivariogram.specs.Call.{Samples, samples}
 use Rattle.semivariogram.specs.Limits.{mostBins}
 use Rattle.semivariogram.specs.Semivariogram.{asFloat, lag, halfSquare, width, binOf, countIn, sumIn, count, average, keptBins}
-use Rattle.semivariogram.proofs.Lists.{total, total-zeros, one-more, total-above-zero}
+use Rattle.semivariogram.specs.Binned.{pairsIn, addedUp, total, isKept}
+use Rattle.semivariogram.proofs.Lists.{total-zeros, one-more, total-above-zero}
 use Rattle.semivariogram.proofs.Pairs.{number-of-pairs}
-
--- the pairs whose bin is b, in their order
-abbrev pub pairsIn : Samples → ℕ → List Pair
-pairsIn q b = filtered (λ p. eqb (binOf q p) b) (pairs (samples q))
-
--- numbers added up from the left, each sum rounded
-unfoldable pub addedUp : Float → List Float → Float
-addedUp sum [] = sum
-addedUp sum (x ∷ xs) = addedUp (add binary64 sum x) xs
 
 module _ (q : Samples) (b : ℕ) where
   count-filtered : (ps : List Pair) → countIn q b ps ≡ length (filtered (λ p. eqb (binOf q p) b) ps)
@@ -59,6 +51,10 @@ module _ (q : Samples) (b : ℕ) where
   pub count-is : count q b ≡ length (pairsIn q b)
   unfolding count
   count-is = count-filtered (pairs (samples q))
+
+  -- so it is above 0 where the bin is kept
+  pub kept-is : ltb 0 (count q b) ≡ isKept q b
+  kept-is = ap (ltb 0) count-is
 
   -- and its average is the sum over these pairs divided by that number
   pub average-is : average q b ≡ div binary64 (addedUp (ofBits binary64 0) (map (halfSquare q) (pairsIn q b))) (asFloat (length (pairsIn q b)))

@@ -4,3 +4,4 @@ pub mod Limits
 pub mod Refusals
 pub mod Conditions
 pub mod Semivariogram
+pub mod Binned
