@@ -4,3 +4,4 @@ pub mod System
 pub mod Refusals
 pub mod Conditions
 pub mod Interpolation
+pub mod Endings

@@ -3,7 +3,7 @@ use Prim.Native.Nat.{ℕ, zero, suc, _≤_, _<_}
 use native.Mathlib.Nat.{zero-lt-suc, not-suc-le-zero, le-of-suc-le-suc}
 use native.Mathlib.Omega.{arith}
 use mathlib.Core.Path.{_≡_, refl, sym, _∙_}
-use mathlib.Core.Logic.{_≢_, _⊎_, inl, inr}
+use mathlib.Core.Logic.{_⊎_, inl, inr}
 use mathlib.Core.Bool.{Bool, true, false, not, _&&_, _||_, true≢false}
 use mathlib.Core.List.{List, [], _∷_}
 use lib.Dec.{eqb, leb, ltb}
@@ -78,9 +78,6 @@ pub at-most : (m n : ℕ) → Tells (leb m n) (m ≤ n)
 at-most m n = record { then = leb-true m n; else = λ e h. let l : n < m = leb-false m n e in omega arith }
 
 -- ---- what is not finite
-pub not-finite : (x : Float) → Tells (not (finite x)) (finite x ≡ false)
-not-finite x = record { then = not-true (finite x); else = λ e h. true≢false (sym (not-false (finite x) e) ∙ h) }
-
 some-not-finite : (xs : List Float) → allFinite xs ≡ false → SomeNotFinite xs
 unfolding allFinite
 some-not-finite [] h = absurd (true≢false h)

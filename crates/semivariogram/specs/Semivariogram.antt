@@ -1,6 +1,6 @@
 -- What the semivariogram answers: paper 01, "Semivariogram", each operation rounded once. Assumes nothing.
 use Prim.Native.Nat.{ℕ, zero, suc, _-_, min}
-use mathlib.Core.Bool.{Bool, cond}
+use mathlib.Core.Bool.{cond}
 use mathlib.Core.List.{List, [], _∷_, map}
 use lib.Dec.{eqb, ltb}
 use lib.IntN.{pos}
