@@ -3,7 +3,7 @@
 use Prim.Native.Nat.{ℕ, suc, _-_, _*_, _/_, _^_, _≤_, _<_, min}
 use native.Mathlib.Nat.{mul-div-cancel}
 use native.Mathlib.Omega.{arith}
-use mathlib.Core.Path.{_≡_, refl, ap, sym, _∙_}
+use mathlib.Core.Path.{_≡_, refl, ap, sym, fun-ext, _∙_}
 use mathlib.Core.Bool.{Bool, true, false, cond, true≢false}
 use mathlib.Core.List.{List, [], _∷_, map}
 use lib.Dec.{T, eqb, ltb}
@@ -52,14 +52,19 @@ module _ (q : Samples) (b : ℕ) where
   unfolding count
   count-is = count-filtered (pairs (samples q))
 
-  -- so it is above 0 where the bin is kept
-  pub kept-is : ltb 0 (count q b) ≡ isKept q b
-  kept-is = ap (ltb 0) count-is
-
   -- and its average is the sum over these pairs divided by that number
   pub average-is : average q b ≡ div binary64 (addedUp (ofBits binary64 0) (map (halfSquare q) (pairsIn q b))) (asFloat (length (pairsIn q b)))
   unfolding average
   average-is = rw (count-is, sum-filtered (ofBits binary64 0) (pairs (samples q)))
+
+-- "Kept bins (count above 0), rising"
+above-zero : (q : Samples) → keptBins q ≡ filtered (λ b. ltb 0 (count q b)) (rising 0 (q .bins))
+unfolding keptBins
+above-zero q = refl
+
+-- so they are the bins that have a pair
+pub kept-bins : (q : Samples) → keptBins q ≡ filtered (isKept q) (rising 0 (q .bins))
+kept-bins q = above-zero q ∙ ap (λ (keep : ℕ → Bool). filtered keep (rising 0 (q .bins))) (fun-ext (λ b. ap (ltb 0) (count-is q b)))
 
 -- "distance/width"
 abbrev pub quotient : Samples → Pair → Float
@@ -113,6 +118,9 @@ module _ (q : Samples) (h : 1 ≤ q .bins) where
 
   -- the counts of the kept bins add up to the number of pairs
   pub kept-counts : total (map (count q) (keptBins q)) ≡ samples q * (samples q - 1) / 2
-  unfolding keptBins count
+  unfolding count
   kept-counts =
-      total-above-zero (count q) (rising 0 (q .bins)) ∙ all-counts (pairs (samples q)) ∙ number-of-pairs (samples q)
+      ap (λ (ks : List ℕ). total (map (count q) ks)) (above-zero q)
+      ∙ total-above-zero (count q) (rising 0 (q .bins))
+      ∙ all-counts (pairs (samples q))
+      ∙ number-of-pairs (samples q)

@@ -3,9 +3,8 @@
 use Prim.Native.Nat.{ℕ, zero, suc, _+_, _-_, _*_, _/_, _≤_, _<_}
 use native.Mathlib.Nat.{zero-add, sub-zero}
 use native.Mathlib.Omega.{arith}
-use mathlib.Core.Path.{_≡_, refl, ap, sym, subst, fun-ext, _∙_}
+use mathlib.Core.Path.{_≡_, refl, ap, sym, subst, _∙_}
 use mathlib.Core.Logic.{_↔_}
-use mathlib.Core.Bool.{Bool}
 use mathlib.Core.List.{List}
 use lib.ListN.{length, getD, take}
 use lib.Ieee.{nan}
@@ -20,7 +19,7 @@ use Rattle.semivariogram.specs.Conditions.{Ruling}
 use Rattle.semivariogram.specs.Semivariogram.{count, average, centre, keptBins, filled, judged, calculated}
 use Rattle.semivariogram.specs.Binned.{pairsIn, total, isKept, rank, Row, KeptAt, Binned}
 use Rattle.semivariogram.proofs.Lists.{length-rising, filtered-length, Ranked, at-rank, from-rank, take-filled}
-use Rattle.semivariogram.proofs.Bins.{count-is, kept-is, average-is, kept-counts}
+use Rattle.semivariogram.proofs.Bins.{count-is, average-is, kept-bins, kept-counts}
 use Rattle.semivariogram.proofs.Ruling.{ruling-exactly}
 use Rattle.semivariogram.proofs.Accepted.{Accepted, accepted}
 
@@ -46,11 +45,6 @@ number-is q a = go (refusal q a)
 -- and the ruling's alone
 pub number-exactly : (q : Samples) (a : Areas) (n : ℕ) → (calculated q a .number ≡ n) ↔ Ruling q a n
 number-exactly q a n = (λ e. ruling-exactly q a n .0 (sym (number-is q a) ∙ e), λ r. number-is q a ∙ ruling-exactly q a n .1 r)
-
--- the kept bins, by the pairs that are in them
-kept-bins : (q : Samples) → keptBins q ≡ filtered (isKept q) (rising 0 (q .bins))
-unfolding keptBins
-kept-bins q = ap (λ (keep : ℕ → Bool). filtered keep (rising 0 (q .bins))) (fun-ext (λ b. kept-is q b))
 
 fewer : (q : Samples) → length (keptBins q) ≤ q .bins
 fewer q = omega (arith, ap length (kept-bins q), filtered-length (isKept q) (rising 0 (q .bins)), length-rising 0 (q .bins))
