@@ -5,4 +5,7 @@ pub mod Tells
 pub mod Ruling
 pub mod Accepted
 pub mod Calculated
+pub mod Signs
+pub mod Greatest
+pub mod Farthest
 pub mod Sounding

@@ -19,12 +19,12 @@ samples-G = record {
   bins = 2;
 }
 
-abbrev areas : Float → Float → Float → Float → ℕ → ℕ → Areas
-areas c1 c2 a1 a2 k1 k2 = record { distances = c1 ∷ c2 ∷ []; semivariances = a1 ∷ a2 ∷ []; counts = k1 ∷ k2 ∷ [] }
+abbrev pub areas-G : Float → Float → Float → Float → ℕ → ℕ → Areas
+areas-G c1 c2 a1 a2 k1 k2 = record { distances = c1 ∷ c2 ∷ []; semivariances = a1 ∷ a2 ∷ []; counts = k1 ∷ k2 ∷ [] }
 
 -- "one bin, 1.5, 4, count 3", at the first place of areas of two places; the second place is as it was
 pub sounding-G : (c1 c2 a1 a2 : Float) (k1 k2 : ℕ)
-    → calculated samples-G (areas c1 c2 a1 a2 k1 k2)
-    ≡ record { number = 0; kept = 1; areas = areas (f 0x3ff8_0000_0000_0000) c2 (f 0x4010_0000_0000_0000) a2 3 k2 }
+    → calculated samples-G (areas-G c1 c2 a1 a2 k1 k2)
+    ≡ record { number = 0; kept = 1; areas = areas-G (f 0x3ff8_0000_0000_0000) c2 (f 0x4010_0000_0000_0000) a2 3 k2 }
 unfolding calculated add sub mul div lt eq ofInt toUnsigned ofBits round
 sounding-G c1 c2 a1 a2 k1 k2 = refl

@@ -34,10 +34,15 @@ unfoldable pub greatest : Float → List Float → Float
 greatest most [] = most
 greatest most (h ∷ hs) = greatest (maxOf h most) hs
 
+-- "greatest distance": of all pairs, from +0 on, below which no distance is
+unfoldable pub longest : Samples → Float
+unfolding lag greatest pairs
+longest q = greatest (ofBits binary64 0) (map (lag q) (pairs (samples q)))
+
 -- "Width = greatest distance / bins"
 unfoldable pub width : Samples → Float
-unfolding lag greatest pairs
-width q = div binary64 (greatest (ofBits binary64 0) (map (lag q) (pairs (samples q)))) (asFloat (q .bins))
+unfolding longest
+width q = div binary64 (longest q) (asFloat (q .bins))
 
 -- "Bin = floor(distance/width), NaN as 0, above the last as the last": as a whole number a NaN is 0, and infinity and all that is too great is 2^64 - 1
 unfoldable pub binOf : Samples → Pair → ℕ

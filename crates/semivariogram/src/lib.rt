@@ -1,5 +1,4 @@
 // The experimental semivariogram: the answer of its call. What the call answers is defined in specs/.
-ghost use mathlib.Core.Path.{_≡_};
 use error::Refusal;
 
 // Semivariogram calculator
