@@ -1,5 +1,6 @@
 // Replays stored sums of products of f64 and prints their 67 words, for a comparison with whole-number arithmetic outside.
 // The input is records of 17 bytes: 0 to add a product, 1 to take it away, anything else to show the sum and start the next; then two f64, little-endian.
+
 // A flag as a digit, then a space.
 fn show_flag(flag: bool) {
     if flag {
