@@ -1,26 +1,21 @@
 -- The areas at exit of an accepted fit, node by node: the verdict that stands there is the verdict of the weights and of the figure that stand there. Assumes nothing.
-use Prim.Native.Nat.{ℕ, _+_, _*_, _/_, _%_, _≤_, _<_}
-use native.Mathlib.Nat.{zero-add, mul-comm}
-use native.Mathlib.Omega.{arith}
-use mathlib.Core.Path.{_≡_, sym, ap, ap₂, _∙_, subst, subst₂}
-use mathlib.Core.List.{List}
+use Prim.Native.Nat.{ℕ, _+_, _*_, _<_}
+use mathlib.Core.Path.{_≡_, sym, ap, subst, subst₂}
 use lib.Dec.{T}
-use lib.Arith.{digits-lt, digits-div, digits-mod}
 use lib.IntN.{ℤ, pos, natAbs, _+ℤ_, _-ℤ_, _*ℤ_}
 use lib.Signed.{_≤ℤ_}
-use lib.ListN.{length, getD}
+use lib.ListN.{getD}
 use lib.Ieee.{Float, nan}
 use lib.Ieee.Scale.{finite}
 use Rattle.exact.specs.Units.{units}
 use Rattle.exact.specs.Whole.{sumℤ}
 use Rattle.exact.proofs.Sums.{sumℤ-same}
-use Rattle.area.specs.Area.{written}
-use Rattle.area.proofs.Places.{at-place}
 use Rattle.kriging.specs.Survey.{Survey, Areas, wells, nodeCount}
 use Rattle.kriging.specs.Audit.{Audited, unit}
-use Rattle.kriging.specs.Fit.{Node, auditOf, nodeOf, answered, fitted}
+use Rattle.kriging.specs.Fit.{Node, auditOf, nodeOf, fitted}
 use Rattle.kriging.specs.Trend.{AllFinite, SomeNotFinite, aWeight, anEntry, aNodeEntry, theFigure, Met, atExit, verdictAtExit}
-use Rattle.kriging.proofs.AreasAccepted.{Tested, Accepted, accepted}
+use Rattle.kriging.proofs.RefusalsFit.{worked}
+use Rattle.kriging.proofs.NodesExit.{figure-at, verdict-at, weight-at}
 use Rattle.kriging.proofs.Verdict.{Way, bad, good, miss, way}
 
 -- ---- an audit reads the n weights, and no more
@@ -80,58 +75,24 @@ module _ (a : Audited) (w : ℕ → Float) (h : (i : ℕ) → i < a .n → a .we
   way-on v (good f met e) = good (finite-on f) (λ j l m. met-on j (met j l m)) e
   way-on v (miss f l m met n) = miss (finite-on f) l m (λ j b c. met-on j (met j b c)) (λ k. n (met-back v k))
 
--- ---- what stands where
-
--- place q of an area whose first k places are written
-at-start : {A : Type 0} (k : ℕ) (f : ℕ → A) (xs : List A) (q : ℕ) (d : A) → k ≤ length xs → q < k → getD (written 0 k f xs) q d ≡ f q
-at-start {A} k f xs q d l m = ap (λ (i : ℕ). getD (written 0 k f xs) i d) (sym (zero-add q)) ∙ at-place 0 k f xs q d (omega arith) m
-
-module _ (s : Survey) (a : Areas) (t : Tested s a) (work : List Float) (node : ℕ → Node) (q : ℕ) (l : q < nodeCount s) where
-  figure-there : getD (answered s a work node .predicted) q nan ≡ node q .figure
-  unfolding answered
-  figure-there = at-start (nodeCount s) (λ q. node q .figure) (a .predicted) q nan (t .predicted) l
-
-  verdict-there : getD (answered s a work node .verdicts) q 255 ≡ node q .verdict
-  unfolding answered
-  verdict-there = at-start (nodeCount s) (λ q. node q .verdict) (a .verdicts) q 255 (t .verdicts) l
-
-  -- "n·m weights (node after node)"
-  weight-there : (i : ℕ) → i < wells s → getD (answered s a work node .weights) (q * wells s + i) nan ≡ getD (node q .z) i nan
-  unfolding answered
-  weight-there i m =
-      at-start (wells s * nodeCount s) (λ t. getD (node (t / wells s) .z) (t % wells s) nan) (a .weights) (q * wells s + i) nan (t .weights)
-      (subst (λ (k : ℕ). q * wells s + i < k) (mul-comm (nodeCount s) (wells s)) (digits-lt l m))
-      ∙ ap₂ (λ (r c : ℕ). getD (node r .z) c nan) (digits-div q m) (digits-mod q m)
-
 -- ---- the audit at exit
 
 -- the verdict that stands there for a node is how the audit of the weights and of the figure that stand there ends
 pub way-at-exit : (s : Survey) (a : Areas) → fitted s a .number ≡ 0 → (q : ℕ) → q < nodeCount s
     → Way (atExit s (fitted s a .areas) q) (verdictAtExit (fitted s a .areas) q)
 unfolding nodeOf
-way-at-exit s a e q l = subst (λ (x : Areas). Way (atExit s x q) (verdictAtExit x q)) (sym (ok .areas)) there
+way-at-exit s a e q l =
+    subst₂ (λ (g : Float) (v : ℕ). Way (audited g) v) (sym (figure-at s a e q nan l)) (sym (verdict-at s a e q 255 l))
+    (way-on own weights (λ i m. sym (weight-at s a e q i nan l m)) (node .verdict) (way own))
   where
-    ok : Accepted s a
-    ok = accepted s a e
+    node : Node
+    node = nodeOf s (worked s a) q
 
-    node : ℕ → Node
-    node = nodeOf s (ok .work)
-
-    exit : Areas
-    exit = answered s a (ok .work) node
+    own : Audited
+    own = auditOf s q (node .z) (node .figure)
 
     weights : ℕ → Float
-    weights i = getD (exit .weights) (q * wells s + i) nan
+    weights i = getD (fitted s a .areas .weights) (q * wells s + i) nan
 
     audited : Float → Audited
-    audited figure = withWeights (auditOf s q (node q .z) figure) weights
-
-    own : Way (audited (node q .figure)) (node q .verdict)
-    own =
-        way-on (auditOf s q (node q .z) (node q .figure)) weights (λ i m. sym (weight-there s a (ok .tests) (ok .work) node q l i m)) (node q .verdict)
-        (way (auditOf s q (node q .z) (node q .figure)))
-
-    there : Way (atExit s exit q) (verdictAtExit exit q)
-    there =
-        subst₂ (λ (g : Float) (v : ℕ). Way (audited g) v)
-        (sym (figure-there s a (ok .tests) (ok .work) node q l)) (sym (verdict-there s a (ok .tests) (ok .work) node q l)) own
+    audited figure = withWeights (auditOf s q (node .z) figure) weights

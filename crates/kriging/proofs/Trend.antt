@@ -7,16 +7,16 @@ use Rattle.kriging.specs.Audit.{Audited}
 use Rattle.kriging.specs.Fit.{fitted}
 use Rattle.kriging.specs.Trend.{TrendKept, atExit, verdictAtExit}
 use Rattle.kriging.proofs.Verdict.{way-verdict, way-bound}
-use Rattle.kriging.proofs.AreasAccepted.{accepted}
+use Rattle.kriging.proofs.AreasAccepted.{few-columns, finite-tolerance, finite-values}
 use Rattle.kriging.proofs.AreasExit.{way-at-exit}
 
 -- at every survey, whatever its size and model, and whatever areas are lent
 pub trend-kept : (s : Survey) (a : Areas) → TrendKept s (fitted s a)
 trend-kept s a = record {
-  verdict = λ e q l. way-verdict (exit q) (le-trans (accepted s a e .tests .fewColumns) (lit≤ tt)) (verdictAtExit (fitted s a .areas) q) (way-at-exit s a e q l);
+  verdict = λ e q l. way-verdict (exit q) (le-trans (few-columns s a e) (lit≤ tt)) (verdictAtExit (fitted s a .areas) q) (way-at-exit s a e q l);
   trend = λ e q l. way-bound (exit q) (verdictAtExit (fitted s a .areas) q) (way-at-exit s a e q l);
-  values = λ e. accepted s a e .tests .values;
-  tolerance = λ e. accepted s a e .tests .tolerance;
+  values = finite-values s a;
+  tolerance = finite-tolerance s a;
 }
   where
     exit : ℕ → Audited

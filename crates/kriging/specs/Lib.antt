@@ -8,3 +8,7 @@ pub mod Limits
 pub mod Refusals
 pub mod Fit
 pub mod Trend
+pub mod System
+pub mod Lowest
+pub mod Untouched
+pub mod Alike

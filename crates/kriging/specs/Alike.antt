@@ -1,0 +1,28 @@
+-- Two surveys that differ at most in their nodes, two nodes alike, and two answers alike. Assumes nothing.
+use Prim.Native.Nat.{ℕ, _+_, _*_, _<_}
+use mathlib.Core.Path.{_≡_}
+use lib.ListN.{getD}
+use lib.Ieee.{nan}
+use Rattle.kriging.specs.Survey.{Survey, Areas, wells, externals, nodeX, nodeY, nodeExternalAt}
+
+-- the same in everything but the lists of nodes
+pub record SameWells (s t : Survey) : Type 0 where
+  pub values : s .values ≡ t .values
+  pub coords : s .coords ≡ t .coords
+  pub bases : s .bases ≡ t .bases
+  pub external : s .external ≡ t .external
+  pub options : s .options ≡ t .options
+  pub tolerance : s .tolerance ≡ t .tolerance
+
+-- node q of s is where node r of t is, and has its external values
+pub record SameNode (s t : Survey) (q r : ℕ) : Type 0 where
+  pub x : nodeX s q ≡ nodeX t r
+  pub y : nodeY s q ≡ nodeY t r
+  pub external : (c : ℕ) → c < externals s → nodeExternalAt s q c ≡ nodeExternalAt t r c
+
+-- what the answer areas a hold at node q of s is what b hold at node r of t
+pub record SameAnswer (s t : Survey) (q r : ℕ) (a b : Areas) : Type 0 where
+  pub figure : getD (a .predicted) q nan ≡ getD (b .predicted) r nan
+  pub variance : getD (a .variance) q nan ≡ getD (b .variance) r nan
+  pub verdict : getD (a .verdicts) q 0 ≡ getD (b .verdicts) r 0
+  pub weight : (i : ℕ) → i < wells s → getD (a .weights) (q * wells s + i) nan ≡ getD (b .weights) (r * wells t + i) nan

@@ -1,0 +1,114 @@
+-- The universal kriging equations in terms of the variogram, block by block: Chilès and Delfiner, Geostatistics, section 3.4, "Universal Kriging". With wells x_i, a node x_0 and drift functions f_l,
+--     Σ_j γ(x_i, x_j) λ_j + Σ_l μ_l f_l(x_i) = γ(x_i, x_0) for each well i,
+--     Σ_j λ_j f_l(x_j) = f_l(x_0) for each l,
+--     and the variance is Σ_i λ_i γ(x_i, x_0) + Σ_l μ_l f_l(x_0).
+-- Paper 01 adds r to the diagonal. Where these stand in the matrix is said last and apart, by `rowOf`. Assumes nothing.
+use Prim.Native.Nat.{ℕ, zero, suc, _+_, _<_}
+use mathlib.Core.Bool.{cond}
+use mathlib.Core.List.{List, [], _∷_, _++_, map}
+use lib.Dec.{eqb}
+use lib.ListN.{getD}
+use lib.Ieee.{Float, nan, binary64, add, mul, ofBits}
+use Rattle.variogram.specs.Model.{semivariance}
+use Rattle.variogram.specs.Distance.{distance2d}
+use Rattle.kriging.specs.Survey.{Survey, wells, columns, wellX, wellY, wellExternal, nodeX, nodeY, nodeExternalAt}
+
+-- ---- places: x_i of a well and x_0 of a node
+
+-- coordinates, and the value of each external column there
+pub record Place : Type 0 where
+  pub x : Float
+  pub y : Float
+  pub external : ℕ → Float
+
+abbrev pub wellPlace : Survey → ℕ → Place
+wellPlace s i = record { x = wellX s i; y = wellY s i; external = wellExternal s i }
+
+abbrev pub nodePlace : Survey → ℕ → Place
+nodePlace s q = record { x = nodeX s q; y = nodeY s q; external = nodeExternalAt s q }
+
+-- γ(a, b)
+unfoldable pub variogramOf : Survey → Place → Place → Float
+unfolding semivariance distance2d
+variogramOf s a b = semivariance (s .options .variogram) (distance2d (a .x) (a .y) (b .x) (b .y))
+
+-- ---- drift functions f_l
+
+-- a function of the place: a monomial of the coordinates, or an external column
+pub data Monomial : Type 0 where
+  One X Y XX XY YY : Monomial
+  External : ℕ → Monomial
+
+unfoldable pub valueOf : Monomial → Place → Float
+valueOf One a = ofBits binary64 0x3ff0_0000_0000_0000
+valueOf X a = a .x
+valueOf Y a = a .y
+valueOf XX a = mul binary64 (a .x) (a .x)
+valueOf XY a = mul binary64 (a .x) (a .y)
+valueOf YY a = mul binary64 (a .y) (a .y)
+valueOf (External c) a = a .external c
+
+-- "basis codes 1 Constant, 2 Linear, 3 Quadratic, 4 External": the functions of one code, where `used` external columns are taken already
+unfoldable pub basis : ℕ → ℕ → List Monomial
+basis used c =
+    cond (eqb c 1) (One ∷ [])
+    (cond (eqb c 2) (One ∷ X ∷ Y ∷ [])
+    (cond (eqb c 3) (One ∷ X ∷ Y ∷ XX ∷ XY ∷ YY ∷ [])
+    (cond (eqb c 4) (External used ∷ []) [])))
+
+-- those of a list of codes, "in basis order"
+unfoldable pub monomials : ℕ → List ℕ → List Monomial
+unfolding basis
+monomials used [] = []
+monomials used (c ∷ cs) = basis used c ++ monomials (cond (eqb c 4) (suc used) used) cs
+
+-- f_l at a place: one function, for wells and nodes alike
+unfoldable pub driftAt : Survey → ℕ → Place → Float
+unfolding monomials valueOf
+driftAt s l a = getD (map (λ m. valueOf m a) (monomials 0 (s .bases))) l nan
+
+-- ---- the equations
+
+-- an unknown, λ_j of well j or μ_l of drift function l; and an equation, that of well i or of drift function l
+pub data Index : Type 0 where
+  Well : ℕ → Index
+  Drift : ℕ → Index
+
+-- n of the one kind and p of the other
+abbrev pub Within : Survey → Index → Type 0
+Within s (Well i) = i < wells s
+Within s (Drift l) = l < columns s
+
+-- what equation u multiplies the unknown v by
+unfoldable pub coefficientOf : Survey → Index → Index → Float
+unfolding variogramOf driftAt
+coefficientOf s (Well i) (Well j) =
+    cond (eqb i j) (add binary64 (ofBits binary64 0) (s .options .regularization)) (variogramOf s (wellPlace s i) (wellPlace s j))
+coefficientOf s (Well i) (Drift l) = driftAt s l (wellPlace s i)
+coefficientOf s (Drift l) (Well j) = driftAt s l (wellPlace s j)
+coefficientOf s (Drift l) (Drift k) = ofBits binary64 0
+
+-- its right-hand side at the node x_0
+unfoldable pub rightOf : Survey → Place → Index → Float
+unfolding variogramOf driftAt
+rightOf s node (Well i) = variogramOf s (wellPlace s i) node
+rightOf s node (Drift l) = driftAt s l node
+
+-- f 0, f 1, .., f (k - 1) added to a number in turn, each addition rounded
+unfoldable pub addedTo : Float → ℕ → (ℕ → Float) → Float
+addedTo start zero f = start
+addedTo start (suc k) f = add binary64 (addedTo start k f) (f k)
+
+-- Σ_i λ_i γ(x_i, x_0) + Σ_l μ_l f_l(x_0), from the unknowns
+unfoldable pub varianceSum : Survey → Place → (Index → Float) → Float
+unfolding rightOf addedTo
+varianceSum s node unknown =
+    addedTo
+    (addedTo (ofBits binary64 0) (wells s) (λ i. mul binary64 (unknown (Well i)) (rightOf s node (Well i))))
+    (columns s)
+    (λ l. mul binary64 (unknown (Drift l)) (rightOf s node (Drift l)))
+
+-- ---- where they stand: wells first, then drift functions
+abbrev pub rowOf : Survey → Index → ℕ
+rowOf s (Well i) = i
+rowOf s (Drift l) = wells s + l
