@@ -1,0 +1,5 @@
+pub mod Call
+pub mod Limits
+pub mod System
+pub mod Refusals
+pub mod Interpolation

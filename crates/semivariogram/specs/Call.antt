@@ -1,0 +1,37 @@
+-- A call of the semivariogram: what it takes, what it is lent, and how it ends. Assumes nothing.
+use Prim.Native.Nat.{ℕ}
+use mathlib.Core.List.{List}
+use lib.ListN.{length}
+use lib.Ieee.{Float}
+use Rattle.error.specs.declared.Refusal.{Refusal}
+use Rattle.error.specs.Numbers.{numberOf}
+use Rattle.semivariogram.specs.declared.Semivariogram.{Semivariogram}
+use Rattle.semivariogram.specs.declared.Semivariogram.the-variants.{Bins, Refused}
+
+-- what the call takes: points of d numbers, row after row, and the value at each
+pub record Samples : Type 0 where
+  pub dimension : ℕ
+  pub values : List Float
+  pub points : List Float
+  pub bins : ℕ
+
+-- what it is lent for its answer, at entry or at exit
+pub record Areas : Type 0 where
+  pub distances : List Float
+  pub semivariances : List Float
+  pub counts : List ℕ
+
+-- how it ends: the answer's number (0, or the refusal's), how many bins are kept, and the areas at exit
+pub record Outcome : Type 0 where
+  pub number : ℕ
+  pub kept : ℕ
+  pub areas : Areas
+
+-- The number and the value of each answer: "how many is returned", and "a refusal carries only its number".
+abbrev pub ended : Semivariogram → Areas → Outcome
+ended (Bins k) a = record { number = 0; kept = k; areas = a }
+ended (Refused r) a = record { number = numberOf r; kept = 0; areas = a }
+
+-- n, the number of samples
+abbrev pub samples : Samples → ℕ
+samples q = length (q .values)

@@ -1,0 +1,5 @@
+pub mod Pairs
+pub mod Call
+pub mod Limits
+pub mod Refusals
+pub mod Semivariogram

@@ -1,0 +1,62 @@
+-- What turns a call of the semivariogram away: "Semivariogram: 13, 1, 14, 15, 9, 11, 18". Assumes nothing.
+use Prim.Native.Nat.{ℕ, _*_}
+use mathlib.Core.Bool.{Bool, true, not, _&&_, _||_}
+use mathlib.Core.List.{List, [], _∷_}
+use lib.Dec.{eqb, leb, ltb}
+use lib.ListN.{length}
+use lib.Ieee.{Float}
+use lib.Ieee.Scale.{finite}
+use Rattle.error.specs.Tests.{Test, test, firstOf}
+use Rattle.variogram.specs.Distance.{offered}
+use Rattle.semivariogram.specs.Limits.{mostSamples, mostBins}
+use Rattle.semivariogram.specs.Call.{Samples, Areas, samples}
+
+-- every number of a list is finite
+unfoldable pub allFinite : List Float → Bool
+allFinite [] = true
+allFinite (x ∷ xs) = finite x && allFinite xs
+
+-- 13: "d not 1, 2 or 3"
+abbrev pub wrongDimension : Samples → Bool
+wrongDimension q = not (offered (q .dimension))
+
+-- 1: "coordinates not .. n·d in the two older calls"
+abbrev pub wrongPoints : Samples → Bool
+wrongPoints q = not (eqb (length (q .points)) (samples q * q .dimension))
+
+-- 14: "fewer than 2 samples"
+abbrev pub tooFew : Samples → Bool
+tooFew q = ltb (samples q) 2
+
+-- 15: "bins not 1..64"
+abbrev pub wrongBins : Samples → Bool
+wrongBins q = not (leb 1 (q .bins) && leb (q .bins) mostBins)
+
+-- 9: "n > 48"
+abbrev pub tooMany : Samples → Bool
+tooMany q = ltb mostSamples (samples q)
+
+-- 11: "a value, coordinate .. not finite, as far as the call takes them"
+abbrev pub notFinite : Samples → Bool
+notFinite q = not (allFinite (q .values) && allFinite (q .points))
+
+-- 18: "an answer area too short: .. for bins, the bin count, three times"
+abbrev pub shortAnswer : Samples → Areas → Bool
+shortAnswer q a = ltb (length (a .distances)) (q .bins) || ltb (length (a .semivariances)) (q .bins) || ltb (length (a .counts)) (q .bins)
+
+-- the tests in the paper's order
+abbrev pub tests : Samples → Areas → List Test
+tests q a =
+    test 13 (wrongDimension q)
+    ∷ test 1 (wrongPoints q)
+    ∷ test 14 (tooFew q)
+    ∷ test 15 (wrongBins q)
+    ∷ test 9 (tooMany q)
+    ∷ test 11 (notFinite q)
+    ∷ test 18 (shortAnswer q a)
+    ∷ []
+
+-- the number that refuses the call, and 0 where it is accepted
+unfoldable pub refusal : Samples → Areas → ℕ
+unfolding firstOf allFinite
+refusal q a = firstOf (tests q a)
