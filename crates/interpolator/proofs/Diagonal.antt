@@ -1,43 +1,35 @@
 -- The diagonal of the matrix is the sill: a well is at the distance +0 from itself, where the variogram is +0. Assumes nothing.
-use Prim.Native.Nat.{ℕ, zero, suc, _+_, _*_, _<_}
-use native.Mathlib.Nat.{mul-one, zero-mul, add-zero, sub-zero, not-suc-le-zero, le-of-suc-le-suc}
+use Prim.Native.Nat.{ℕ, _+_, _*_, _<_}
+use native.Mathlib.Nat.{mul-one, zero-mul, add-zero, sub-zero}
 use native.Mathlib.Omega.{arith}
-use mathlib.Core.Path.{_≡_, refl, ap, sym, _∙_}
-use mathlib.Core.Bool.{Bool, true, false, _&&_, true≢false}
-use mathlib.Core.List.{List, [], _∷_}
+use mathlib.Core.Path.{_≡_, refl, ap, _∙_}
+use mathlib.Core.Bool.{true, false}
 use lib.Dec.{T}
 use lib.ListN.{length, getD}
 use lib.Ieee.{Float, nan, inf, fin, binary64, up, down, sub, ofBits, fits}
 use lib.Ieee.Scale.{finite}
-use lib.Ieee.Fits.{and-l, and-r}
+use lib.Ieee.Fits.{down-pos}
 use borrow.Author.Tests.{le-ltb}
 use Rattle.area.proofs.Rows.{row-end}
 use Rattle.ieee.proofs.Zero.{holds}
+use Rattle.ieee.proofs.Own.{round-own}
 use Rattle.variogram.specs.Model.{semivariance}
-use Rattle.variogram.proofs.Zero.{round-fitting}
 use Rattle.variogram.proofs.Distance.{is-offered}
 use Rattle.variogram.proofs.Itself.{distance-itself, variogram-itself}
 use Rattle.interpolator.specs.Call.{Query, Areas, wells}
 use Rattle.interpolator.specs.System.{zeroFloat, entry}
-use Rattle.interpolator.specs.Refusals.{allFinite, refusal}
+use Rattle.interpolator.specs.Refusals.{refusal}
 use Rattle.interpolator.proofs.Accepted.{Accepted, accepted}
 use Rattle.interpolator.proofs.Matrix.{covariances}
-
--- each number of a list of finite numbers
-pub finite-at : (xs : List Float) (k : ℕ) → T (allFinite xs) → k < length xs → T (finite (getD xs k nan))
-unfolding allFinite
-finite-at [] k h l = absurd (not-suc-le-zero l)
-finite-at (x ∷ xs) zero h l = and-l (finite x) (allFinite xs) h
-finite-at (x ∷ xs) (suc k) h l = finite-at xs k (and-r (finite x) (allFinite xs) h) (le-of-suc-le-suc l)
 
 -- a number less +0 is that number
 less-zero : (x : Float) → T (fits binary64 x) → sub binary64 x zeroFloat ≡ x
 unfolding sub ofBits
 less-zero nan f = refl
 less-zero (inf s) f = refl
-less-zero (fin true m e) f = rw (zero-mul (down e), add-zero, mul-one (m * up e), mul-one (down e)) (round-fitting true m e f)
+less-zero (fin true m e) f = rw (zero-mul (down e), add-zero, mul-one (m * up e), mul-one (down e)) (round-own (fin true m e) true (m * up e) (down e) f (down-pos e) (refl, refl))
 less-zero (fin false m e) f =
-    rw (zero-mul (down e), le-ltb (m * up e * 1) 0 (omega arith), sub-zero, mul-one (m * up e), mul-one (down e)) (round-fitting false m e f)
+    rw (zero-mul (down e), le-ltb (m * up e * 1) 0 (omega arith), sub-zero, mul-one (m * up e), mul-one (down e)) (round-own (fin false m e) false (m * up e) (down e) f (down-pos e) (refl, refl))
 
 -- "the diagonal too": of an accepted call with an f64 for a sill
 pub diagonal : (q : Query) (a : Areas) → refusal q a ≡ 0 → T (fits binary64 (q .variogram .sill)) → (i : ℕ) → i < wells q → entry q i i ≡ q .variogram .sill
@@ -49,6 +41,6 @@ diagonal q a h f i l =
     covariances q i i l l
     ∙ ap (λ (x : Float). sub binary64 (v .sill) (semivariance v x))
     (distance-itself (q .points) i d (is-offered d (k .dimension .0) (k .dimension .1))
-    (λ c b. finite-at (q .points) (i * d + c) (holds (allFinite (q .points)) (k .finite-points)) (omega (arith, row-end d i (wells q) l))))
+    (λ c b. holds (finite (getD (q .points) (i * d + c) nan)) (k .coordinates (i * d + c) (omega (arith, row-end d i (wells q) l)))))
     ∙ ap (λ (x : Float). sub binary64 (v .sill) x) (variogram-itself v)
     ∙ less-zero (v .sill) f

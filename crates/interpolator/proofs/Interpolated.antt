@@ -1,10 +1,10 @@
 -- How a call of the interpolator ends, and what it leaves in its areas. A number before the elimination writes nothing. 19 is given exactly where a step of the elimination holds a magnitude
 -- below 2^-52, and leaves the work area as it was before that step; 0 exactly where every step goes through, and then each target has its figure and its variance. No wells give 19. Assumes nothing.
-use Prim.Native.Nat.{ℕ, zero, suc, _+_, _*_, _≤_, _<_}
+use Prim.Native.Nat.{ℕ, zero, suc, _*_, _≤_, _<_}
 use native.Mathlib.Nat.{zero-add, not-suc-le-zero}
 use native.Mathlib.Omega.{arith}
 use mathlib.Core.Path.{_≡_, refl, ap, sym, subst, _∙_}
-use mathlib.Core.Logic.{_↔_, _⊎_, inl, inr}
+use mathlib.Core.Logic.{_≢_, _↔_, _⊎_, inl, inr}
 use mathlib.Core.Bool.{true, false}
 use mathlib.Core.List.{List}
 use lib.ListN.{length, getD}
@@ -15,7 +15,7 @@ use Rattle.area.proofs.Places.{at-place}
 use Rattle.area.proofs.Kept.{kept-same, kept-then, kept-written}
 use Rattle.elimination.specs.declared.Elimination.{Elimination}
 use Rattle.elimination.specs.declared.Elimination.the-variants.{Done, Stopped, TooShort}
-use Rattle.elimination.specs.Elimination.{at, hold, small, eliminated, stepped, Through, StopsAt, Outcome as Eliminated}
+use Rattle.elimination.specs.Elimination.{at, hold, small, eliminated, stepped, StopsAt, Outcome as Eliminated}
 use Rattle.elimination.proofs.Hold.{hold-below}
 use Rattle.elimination.proofs.Stops.{finished as eliminated-finished, stopped as eliminated-stopped, done-exactly, stops-exactly, refused-exactly}
 use Rattle.elimination.proofs.Untouched.{kept-eliminated}
@@ -24,21 +24,12 @@ use Rattle.interpolator.specs.declared.KrigingType.the-variants.{Ordinar
 use Rattle.interpolator.specs.Call.{Query, Areas, Outcome, wells, nodes, added, size}
 use Rattle.interpolator.specs.System.{zeroFloat, assembled}
 use Rattle.interpolator.specs.Refusals.{refusal}
+use Rattle.interpolator.specs.Conditions.{Ruling}
+use Rattle.interpolator.specs.Endings.{workAfter, Solves, Stops, Way, refused, stopped, done, Untouched}
 use Rattle.interpolator.specs.Interpolation.{figure, variance, answered, concluded, judged, interpolated}
-use Rattle.interpolator.proofs.Ruling.{never-19}
+use Rattle.interpolator.proofs.Ruling.{ruling, only-ruling, never-19}
 use Rattle.interpolator.proofs.Accepted.{Accepted, accepted}
 use Rattle.interpolator.proofs.Matrix.{assembled-at, kept-assembled, left-half, lower-right}
-
--- the work area with the first i steps done on the assembled matrix
-abbrev pub workAfter : ℕ → Query → Areas → List Float
-workAfter i q a = stepped false (size q) i (assembled q (a .work))
-
--- every step of the call goes through, or step i is the first that does not
-abbrev pub Solves : Query → Areas → Type 0
-Solves q a = Through false (size q) (size q) (assembled q (a .work))
-
-abbrev pub Stops : Query → Areas → ℕ → Type 0
-Stops q a i = StopsAt false (size q) i (assembled q (a .work))
 
 -- ---- how it ends
 -- "A refusal carries only its number and writes nothing"
@@ -76,6 +67,18 @@ solves-or-stops q a h = go (eliminated false (size q) xs .answer) refl
         let k : Accepted q a = accepted q a h in
         absurd (omega (arith, refused-exactly false (size q) xs .0 e, kept-assembled q (a .work) .len))
 
+-- every call ends in one of the three ways
+pub way : (q : Query) (a : Areas) → Way q a (interpolated q a)
+way q a = go (refusal q a) refl
+  where
+    accepted-so : (h : refusal q a ≡ 0) → Solves q a ⊎ ((i : ℕ) × Stops q a i) → Way q a (interpolated q a)
+    accepted-so h (inl t) = done (subst (Ruling q a) h (ruling q a)) t (where-it-solves q a h t)
+    accepted-so h (inr p) = stopped (p .0) (subst (Ruling q a) h (ruling q a)) (p .1) (where-it-stops q a (p .0) h (p .1))
+
+    go : (n : ℕ) → refusal q a ≡ n → Way q a (interpolated q a)
+    go zero h = accepted-so h (solves-or-stops q a h)
+    go (suc r) h = refused (suc r) (omega arith) (subst (Ruling q a) h (ruling q a)) (refusal-writes-nothing q a r h)
+
 -- ---- its number
 numbered : {p o : Outcome} → p ≡ o → p .number ≡ o .number
 numbered e = ap (λ (o : Outcome). o .number) e
@@ -105,6 +108,22 @@ number-19 q a = (λ e. go (refusal q a) refl e, λ p. numbered (where-it-stops q
     go (suc r) h e =
         let n : suc r ≡ 19 = sym (numbered (refusal-writes-nothing q a r h)) ∙ e in
         absurd (never-19 q a (h ∙ n))
+
+-- and any other number exactly where it turns the call away before that
+pub number-before : (q : Query) (a : Areas) (n : ℕ) → n ≢ 0 → n ≢ 19 → (interpolated q a .number ≡ n) ↔ Ruling q a n
+number-before q a n z s = (λ e. go (refusal q a) refl e, λ r. back n refl (only-ruling q a n r))
+  where
+    ended-so : refusal q a ≡ 0 → interpolated q a .number ≡ n → Solves q a ⊎ ((i : ℕ) × Stops q a i) → Ruling q a n
+    ended-so h e (inl t) = absurd (z (sym e ∙ numbered (where-it-solves q a h t)))
+    ended-so h e (inr p) = absurd (s (sym e ∙ numbered (where-it-stops q a (p .0) h (p .1))))
+
+    go : (k : ℕ) → refusal q a ≡ k → interpolated q a .number ≡ n → Ruling q a n
+    go zero h e = ended-so h e (solves-or-stops q a h)
+    go (suc r) h e = subst (Ruling q a) (h ∙ sym (numbered (refusal-writes-nothing q a r h)) ∙ e) (ruling q a)
+
+    back : (k : ℕ) → n ≡ k → refusal q a ≡ n → interpolated q a .number ≡ n
+    back zero e h = absurd (z e)
+    back (suc r) e h = numbered (refusal-writes-nothing q a r (h ∙ e)) ∙ sym e
 
 -- "19 needs the held pivot of a step": in the work area at exit its magnitude is below 2^-52
 pub pivot-of-19 : (q : Query) (a : Areas) → interpolated q a .number ≡ 19
@@ -146,33 +165,29 @@ no-wells q a h z =
     (λ r b. assembled-at q (a .work) r 0 (k .work) b (omega arith) ∙ left-half q r 0 p ∙ lower-right q r 0 (omega arith) (omega arith)))
 
 -- ---- the areas at exit
--- what lies past the named lengths is as it was
-abbrev pub Untouched : Query → Areas → Outcome → Type 0
-Untouched q a o =
-    Kept (2 * size q * size q) (a .work) (o .areas .work)
-    × Kept (nodes q) (a .figures) (o .areas .figures)
-    × Kept (nodes q) (a .variances) (o .areas .variances)
-
 kept-fill : (n : ℕ) (f : ℕ → Float) (xs : List Float) → Kept n xs (written 0 n f xs)
 kept-fill n f xs = kept-written n 0 n f xs (omega arith)
 
 kept-solved : (q : Query) (a : Areas) → Kept (2 * size q * size q) (a .work) (eliminated false (size q) (assembled q (a .work)) .area)
 kept-solved q a = kept-then (kept-assembled q (a .work)) (kept-eliminated false (size q) (assembled q (a .work)))
 
-whichever : (q : Query) (a : Areas) (d : Elimination) (w : List Float) → Kept (2 * size q * size q) (a .work) w → Untouched q a (concluded d q w a)
+as-it-was : (q : Query) (a : Areas) → Untouched q a a
+as-it-was q a = record { work = kept-same (2 * size q * size q) (a .work); figures = kept-same (nodes q) (a .figures); variances = kept-same (nodes q) (a .variances) }
+
+whichever : (q : Query) (a : Areas) (d : Elimination) (w : List Float) → Kept (2 * size q * size q) (a .work) w → Untouched q a (concluded d q w a .areas)
 unfolding concluded answered
-whichever q a Done w k = (k, kept-fill (nodes q) (figure q w) (a .figures), kept-fill (nodes q) (variance q w) (a .variances))
-whichever q a (Stopped i) w k = (k, kept-same (nodes q) (a .figures), kept-same (nodes q) (a .variances))
-whichever q a TooShort w k = (kept-same (2 * size q * size q) (a .work), kept-same (nodes q) (a .figures), kept-same (nodes q) (a .variances))
+whichever q a Done w k = record { work = k; figures = kept-fill (nodes q) _ (a .figures); variances = kept-fill (nodes q) _ (a .variances) }
+whichever q a (Stopped i) w k = record { work = k; figures = kept-same (nodes q) (a .figures); variances = kept-same (nodes q) (a .variances) }
+whichever q a TooShort w k = as-it-was q a
 
 -- "all past the named lengths is untouched", of every call
-pub untouched : (q : Query) (a : Areas) → Untouched q a (interpolated q a)
+pub untouched : (q : Query) (a : Areas) → Untouched q a (interpolated q a .areas)
 unfolding interpolated judged
 untouched q a = go (refusal q a)
   where
-    go : (n : ℕ) → Untouched q a (judged n q a)
+    go : (n : ℕ) → Untouched q a (judged n q a .areas)
     go zero = whichever q a (eliminated false (size q) (assembled q (a .work)) .answer) (eliminated false (size q) (assembled q (a .work)) .area) (kept-solved q a)
-    go (suc r) = (kept-same (2 * size q * size q) (a .work), kept-same (nodes q) (a .figures), kept-same (nodes q) (a .variances))
+    go (suc r) = as-it-was q a
 
 filled-at : (n : ℕ) (f : ℕ → Float) (xs : List Float) (t : ℕ) → n ≤ length xs → t < n → getD (written 0 n f xs) t nan ≡ f t
 filled-at n f xs t l b = ap (λ (p : ℕ). getD (written 0 n f xs) p nan) (sym (zero-add t)) ∙ at-place 0 n f xs t nan (omega arith) b

@@ -1,3 +1,4 @@
+pub mod Tells
 pub mod Ruling
 pub mod Accepted
 pub mod Matrix

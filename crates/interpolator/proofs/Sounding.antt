@@ -1,13 +1,13 @@
 -- Sounding B, its Ordinary interpolation. Assumes nothing.
 use Prim.Native.Nat.{ℕ}
 use mathlib.Core.Path.{_≡_, refl}
-use mathlib.Core.List.{List, [], _∷_}
+use mathlib.Core.List.{[], _∷_}
 use lib.ListN.{replicate}
 use lib.Ieee.{Float, binary64, ofBits, add, sub, mul, div, lt, le, eq, round}
 use Rattle.variogram.specs.Model.{variogram}
 use Rattle.variogram.specs.declared.VariogramModel.the-variants.{Spherical}
 use Rattle.interpolator.specs.declared.KrigingType.the-variants.{Ordinary}
-use Rattle.interpolator.specs.Call.{Query, Areas, Outcome}
+use Rattle.interpolator.specs.Call.{Query, Areas}
 use Rattle.interpolator.specs.Interpolation.{interpolated}
 
 -- the f64 of a bit pattern

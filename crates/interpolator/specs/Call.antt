@@ -3,7 +3,6 @@ use Prim.Native.Nat.{ℕ, _+_, _/_}
 use mathlib.Core.List.{List}
 use lib.ListN.{length}
 use lib.Ieee.{Float}
-use Rattle.error.specs.declared.Refusal.{Refusal}
 use Rattle.error.specs.Numbers.{numberOf}
 use Rattle.variogram.specs.declared.Variogram.{Variogram}
 use Rattle.interpolator.specs.declared.KrigingType.{KrigingType}

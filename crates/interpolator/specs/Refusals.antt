@@ -50,9 +50,10 @@ tooMany q = ltb mostWells (wells q) || ltb mostNodes (nodes q)
 -- 11: "nugget, sill, range, a value, coordinate, .. node .. not finite, as far as the call takes them"
 abbrev pub notFinite : Query → Bool
 notFinite q =
-    not
-    (finite (q .variogram .nugget) && finite (q .variogram .sill) && finite (q .variogram .range)
-    && allFinite (q .values) && allFinite (q .points) && allFinite (q .targets))
+    not (finite (q .variogram .nugget))
+    || (not (finite (q .variogram .sill))
+    || (not (finite (q .variogram .range))
+    || (not (allFinite (q .values)) || (not (allFinite (q .points)) || not (allFinite (q .targets))))))
 
 -- 12: "Exponential or Gaussian"
 abbrev pub wrongModel : Query → Bool

@@ -3,12 +3,12 @@
 use Prim.Native.Nat.{ℕ, zero, suc, _+_, _-_, _*_, _/_, _≤_, _<_}
 use native.Mathlib.Nat.{zero-add, sub-zero}
 use native.Mathlib.Omega.{arith}
-use mathlib.Core.Path.{_≡_, refl, ap, sym, subst, _∙_}
-use mathlib.Core.Bool.{Bool, true}
-use mathlib.Core.List.{List, map}
-use lib.Dec.{ltb}
+use mathlib.Core.Path.{_≡_, refl, ap, sym, subst, fun-ext, _∙_}
+use mathlib.Core.Logic.{_↔_}
+use mathlib.Core.Bool.{Bool}
+use mathlib.Core.List.{List}
 use lib.ListN.{length, getD, take}
-use lib.Ieee.{Float, nan, binary64, ofBits, div}
+use lib.Ieee.{nan}
 use borrow.Author.Tests.{lt-ltb, ltb-true}
 use Rattle.area.specs.Area.{written, Kept}
 use Rattle.area.proofs.Places.{at-place}
@@ -16,9 +16,12 @@ use Rattle.area.proofs.Kept.{kept-written}
 use Rattle.semivariogram.specs.Pairs.{rising, filtered}
 use Rattle.semivariogram.specs.Call.{Samples, Areas, Outcome, samples}
 use Rattle.semivariogram.specs.Refusals.{refusal}
-use Rattle.semivariogram.specs.Semivariogram.{asFloat, halfSquare, count, average, centre, keptBins, filled, judged, calculated}
-use Rattle.semivariogram.proofs.Lists.{total, length-rising, filtered-length, rankFrom, Ranked, at-rank, from-rank, take-filled}
-use Rattle.semivariogram.proofs.Bins.{pairsIn, addedUp, count-is, average-is, kept-counts}
+use Rattle.semivariogram.specs.Conditions.{Ruling}
+use Rattle.semivariogram.specs.Semivariogram.{count, average, centre, keptBins, filled, judged, calculated}
+use Rattle.semivariogram.specs.Binned.{pairsIn, total, isKept, rank, Row, KeptAt, Binned}
+use Rattle.semivariogram.proofs.Lists.{length-rising, filtered-length, Ranked, at-rank, from-rank, take-filled}
+use Rattle.semivariogram.proofs.Bins.{count-is, kept-is, average-is, kept-counts}
+use Rattle.semivariogram.proofs.Ruling.{ruling-exactly}
 use Rattle.semivariogram.proofs.Accepted.{Accepted, accepted}
 
 -- ---- how the call ends
@@ -40,14 +43,20 @@ number-is q a = go (refusal q a)
     go zero = refl
     go (suc r) = refl
 
-fewer : (q : Samples) → length (keptBins q) ≤ q .bins
-unfolding keptBins
-fewer q = omega (arith, filtered-length (λ b. ltb 0 (count q b)) (rising 0 (q .bins)), length-rising 0 (q .bins))
+-- and the ruling's alone
+pub number-exactly : (q : Samples) (a : Areas) (n : ℕ) → (calculated q a .number ≡ n) ↔ Ruling q a n
+number-exactly q a n = (λ e. ruling-exactly q a n .0 (sym (number-is q a) ∙ e), λ r. number-is q a ∙ ruling-exactly q a n .1 r)
 
--- ---- theorem 6
--- "The counts add up to n(n−1)/2": those that stand in the area at exit
-pub counts-add-up : (q : Samples) (a : Areas) → refusal q a ≡ 0
-    → total (take (calculated q a .kept) (calculated q a .areas .counts)) ≡ samples q * (samples q - 1) / 2
+-- the kept bins, by the pairs that are in them
+kept-bins : (q : Samples) → keptBins q ≡ filtered (isKept q) (rising 0 (q .bins))
+unfolding keptBins
+kept-bins q = ap (λ (keep : ℕ → Bool). filtered keep (rising 0 (q .bins))) (fun-ext (λ b. kept-is q b))
+
+fewer : (q : Samples) → length (keptBins q) ≤ q .bins
+fewer q = omega (arith, ap length (kept-bins q), filtered-length (isKept q) (rising 0 (q .bins)), length-rising 0 (q .bins))
+
+-- ---- theorem 6, part by part
+counts-add-up : (q : Samples) (a : Areas) → refusal q a ≡ 0 → total (take (calculated q a .kept) (calculated q a .areas .counts)) ≡ samples q * (samples q - 1) / 2
 unfolding filled
 counts-add-up q a h =
     let k : Accepted q a = accepted q a h in
@@ -55,16 +64,6 @@ counts-add-up q a h =
     ap (λ (o : Outcome). total (take (o .kept) (o .areas .counts))) (is-filled q a h)
     ∙ ap total (take-filled (count q) (keptBins q) (a .counts) (omega arith))
     ∙ kept-counts q (k .bins .0)
-
--- how many kept bins lie below the bin b
-abbrev pub rank : Samples → ℕ → ℕ
-rank q b = rankFrom (λ (c : ℕ). ltb 0 (count q c)) 0 b
-
--- what stands at the place r is of the bin b: its centre, the average over the pairs whose bin it is, and their number
-pub record Row (q : Samples) (exit : Areas) (r b : ℕ) : Type 0 where
-  pub distance : getD (exit .distances) r nan ≡ centre q b
-  pub semivariance : getD (exit .semivariances) r nan ≡ div binary64 (addedUp (ofBits binary64 0) (map (halfSquare q) (pairsIn q b))) (asFloat (length (pairsIn q b)))
-  pub pairs : getD (exit .counts) r 0 ≡ length (pairsIn q b)
 
 at-row : {A : Type 0} (g : ℕ → A) (ks : List ℕ) (xs : List A) (d : A) (r b : ℕ) → length ks ≤ length xs → r < length ks → getD ks r 0 ≡ b
     → getD (written 0 (length ks) (λ r. g (getD ks r 0)) xs) r d ≡ g b
@@ -81,48 +80,37 @@ filled-row q a k r b h e =
     record {
       distance = at-row (centre q) (keptBins q) (a .distances) nan r b (omega arith) h e;
       semivariance = at-row (average q) (keptBins q) (a .semivariances) nan r b (omega arith) h e ∙ average-is q b;
-      pairs = at-row (count q) (keptBins q) (a .counts) 0 r b (omega arith) h e ∙ count-is q b;
+      count = at-row (count q) (keptBins q) (a .counts) 0 r b (omega arith) h e ∙ count-is q b;
     }
 
--- a bin is kept where its count is above 0
-passes : (q : Samples) (b : ℕ) → 0 < length (pairsIn q b) → ltb 0 (count q b) ≡ true
-passes q b m = lt-ltb 0 (count q b) (subst (λ (n : ℕ). 0 < n) (sym (count-is q b)) m)
-
 kept-rank : (q : Samples) (b : ℕ) → b < q .bins → 0 < length (pairsIn q b) → (getD (keptBins q) (rank q b) 0 ≡ b) × (rank q b < length (keptBins q))
-unfolding keptBins
-kept-rank q b l m = at-rank (λ (c : ℕ). ltb 0 (count q c)) b (q .bins) l (passes q b m)
+kept-rank q b l m =
+    subst (λ (ks : List ℕ). (getD ks (rank q b) 0 ≡ b) × (rank q b < length ks)) (sym (kept-bins q))
+    (at-rank (isKept q) b (q .bins) l (lt-ltb 0 (length (pairsIn q b)) m))
 
--- each kept bin is written, at its rank
-pub kept-bin : (q : Samples) (a : Areas) → refusal q a ≡ 0 → (b : ℕ) → b < q .bins → 0 < length (pairsIn q b)
+kept-bin : (q : Samples) (a : Areas) → refusal q a ≡ 0 → (b : ℕ) → b < q .bins → 0 < length (pairsIn q b)
     → (rank q b < calculated q a .kept) × Row q (calculated q a .areas) (rank q b) b
 kept-bin q a h b l m =
     let r = kept-rank q b l m in
     subst (λ (o : Outcome). (rank q b < o .kept) × Row q (o .areas) (rank q b) b) (sym (is-filled q a h))
     (r .1, filled-row q a (accepted q a h) (rank q b) b (r .1) (r .0))
 
-kept-from : (q : Samples) (r : ℕ) → r < length (keptBins q) → Ranked (λ (c : ℕ). ltb 0 (count q c)) 0 (q .bins) (getD (keptBins q) r 0) r
-unfolding keptBins
-kept-from q r l = from-rank (λ (c : ℕ). ltb 0 (count q c)) 0 (q .bins) r l
-
--- each place written is the rank of a kept bin
-pub kept-place : (q : Samples) (a : Areas) → refusal q a ≡ 0 → (r : ℕ) → r < calculated q a .kept
-    → (b : ℕ) × (b < q .bins) × (0 < length (pairsIn q b)) × (rank q b ≡ r)
+kept-place : (q : Samples) (a : Areas) → refusal q a ≡ 0 → (r : ℕ) → r < calculated q a .kept → (b : ℕ) × KeptAt q r b
 kept-place q a h r l =
-    let b : ℕ = getD (keptBins q) r 0 in
-    let below : r < length (keptBins q) = subst (λ (o : Outcome). r < o .kept) (is-filled q a h) l in
-    let k : Ranked (λ (c : ℕ). ltb 0 (count q c)) 0 (q .bins) b r = kept-from q r below in (
+    let ks : List ℕ = filtered (isKept q) (rising 0 (q .bins)) in
+    let b : ℕ = getD ks r 0 in
+    let below : r < length ks = subst (λ (n : ℕ). r < n) (ap (λ (o : Outcome). o .kept) (is-filled q a h) ∙ ap length (kept-bins q)) l in
+    let k : Ranked (isKept q) 0 (q .bins) b r = from-rank (isKept q) 0 (q .bins) r below in (
       b,
-      subst (λ (n : ℕ). b < n) (zero-add (q .bins)) (k .most),
-      subst (λ (n : ℕ). 0 < n) (count-is q b) (ltb-true 0 (count q b) (k .passes)),
-      k .rank,
+      record {
+        bin = subst (λ (n : ℕ). b < n) (zero-add (q .bins)) (k .most);
+        pair = ltb-true 0 (length (pairsIn q b)) (k .passes);
+        rank = ap (λ (n : ℕ). length (filtered (isKept q) (rising 0 n))) (sym (sub-zero b)) ∙ k .rank;
+      },
     )
 
--- "rising": of two bins the lower, if it is kept, has the lower rank
-pub ranks-rise : (q : Samples) (b c : ℕ) → b < c → 0 < length (pairsIn q b) → rank q b < rank q c
-unfolding rankFrom
-ranks-rise q b c h m =
-    let keep : ℕ → Bool = λ d. ltb 0 (count q d) in
-    subst (λ (n : ℕ). rank q b < length (filtered keep (rising 0 n))) (sym (sub-zero c)) (at-rank keep b c h (passes q b m) .1)
+ranks-rise : (q : Samples) (b c : ℕ) → b < c → 0 < length (pairsIn q b) → rank q b < rank q c
+ranks-rise q b c h m = at-rank (isKept q) b c h (lt-ltb 0 (length (pairsIn q b)) m) .1
 
 kept-filled : (q : Samples) (a : Areas)
     → Kept (length (keptBins q)) (a .distances) (filled q a .distances)
@@ -131,17 +119,27 @@ kept-filled : (q : Samples) (a : Areas)
 unfolding filled
 kept-filled q a =
     let k : ℕ = length (keptBins q) in
-    let e : 0 + k ≤ k = omega arith in (
-      kept-written k 0 k (λ r. centre q (getD (keptBins q) r 0)) (a .distances) e,
-      kept-written k 0 k (λ r. average q (getD (keptBins q) r 0)) (a .semivariances) e,
-      kept-written k 0 k (λ r. count q (getD (keptBins q) r 0)) (a .counts) e,
-    )
+    let e : 0 + k ≤ k = omega arith in
+    (kept-written k 0 k _ (a .distances) e, kept-written k 0 k _ (a .semivariances) e, kept-written k 0 k _ (a .counts) e)
 
--- "Only their places are written"
-pub only-kept : (q : Samples) (a : Areas) → refusal q a ≡ 0
+only-kept : (q : Samples) (a : Areas) → refusal q a ≡ 0
     → Kept (calculated q a .kept) (a .distances) (calculated q a .areas .distances)
     × Kept (calculated q a .kept) (a .semivariances) (calculated q a .areas .semivariances)
     × Kept (calculated q a .kept) (a .counts) (calculated q a .areas .counts)
 only-kept q a h =
     subst (λ (o : Outcome). Kept (o .kept) (a .distances) (o .areas .distances) × Kept (o .kept) (a .semivariances) (o .areas .semivariances)
     × Kept (o .kept) (a .counts) (o .areas .counts)) (sym (is-filled q a h)) (kept-filled q a)
+
+-- theorem 6: of every accepted call
+pub binned : (q : Samples) (a : Areas) → refusal q a ≡ 0 → Binned q a (calculated q a)
+binned q a h =
+    let k = only-kept q a h in
+    record {
+      counts = counts-add-up q a h;
+      rows = kept-bin q a h;
+      places = kept-place q a h;
+      rising = ranks-rise q;
+      distances = k .0;
+      semivariances = k .1;
+      others = k .2;
+    }

@@ -1,6 +1,6 @@
 -- Laws of lists that the semivariogram's definitions are made of: rising numbers, what passes a test, and sums of counts. Assumes nothing.
 use Prim.Native.Nat.{ℕ, zero, suc, _+_, _-_, _≤_, _<_}
-use native.Mathlib.Nat.{not-suc-le-zero, le-of-suc-le-suc, zero-add, add-zero, suc-add, sub-zero, sub-self}
+use native.Mathlib.Nat.{not-suc-le-zero, le-of-suc-le-suc, zero-add, add-zero, suc-add, sub-self}
 use native.Mathlib.Decide.{decLt}
 use native.Mathlib.Omega.{arith}
 use mathlib.Core.Path.{_≡_, refl, ap, sym, _∙_}
@@ -14,6 +14,7 @@ use Rattle.area.specs.Area.{written}
 use Rattle.area.proofs.Turns.{length-written}
 use Rattle.area.proofs.Places.{at-place}
 use Rattle.semivariogram.specs.Pairs.{rising, filtered}
+use Rattle.semivariogram.specs.Binned.{total}
 
 -- ---- rising numbers
 pub length-rising : (start k : ℕ) → length (rising start k) ≡ k
@@ -51,8 +52,7 @@ filtered-length {A} keep (x ∷ xs) = go (keep x) (filtered-length keep xs)
 
 -- ---- the numbers from start on that pass a test, and how many of them lie below one of them
 -- how many of the numbers from start on that pass lie below b
-unfoldable pub rankFrom : (ℕ → Bool) → ℕ → ℕ → ℕ
-unfolding filtered rising
+abbrev pub rankFrom : (ℕ → Bool) → ℕ → ℕ → ℕ
 rankFrom keep start b = length (filtered keep (rising start (b - start)))
 
 -- b is one of the k numbers from start on, it passes, and r is its rank
@@ -74,29 +74,28 @@ module _ (keep : ℕ → Bool) where
 
   -- a number that passes stands at its rank
   pub at-rank : (b k : ℕ) → b < k → keep b ≡ true
-      → (getD (filtered keep (rising 0 k)) (rankFrom keep 0 b) 0 ≡ b) × (rankFrom keep 0 b < length (filtered keep (rising 0 k)))
-  unfolding rankFrom
+      → (getD (filtered keep (rising 0 k)) (length (filtered keep (rising 0 b))) 0 ≡ b)
+      × (length (filtered keep (rising 0 b)) < length (filtered keep (rising 0 k)))
   at-rank b k h t =
       let m : ℕ = k - suc b in
       let e : k ≡ b + suc m = omega arith in
       let before : List ℕ = filtered keep (rising 0 b) in
       let after : List ℕ = filtered keep (rising (suc b) m) in
-      let all : filtered keep (rising 0 k) ≡ before ++ b ∷ after = ap (λ (n : ℕ). filtered keep (rising 0 n)) e ∙ split-at-passing b m t in
-      let r : rankFrom keep 0 b ≡ length before = ap (λ (n : ℕ). length (filtered keep (rising 0 n))) (sub-zero b) in (
-        ap (λ (l : List ℕ). getD l (rankFrom keep 0 b) 0) all ∙ ap (λ (n : ℕ). getD (before ++ b ∷ after) n 0) r ∙ getD-append-seam before b after 0,
+      let all : filtered keep (rising 0 k) ≡ before ++ b ∷ after = ap (λ (n : ℕ). filtered keep (rising 0 n)) e ∙ split-at-passing b m t in (
+        ap (λ (l : List ℕ). getD l (length before) 0) all ∙ getD-append-seam before b after 0,
         omega (arith, ap length all ∙ length-append before (b ∷ after)),
       )
 
   rank-step : (start b : ℕ) → suc start ≤ b
       → rankFrom keep start b ≡ length (cond (keep start) (start ∷ filtered keep (rising (suc start) (b - suc start))) (filtered keep (rising (suc start) (b - suc start))))
-  unfolding rankFrom
+  unfolding filtered rising
   rank-step start b h =
       let e : b - start ≡ suc (b - suc start) = omega arith in
       ap (λ (n : ℕ). length (filtered keep (rising start n))) e
 
   -- and every place is the rank of one that passes
   pub from-rank : (start k r : ℕ) → r < length (filtered keep (rising start k)) → Ranked keep start k (getD (filtered keep (rising start k)) r 0) r
-  unfolding filtered rising rankFrom
+  unfolding filtered rising
   from-rank start zero r h = absurd (not-suc-le-zero h)
   from-rank start (suc k) r h = go (keep start) refl r h (from-rank (suc start) k)
     where
@@ -129,10 +128,6 @@ module _ (keep : ℕ → Bool) where
           }
 
 -- ---- sums of whole numbers
-unfoldable pub total : List ℕ → ℕ
-total [] = 0
-total (x ∷ xs) = x + total xs
-
 pub total-zeros : (k start : ℕ) → total (map (λ (b : ℕ). 0) (rising start k)) ≡ 0
 unfolding total rising
 total-zeros zero start = refl

@@ -1,48 +1,68 @@
 -- Which number a call gets: the first in the paper's order whose condition holds, and 0 exactly where none does. Assumes nothing.
-use Prim.Native.Nat.{ℕ}
-use mathlib.Core.Path.{_≡_, refl}
+use Prim.Native.Nat.{ℕ, _*_}
+use mathlib.Core.Path.{_≡_, refl, subst}
+use mathlib.Core.Logic.{_↔_}
 use mathlib.Core.Bool.{Bool, true, false}
 use mathlib.Core.List.{[], _∷_}
+use lib.ListN.{length}
 use Rattle.error.specs.Tests.{test, firstOf}
-use Rattle.semivariogram.specs.Call.{Samples, Areas}
+use Rattle.semivariogram.specs.Call.{Samples, Areas, samples}
+use Rattle.semivariogram.specs.Limits.{mostSamples, mostBins}
 use Rattle.semivariogram.specs.Refusals.{wrongDimension, wrongPoints, tooFew, wrongBins, tooMany, notFinite, shortAnswer, refusal}
+use Rattle.semivariogram.specs.Conditions.{WrongDimension, WrongPoints, TooFew, WrongBins, TooMany, NotFinite, ShortAnswer, Ruling, by-13, by-1, by-14, by-15, by-9, by-11, by-18, none}
+use Rattle.semivariogram.proofs.Tells.{Tells, affirm, refute, opposite, both, either, equal, below, at-most, not-all-finite}
 
--- "13, 1, 14, 15, 9, 11, 18": each number's own condition holds, and none before it
-pub data Ruling (q : Samples) (a : Areas) : ℕ → Type 0 where
-  by-13 : wrongDimension q ≡ true → Ruling q a 13
-  by-1 : wrongDimension q ≡ false → wrongPoints q ≡ true → Ruling q a 1
-  by-14 : wrongDimension q ≡ false → wrongPoints q ≡ false → tooFew q ≡ true → Ruling q a 14
-  by-15 : wrongDimension q ≡ false → wrongPoints q ≡ false → tooFew q ≡ false → wrongBins q ≡ true → Ruling q a 15
-  by-9 : wrongDimension q ≡ false → wrongPoints q ≡ false → tooFew q ≡ false → wrongBins q ≡ false → tooMany q ≡ true → Ruling q a 9
-  by-11 : wrongDimension q ≡ false → wrongPoints q ≡ false → tooFew q ≡ false → wrongBins q ≡ false → tooMany q ≡ false → notFinite q ≡ true → Ruling q a 11
-  by-18 : wrongDimension q ≡ false → wrongPoints q ≡ false → tooFew q ≡ false → wrongBins q ≡ false → tooMany q ≡ false → notFinite q ≡ false
-      → shortAnswer q a ≡ true → Ruling q a 18
-  none : wrongDimension q ≡ false → wrongPoints q ≡ false → tooFew q ≡ false → wrongBins q ≡ false → tooMany q ≡ false → notFinite q ≡ false
-      → shortAnswer q a ≡ false → Ruling q a 0
+-- ---- each test tells its condition
+pub tells-13 : (q : Samples) → Tells (wrongDimension q) (WrongDimension q)
+tells-13 q = opposite (both (at-most 1 (q .dimension)) (at-most (q .dimension) 3))
+
+pub tells-1 : (q : Samples) → Tells (wrongPoints q) (WrongPoints q)
+tells-1 q = opposite (equal (length (q .points)) (samples q * q .dimension))
+
+pub tells-14 : (q : Samples) → Tells (tooFew q) (TooFew q)
+tells-14 q = below (samples q) 2
+
+pub tells-15 : (q : Samples) → Tells (wrongBins q) (WrongBins q)
+tells-15 q = opposite (both (at-most 1 (q .bins)) (at-most (q .bins) mostBins))
+
+pub tells-9 : (q : Samples) → Tells (tooMany q) (TooMany q)
+tells-9 q = below mostSamples (samples q)
+
+pub tells-11 : (q : Samples) → Tells (notFinite q) (NotFinite q)
+tells-11 q = either (not-all-finite (q .values)) (not-all-finite (q .points))
+
+pub tells-18 : (q : Samples) (a : Areas) → Tells (shortAnswer q a) (ShortAnswer q a)
+tells-18 q a = either (below (length (a .distances)) (q .bins)) (either (below (length (a .semivariances)) (q .bins)) (below (length (a .counts)) (q .bins)))
+
+-- ---- in their order
 
 pub ruling : (q : Samples) (a : Areas) → Ruling q a (refusal q a)
 unfolding refusal firstOf
-ruling q a = go (wrongDimension q) (wrongPoints q) (tooFew q) (wrongBins q) (tooMany q) (notFinite q) (shortAnswer q a) refl refl refl refl refl refl refl
+ruling q a =
+    go (wrongDimension q) (wrongPoints q) (tooFew q) (wrongBins q) (tooMany q) (notFinite q) (shortAnswer q a) refl refl refl refl refl refl refl
   where
-    go : (b13 b1 b14 b15 b9 b11 b18 : Bool) → wrongDimension q ≡ b13 → wrongPoints q ≡ b1 → tooFew q ≡ b14 → wrongBins q ≡ b15 → tooMany q ≡ b9 → notFinite q ≡ b11
-        → shortAnswer q a ≡ b18
+    go : (b13 b1 b14 b15 b9 b11 b18 : Bool) → wrongDimension q ≡ b13 → wrongPoints q ≡ b1 → tooFew q ≡ b14 → wrongBins q ≡ b15 → tooMany q ≡ b9 → notFinite q ≡ b11 → shortAnswer q a ≡ b18
         → Ruling q a (firstOf (test 13 b13 ∷ test 1 b1 ∷ test 14 b14 ∷ test 15 b15 ∷ test 9 b9 ∷ test 11 b11 ∷ test 18 b18 ∷ []))
-    go true b1 b14 b15 b9 b11 b18 e1 e2 e3 e4 e5 e6 e7 = by-13 e1
-    go false true b14 b15 b9 b11 b18 e1 e2 e3 e4 e5 e6 e7 = by-1 e1 e2
-    go false false true b15 b9 b11 b18 e1 e2 e3 e4 e5 e6 e7 = by-14 e1 e2 e3
-    go false false false true b9 b11 b18 e1 e2 e3 e4 e5 e6 e7 = by-15 e1 e2 e3 e4
-    go false false false false true b11 b18 e1 e2 e3 e4 e5 e6 e7 = by-9 e1 e2 e3 e4 e5
-    go false false false false false true b18 e1 e2 e3 e4 e5 e6 e7 = by-11 e1 e2 e3 e4 e5 e6
-    go false false false false false false true e1 e2 e3 e4 e5 e6 e7 = by-18 e1 e2 e3 e4 e5 e6 e7
-    go false false false false false false false e1 e2 e3 e4 e5 e6 e7 = none e1 e2 e3 e4 e5 e6 e7
+    go true b1 b14 b15 b9 b11 b18 e1 e2 e3 e4 e5 e6 e7 = by-13 (tells-13 q .then e1)
+    go false true b14 b15 b9 b11 b18 e1 e2 e3 e4 e5 e6 e7 = by-1 (tells-13 q .else e1) (tells-1 q .then e2)
+    go false false true b15 b9 b11 b18 e1 e2 e3 e4 e5 e6 e7 = by-14 (tells-13 q .else e1) (tells-1 q .else e2) (tells-14 q .then e3)
+    go false false false true b9 b11 b18 e1 e2 e3 e4 e5 e6 e7 = by-15 (tells-13 q .else e1) (tells-1 q .else e2) (tells-14 q .else e3) (tells-15 q .then e4)
+    go false false false false true b11 b18 e1 e2 e3 e4 e5 e6 e7 = by-9 (tells-13 q .else e1) (tells-1 q .else e2) (tells-14 q .else e3) (tells-15 q .else e4) (tells-9 q .then e5)
+    go false false false false false true b18 e1 e2 e3 e4 e5 e6 e7 = by-11 (tells-13 q .else e1) (tells-1 q .else e2) (tells-14 q .else e3) (tells-15 q .else e4) (tells-9 q .else e5) (tells-11 q .then e6)
+    go false false false false false false true e1 e2 e3 e4 e5 e6 e7 = by-18 (tells-13 q .else e1) (tells-1 q .else e2) (tells-14 q .else e3) (tells-15 q .else e4) (tells-9 q .else e5) (tells-11 q .else e6) (tells-18 q a .then e7)
+    go false false false false false false false e1 e2 e3 e4 e5 e6 e7 = none (tells-13 q .else e1) (tells-1 q .else e2) (tells-14 q .else e3) (tells-15 q .else e4) (tells-9 q .else e5) (tells-11 q .else e6) (tells-18 q a .else e7)
 
 pub only-ruling : (q : Samples) (a : Areas) (n : ℕ) → Ruling q a n → refusal q a ≡ n
 unfolding refusal firstOf
-only-ruling q a n (by-13 e1) = rw e1
-only-ruling q a n (by-1 e1 e2) = rw (e1, e2)
-only-ruling q a n (by-14 e1 e2 e3) = rw (e1, e2, e3)
-only-ruling q a n (by-15 e1 e2 e3 e4) = rw (e1, e2, e3, e4)
-only-ruling q a n (by-9 e1 e2 e3 e4 e5) = rw (e1, e2, e3, e4, e5)
-only-ruling q a n (by-11 e1 e2 e3 e4 e5 e6) = rw (e1, e2, e3, e4, e5, e6)
-only-ruling q a n (by-18 e1 e2 e3 e4 e5 e6 e7) = rw (e1, e2, e3, e4, e5, e6, e7)
-only-ruling q a n (none e1 e2 e3 e4 e5 e6 e7) = rw (e1, e2, e3, e4, e5, e6, e7)
+only-ruling q a n (by-13 h1) = rw (affirm (tells-13 q) h1)
+only-ruling q a n (by-1 h1 h2) = rw (refute (tells-13 q) h1, affirm (tells-1 q) h2)
+only-ruling q a n (by-14 h1 h2 h3) = rw (refute (tells-13 q) h1, refute (tells-1 q) h2, affirm (tells-14 q) h3)
+only-ruling q a n (by-15 h1 h2 h3 h4) = rw (refute (tells-13 q) h1, refute (tells-1 q) h2, refute (tells-14 q) h3, affirm (tells-15 q) h4)
+only-ruling q a n (by-9 h1 h2 h3 h4 h5) = rw (refute (tells-13 q) h1, refute (tells-1 q) h2, refute (tells-14 q) h3, refute (tells-15 q) h4, affirm (tells-9 q) h5)
+only-ruling q a n (by-11 h1 h2 h3 h4 h5 h6) = rw (refute (tells-13 q) h1, refute (tells-1 q) h2, refute (tells-14 q) h3, refute (tells-15 q) h4, refute (tells-9 q) h5, affirm (tells-11 q) h6)
+only-ruling q a n (by-18 h1 h2 h3 h4 h5 h6 h7) = rw (refute (tells-13 q) h1, refute (tells-1 q) h2, refute (tells-14 q) h3, refute (tells-15 q) h4, refute (tells-9 q) h5, refute (tells-11 q) h6, affirm (tells-18 q a) h7)
+only-ruling q a n (none h1 h2 h3 h4 h5 h6 h7) = rw (refute (tells-13 q) h1, refute (tells-1 q) h2, refute (tells-14 q) h3, refute (tells-15 q) h4, refute (tells-9 q) h5, refute (tells-11 q) h6, refute (tells-18 q a) h7)
+
+-- the number given before any elimination is the ruling's alone
+pub ruling-exactly : (q : Samples) (a : Areas) (n : ℕ) → (refusal q a ≡ n) ↔ Ruling q a n
+ruling-exactly q a n = (λ e. subst (Ruling q a) e (ruling q a), only-ruling q a n)

@@ -1,9 +1,9 @@
 -- Sounding G. Assumes nothing.
 use Prim.Native.Nat.{ℕ}
 use mathlib.Core.Path.{_≡_, refl}
-use mathlib.Core.List.{List, [], _∷_}
+use mathlib.Core.List.{[], _∷_}
 use lib.Ieee.{Float, binary64, ofBits, add, sub, mul, div, lt, eq, ofInt, toUnsigned, round}
-use Rattle.semivariogram.specs.Call.{Samples, Areas, Outcome}
+use Rattle.semivariogram.specs.Call.{Samples, Areas}
 use Rattle.semivariogram.specs.Semivariogram.{calculated}
 
 -- the f64 of a bit pattern

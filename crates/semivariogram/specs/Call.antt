@@ -3,7 +3,6 @@ use Prim.Native.Nat.{ℕ}
 use mathlib.Core.List.{List}
 use lib.ListN.{length}
 use lib.Ieee.{Float}
-use Rattle.error.specs.declared.Refusal.{Refusal}
 use Rattle.error.specs.Numbers.{numberOf}
 use Rattle.semivariogram.specs.declared.Semivariogram.{Semivariogram}
 use Rattle.semivariogram.specs.declared.Semivariogram.the-variants.{Bins, Refused}

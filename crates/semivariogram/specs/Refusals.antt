@@ -38,11 +38,11 @@ tooMany q = ltb mostSamples (samples q)
 
 -- 11: "a value, coordinate .. not finite, as far as the call takes them"
 abbrev pub notFinite : Samples → Bool
-notFinite q = not (allFinite (q .values) && allFinite (q .points))
+notFinite q = not (allFinite (q .values)) || not (allFinite (q .points))
 
 -- 18: "an answer area too short: .. for bins, the bin count, three times"
 abbrev pub shortAnswer : Samples → Areas → Bool
-shortAnswer q a = ltb (length (a .distances)) (q .bins) || ltb (length (a .semivariances)) (q .bins) || ltb (length (a .counts)) (q .bins)
+shortAnswer q a = ltb (length (a .distances)) (q .bins) || (ltb (length (a .semivariances)) (q .bins) || ltb (length (a .counts)) (q .bins))
 
 -- the tests in the paper's order
 abbrev pub tests : Samples → Areas → List Test

@@ -1,13 +1,13 @@
 -- What the semivariogram answers: paper 01, "Semivariogram", each operation rounded once. Assumes nothing.
 use Prim.Native.Nat.{ℕ, zero, suc, _-_, min}
-use mathlib.Core.Bool.{Bool, cond}
+use mathlib.Core.Bool.{cond}
 use mathlib.Core.List.{List, [], _∷_, map}
 use lib.Dec.{eqb, ltb}
 use lib.IntN.{pos}
 use lib.ListN.{length, getD}
 use lib.Ieee.{Float, nan, binary64, ofBits, add, sub, mul, div, ofInt, toUnsigned}
 use Rattle.area.specs.Area.{written}
-use Rattle.ieee.specs.Floats.{maxOf}
+use Rattle.ieee.specs.Floats.{maxOf, floorOf}
 use Rattle.variogram.specs.Distance.{square, distance}
 use Rattle.semivariogram.specs.Pairs.{Pair, rising, pairs, filtered}
 use Rattle.semivariogram.specs.Call.{Samples, Areas, Outcome, samples}
@@ -39,10 +39,10 @@ unfoldable pub width : Samples → Float
 unfolding lag greatest pairs
 width q = div binary64 (greatest (ofBits binary64 0) (map (lag q) (pairs (samples q)))) (asFloat (q .bins))
 
--- "Bin = floor(distance/width), NaN as 0, above the last as the last": as a whole number the fraction is dropped, which is the floor of what is not below zero; a NaN is 0, and what is too great, infinity too, is 2^64 - 1
+-- "Bin = floor(distance/width), NaN as 0, above the last as the last": as a whole number a NaN is 0, and infinity and all that is too great is 2^64 - 1
 unfoldable pub binOf : Samples → Pair → ℕ
-unfolding lag width
-binOf q p = min (toUnsigned 64 (div binary64 (lag q p) (width q))) (q .bins - 1)
+unfolding lag width floorOf
+binOf q p = min (toUnsigned 64 (floorOf (div binary64 (lag q p) (width q)))) (q .bins - 1)
 
 -- how many of some pairs are in the bin b
 unfoldable pub countIn : Samples → ℕ → List Pair → ℕ
