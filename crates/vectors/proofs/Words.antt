@@ -8,17 +8,21 @@ use mathlib.Core.Bool.{Bool, true, false, not}
 use mathlib.Core.List.{List}
 use lib.Dec.{T}
 use borrow.Author.Tests.{lt-ltb, le-ltb}
-use lib.ListN.{getD}
+use lib.ListN.{length, getD, List·getD-eq-default}
 use lib.Pow.{pow-add}
 use lib.Ieee.{Float, nan, inf, fin, binary64, ofBits, nanBits, isNan, eq, ne}
 use lib.Ieee.Bits.{nanBits-is, nanBits-above}
 use lib.Ieee.Compare.{differs-from-itself}
-use Rattle.vectors.specs.Words.{wordAt}
+use Rattle.vectors.specs.Words.{littleEndian}
+
+-- a byte past the end
+pub past : (xs : List ℕ) (i : ℕ) → length xs ≤ i → 0 ≡ getD xs i 0
+past xs i h = sym (List·getD-eq-default xs 0 {n = i} h)
 
 -- one byte more, below those that a word has already
-pub byte-more : (xs : List ℕ) (at k w : ℕ) → w ≡ wordAt xs (suc at) k → w * 256 + getD xs at 0 ≡ wordAt xs at (k + 1)
-unfolding wordAt
-byte-more xs at k w h = rw (add-one, h) (add-comm (wordAt xs (suc at) k * 256) (getD xs at 0) ∙ ap (λ (n : ℕ). getD xs at 0 + n) (mul-comm (wordAt xs (suc at) k) 256))
+pub byte-more : (xs : List ℕ) (at k w : ℕ) → w ≡ littleEndian xs (suc at) k → w * 256 + getD xs at 0 ≡ littleEndian xs at (k + 1)
+unfolding littleEndian
+byte-more xs at k w h = rw (add-one, h) (add-comm (littleEndian xs (suc at) k * 256) (getD xs at 0) ∙ ap (λ (n : ℕ). getD xs at 0 + n) (mul-comm (littleEndian xs (suc at) k) 256))
 
 pub room-more : (k w b : ℕ) → w < 2 ^ (8 * k) → b < 256 → w * 256 + b < 2 ^ (8 * (k + 1))
 room-more k w b h g =

@@ -1,19 +1,25 @@
 // Replays inverses of the original Rust: standard input has a record for each, as tools/oracle/make_vectors.py wrote it.
-// Writes a line for each record that comes out otherwise, and then how many were read and how many differed.
+// Writes a line for each record that comes out otherwise, and then how many were compared and how many differ.
+ghost use Prim.Native.Nat.{_≤_};
 use elimination::Elimination;
-use libc::STDOUT_FILENO;
-
-mod words;
+use vectors::Tally;
 
 // The most rows that a record's matrix has, and the work area that they need: 2 * 60 * 60.
 const LARGEST: usize = 60;
 
 const AREA: usize = 7200;
 
-// What has been read so far, and whether there is more.
-struct Tally {
-    read: u64,
-    differed: u64,
+// An answer's first word: an inverse follows, or there is none.
+const OK: u64 = 0;
+
+const NONE: u64 = 8;
+
+// A record's first words: which call, how many words it has and how many its answer, and the matrix's rows, the first of the call's words.
+struct Head {
+    call: u64,
+    asked: u64,
+    answered: u64,
+    size: usize,
     more: bool,
 }
 
@@ -37,7 +43,7 @@ fn after(p: Place, size: usize) -> Place {
 // What stands there before the call: the matrix, whose next number comes in, beside the identity.
 fn entry(p: Place, size: usize) -> f64 {
     if p.column < size {
-        return words::float(words::next().value);
+        return vectors::float(vectors::next_word().value);
     }
     if p.column - size == p.row { 1.0 } else { 0.0 }
 }
@@ -54,7 +60,7 @@ fn load(work: &mut [f64], size: usize) {
 
 // 1 where x, which stands there after the call, is another number than the inverse's, whose next number comes in. What the left half holds is not asked.
 fn difference(x: f64, p: Place, size: usize) -> u64 {
-    if p.column < size || words::is(x, words::next().value) {
+    if p.column < size || vectors::pattern(x) == vectors::next_word().value {
         return 0;
     }
     1
@@ -80,69 +86,71 @@ fn is_done(answer: Elimination) -> bool {
     }
 }
 
-// Whether the call goes through: 4 is the fit's elimination, and 5 the interpolator's.
+// What came of the call: 4 is the fit's elimination, and 5 the interpolator's. No call has another number.
 fn goes_through(call: u64, work: &mut [f64], size: usize) -> bool {
     if call == 4 {
         return is_done(elimination::gauss_jordan_invert_uked(work, size));
     }
-    is_done(elimination::matrix_inverse(work, size))
+    call == 5 && is_done(elimination::matrix_inverse(work, size))
 }
 
-// Whether the port's answer to a call is the original's: the inverse where it has one (0 and its size come first), and none where it has none.
-fn agrees(call: u64, work: &mut [f64], size: usize) -> bool {
+// The numbers of a matrix.
+fn entries(size: usize) -> u64
+    requires { ⌜ size ≤ 60 ⌝ }
+    ensures { λ r. ⌜ r ≤ 3600 ⌝ }
+{
+    (size * size) as u64
+}
+
+// Whether the port's answer is the original's: the inverse where it has one, after its size, and none where it has none.
+fn agrees(head: Head, work: &mut [f64]) -> bool {
+    let size = head.size;
     if size > LARGEST {
         return false;
     }
+    let n = entries(size);
     load(work, size);
-    let done = goes_through(call, work, size);
-    if words::next().value == 0 {
-        let again = words::next();
+    let done = goes_through(head.call, work, size);
+    let outcome = vectors::next_word().value;
+    if outcome == OK {
+        let again = vectors::next_word().value;
         let differ = differences(work, size);
-        return done && differ == 0 && again.value == size as u64;
+        return done
+            && differ == 0
+            && again == size as u64
+            && head.asked == n + 1
+            && head.answered == n + 2;
     }
-    !done
+    !done && outcome == NONE && head.asked == n + 1 && head.answered == 1
+}
+
+fn next_head() -> Head {
+    let call = vectors::next_word();
+    let asked = vectors::next_word().value;
+    let answered = vectors::next_word().value;
+    let size = vectors::next_word().value as usize;
+    Head {
+        call: call.value,
+        asked,
+        answered,
+        size,
+        more: call.more,
+    }
 }
 
 // One record more: what came of it, and at the input's end that there are no more.
 fn replayed(t: Tally, work: &mut [f64]) -> Tally {
-    let call = words::next();
-    if !call.more {
-        return Tally {
-            read: t.read,
-            differed: t.differed,
-            more: false,
-        };
+    let head = next_head();
+    if !head.more {
+        return vectors::ended(t);
     }
-    // how many words the call has, and how many its answer: the size says so too
-    words::next();
-    words::next();
-    let size = words::next().value as usize;
-    let read = std::num::wrapping_add_u64(t.read, 1);
-    if agrees(call.value, work, size) {
-        return Tally {
-            read,
-            differed: t.differed,
-            more: true,
-        };
-    }
-    io::write_all(STDOUT_FILENO, b"differs: record ");
-    io::print_decimal(STDOUT_FILENO, read);
-    io::write_all(STDOUT_FILENO, b"\n");
-    Tally {
-        read,
-        differed: std::num::wrapping_add_u64(t.differed, 1),
-        more: true,
-    }
+    vectors::counted(t, agrees(head, work))
 }
 
 // A proved loop has to end, and nothing says that the input does: the loop counts its turns down.
 fn replay() -> Tally {
     let mut work = [0.0; AREA];
-    let mut t = Tally {
-        read: 0,
-        differed: 0,
-        more: true,
-    };
+    let mut t = vectors::begun();
     let mut turns = u64::MAX;
     while turns > 0 && t.more {
         t = replayed(t, &mut work);
@@ -152,9 +160,5 @@ fn replay() -> Tally {
 }
 
 fn main() {
-    let t = replay();
-    io::print_decimal(STDOUT_FILENO, t.read);
-    io::write_all(STDOUT_FILENO, b" read, ");
-    io::print_decimal(STDOUT_FILENO, t.differed);
-    io::write_all(STDOUT_FILENO, b" differ\n");
+    vectors::totals(replay());
 }

@@ -1,32 +1,5 @@
 // Replays stored sums of products of f64 and prints their 67 words, for a comparison with whole-number arithmetic outside.
 // The input is records of 17 bytes: 0 to add a product, 1 to take it away, anything else to show the sum and start the next; then two f64, little-endian.
-ghost use Prim.Native.Nat.{_+_, _≤_};
-ghost use lib.ListN.{length};
-
-fn wide(x: u8) -> u64 {
-    x as u64
-}
-
-// The little-endian word in the 8 bytes from `at` on.
-fn word_at(s: &[u8], at: usize) -> u64
-    requires { ⌜ at + 8 ≤ length (now s) ⌝ }
-{
-    let mut word = 0;
-    let mut i = 8;
-    while 0 < i {
-        i -= 1;
-        word = std::num::wrapping_add_u64(word << 8, wide(s[at + i]));
-    }
-    word
-}
-
-// The f64 with these bits. A NaN's pattern gives a NaN.
-fn float_of(bits: u64) -> f64 {
-    if bits % 0x8000_0000_0000_0000 > 0x7ff0_0000_0000_0000 {
-        return 0.0 / 0.0;
-    }
-    f64::from_bits(bits)
-}
 
 // A flag as a digit, then a space.
 fn show_flag(flag: bool) {
@@ -87,8 +60,8 @@ fn replay(s: &[u8]) {
             let next = step(
                 sum,
                 kind,
-                float_of(word_at(s, at + 1)),
-                float_of(word_at(s, at + 9)),
+                vectors::float(vectors::word(s, at + 1)),
+                vectors::float(vectors::word(s, at + 9)),
             );
             sum = next;
         } else {

@@ -2,13 +2,7 @@
 // Writes a line for each record that comes out otherwise, and then how many were compared and how many differ.
 use libc::STDIN_FILENO;
 use libc::STDOUT_FILENO;
-
-// What has been compared so far, and whether there is more.
-struct Tally {
-    compared: u64,
-    differ: u64,
-    more: bool,
-}
+use vectors::Tally;
 
 // 1 where a test holds, and else 0: what a record has for a bool.
 fn digit(holds: bool) -> u64 {
@@ -30,7 +24,7 @@ fn answer(call: u64, x: f64, y: f64) -> u64 {
 
 // The call, its operands, what came out and what Rust has.
 fn report(call: u64, x: u64, y: u64, got: u64, want: u64) {
-    io::write_all(STDOUT_FILENO, b"differs: call ");
+    io::write_all(STDOUT_FILENO, b"call ");
     io::print_decimal(STDOUT_FILENO, call);
     io::write_all(STDOUT_FILENO, b" of ");
     io::print_hex(STDOUT_FILENO, x, 16);
@@ -46,42 +40,23 @@ fn report(call: u64, x: u64, y: u64, got: u64, want: u64) {
 // One record more: what came of it, and at the input's end that there are no more.
 fn replayed(t: Tally) -> Tally {
     let mut bytes = [0u8; 64];
-    let n = io::read_full(STDIN_FILENO, &mut bytes);
-    if n < 64 {
-        return Tally {
-            compared: t.compared,
-            differ: t.differ,
-            more: false,
-        };
+    if io::read_full(STDIN_FILENO, &mut bytes) < 64 {
+        return vectors::ended(t);
     }
-    let compared = std::num::wrapping_add_u64(t.compared, 1);
     let call = vectors::word(&bytes, 0);
-    let x = vectors::word(&bytes, 1);
-    let y = vectors::word(&bytes, 2);
-    let want = vectors::word(&bytes, 7);
+    let x = vectors::word(&bytes, 8);
+    let y = vectors::word(&bytes, 16);
+    let want = vectors::word(&bytes, 56);
     let got = answer(call, vectors::float(x), vectors::float(y));
-    if got == want {
-        return Tally {
-            compared,
-            differ: t.differ,
-            more: true,
-        };
+    if got != want {
+        report(call, x, y, got, want);
     }
-    report(call, x, y, got, want);
-    Tally {
-        compared,
-        differ: std::num::wrapping_add_u64(t.differ, 1),
-        more: true,
-    }
+    vectors::counted(t, got == want)
 }
 
 // A proved loop has to end, and nothing says that the input does: the loop counts its turns down.
 fn replay() -> Tally {
-    let mut t = Tally {
-        compared: 0,
-        differ: 0,
-        more: true,
-    };
+    let mut t = vectors::begun();
     let mut turns = u64::MAX;
     while turns > 0 && t.more {
         t = replayed(t);
@@ -91,9 +66,5 @@ fn replay() -> Tally {
 }
 
 fn main() {
-    let t = replay();
-    io::print_decimal(STDOUT_FILENO, t.compared);
-    io::write_all(STDOUT_FILENO, b" compared, ");
-    io::print_decimal(STDOUT_FILENO, t.differ);
-    io::write_all(STDOUT_FILENO, b" differ\n");
+    vectors::totals(replay());
 }

@@ -1,17 +1,25 @@
-// Replays variograms and distances of the original Rust: standard input has a record for each, as tools/oracle wrote it.
-// Writes a line for each record that comes out otherwise, and then how many were read and how many differed.
+// Replays variograms and distances of the original Rust: standard input has a record of eight words for each, as tools/oracle/variogram_vectors.py wrote it.
+// Writes a line for each record that comes out otherwise, and then how many were compared and how many differ.
 use libc::STDIN_FILENO;
-use libc::STDOUT_FILENO;
 use variogram::Variogram;
 use variogram::VariogramModel;
+use vectors::Tally;
 
-mod record;
+// The six numbers of a record, its words 1 to 6.
+fn numbers(bytes: &[u8]) -> [f64; 6] {
+    let a = vectors::float(vectors::word(bytes, 8));
+    let b = vectors::float(vectors::word(bytes, 16));
+    let c = vectors::float(vectors::word(bytes, 24));
+    let d = vectors::float(vectors::word(bytes, 32));
+    let e = vectors::float(vectors::word(bytes, 40));
+    let f = vectors::float(vectors::word(bytes, 48));
+    [a, b, c, d, e, f]
+}
 
-// What has been read so far, and whether there is more.
-struct Tally {
-    read: u64,
-    differed: u64,
-    more: bool,
+// The variogram of nugget x[0], sill x[1] and range x[2] at the distance x[3].
+fn evaluated(model: VariogramModel, x: [f64; 6]) -> f64 {
+    let v = Variogram::new(model, x[0], x[1], x[2]);
+    v.evaluate(x[3])
 }
 
 // The distance of the older calls over the first d axes of the points of three numbers, x[0] and x[3] on.
@@ -21,66 +29,33 @@ fn along(x: [f64; 6], d: usize) -> f64 {
     variogram::calculate_distance(&a, 0, &b, 0, d)
 }
 
-// Whether the port's answer to a call is the original's. No call has another number.
-fn agrees(call: u64, x: [f64; 6], answer: u64) -> bool {
+// The pattern of the port's answer to a call. No call has another number, and no answer the pattern of the last line.
+fn answer(call: u64, x: [f64; 6]) -> u64 {
     match call {
-        1 => {
-            let v = Variogram::new(VariogramModel::Spherical, x[0], x[1], x[2]);
-            record::is(v.evaluate(x[3]), answer)
-        }
-        4 => {
-            let v = Variogram::new(VariogramModel::Linear, x[0], x[1], x[2]);
-            record::is(v.evaluate(x[3]), answer)
-        }
-        11 => record::is(along(x, 1), answer),
-        12 => record::is(along(x, 2), answer),
-        13 => record::is(along(x, 3), answer),
-        20 => record::is(
-            variogram::squared_distance_2d(x[0], x[1], x[2], x[3]),
-            answer,
-        ),
-        21 => record::is(variogram::distance_2d(x[0], x[1], x[2], x[3]), answer),
-        _ => false,
+        1 => vectors::pattern(evaluated(VariogramModel::Spherical, x)),
+        4 => vectors::pattern(evaluated(VariogramModel::Linear, x)),
+        11 => vectors::pattern(along(x, 1)),
+        12 => vectors::pattern(along(x, 2)),
+        13 => vectors::pattern(along(x, 3)),
+        20 => vectors::pattern(variogram::squared_distance_2d(x[0], x[1], x[2], x[3])),
+        21 => vectors::pattern(variogram::distance_2d(x[0], x[1], x[2], x[3])),
+        _ => 0xffff_ffff_ffff_ffff,
     }
 }
 
 // One record more: what came of it, and at the input's end that there are no more.
 fn replayed(t: Tally) -> Tally {
     let mut bytes = [0u8; 64];
-    let n = io::read_full(STDIN_FILENO, &mut bytes);
-    if n < 64 {
-        return Tally {
-            read: t.read,
-            differed: t.differed,
-            more: false,
-        };
+    if io::read_full(STDIN_FILENO, &mut bytes) < 64 {
+        return vectors::ended(t);
     }
-    let read = std::num::wrapping_add_u64(t.read, 1);
-    let call = record::word(&bytes, 0);
-    if agrees(call, record::numbers(&bytes), record::word(&bytes, 7)) {
-        return Tally {
-            read,
-            differed: t.differed,
-            more: true,
-        };
-    }
-    io::write_all(STDOUT_FILENO, b"differs: record ");
-    io::print_decimal(STDOUT_FILENO, read);
-    io::write_all(STDOUT_FILENO, b"\n");
-    Tally {
-        read,
-        differed: std::num::wrapping_add_u64(t.differed, 1),
-        more: true,
-    }
+    let got = answer(vectors::word(&bytes, 0), numbers(&bytes));
+    vectors::counted(t, got == vectors::word(&bytes, 56))
 }
 
 // A proved loop has to end, and nothing says that the input does: the loop counts its turns down.
 fn replay() -> Tally {
-    let mut t = Tally {
-        read: 0,
-        differed: 0,
-        more: true,
-    };
+    let mut t = vectors::begun();
     let mut turns = u64::MAX;
     while turns > 0 && t.more {
         t = replayed(t);
@@ -90,9 +65,5 @@ fn replay() -> Tally {
 }
 
 fn main() {
-    let t = replay();
-    io::print_decimal(STDOUT_FILENO, t.read);
-    io::write_all(STDOUT_FILENO, b" read, ");
-    io::print_decimal(STDOUT_FILENO, t.differed);
-    io::write_all(STDOUT_FILENO, b" differ\n");
+    vectors::totals(replay());
 }

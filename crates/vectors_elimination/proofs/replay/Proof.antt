@@ -12,6 +12,9 @@ Inv-loop work₀ t₀ turns₀ work t turns = length work ≡ 7200
 abbrev μ-loop : tie.MeasureT-loop
 μ-loop work₀ t₀ turns₀ work t turns = turns
 
+begun-requires : tie.Need-begun-requires Inv-loop μ-loop
+begun-requires c κs = search needs
+
 loop-holds : tie.Need-loop-holds Inv-loop μ-loop
 loop-holds c = search needs
 
@@ -42,6 +45,7 @@ replay-spec =
     (tie.spec
     Inv-loop
     μ-loop
+    begun-requires
     loop-holds
     slice-aggregate-replayed
     replayed-requires

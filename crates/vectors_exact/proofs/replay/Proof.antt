@@ -21,23 +21,23 @@ sub-loop c = omega arith
 shared-slice-read-kind : tie.Need-shared-slice-read-kind Inv-loop μ-loop
 shared-slice-read-kind c = omega arith
 
-add-word-at : tie.Need-add-word-at Inv-loop μ-loop
-add-word-at c = omega arith
+add-word : tie.Need-add-word Inv-loop μ-loop
+add-word c = omega arith
 
-word-at-requires : tie.Need-word-at-requires Inv-loop μ-loop
-word-at-requires c κs = omega arith
+word-requires : tie.Need-word-requires Inv-loop μ-loop
+word-requires c κs = search needs
 
-float-of-requires : tie.Need-float-of-requires Inv-loop μ-loop
-float-of-requires c κs = search needs
+float-requires : tie.Need-float-requires Inv-loop μ-loop
+float-requires c κs = search needs
 
-add-word-at-2 : tie.Need-add-word-at-2 Inv-loop μ-loop
-add-word-at-2 c = omega arith
+add-word-2 : tie.Need-add-word-2 Inv-loop μ-loop
+add-word-2 c = omega arith
 
-word-at-requires-2 : tie.Need-word-at-requires-2 Inv-loop μ-loop
-word-at-requires-2 c κs = omega arith
+word-requires-2 : tie.Need-word-requires-2 Inv-loop μ-loop
+word-requires-2 c κs = search needs
 
-float-of-requires-2 : tie.Need-float-of-requires-2 Inv-loop μ-loop
-float-of-requires-2 c κs = search needs
+float-requires-2 : tie.Need-float-requires-2 Inv-loop μ-loop
+float-requires-2 c κs = search needs
 
 step-requires : tie.Need-step-requires Inv-loop μ-loop
 step-requires c κs = search needs
@@ -66,12 +66,12 @@ replay-spec =
     loop-holds
     sub-loop
     shared-slice-read-kind
-    add-word-at
-    word-at-requires
-    float-of-requires
-    add-word-at-2
-    word-at-requires-2
-    float-of-requires-2
+    add-word
+    word-requires
+    float-requires
+    add-word-2
+    word-requires-2
+    float-requires-2
     step-requires
     show-requires
     add-at

@@ -9,6 +9,9 @@ Inv-loop t₀ turns₀ t turns = Unit {0}
 abbrev μ-loop : tie.MeasureT-loop
 μ-loop t₀ turns₀ t turns = turns
 
+begun-requires : tie.Need-begun-requires Inv-loop μ-loop
+begun-requires c κs = tt
+
 loop-holds : tie.Need-loop-holds Inv-loop μ-loop
 loop-holds c = tt
 
@@ -31,4 +34,4 @@ returns-2 : tie.Need-returns-2 Inv-loop μ-loop
 returns-2 c = tt
 
 pub replay-spec : {M : Type 1} → statement M
-replay-spec = tie.close (tie.spec Inv-loop μ-loop loop-holds replayed-requires sub-turns loop-less loop-again returns returns-2)
+replay-spec = tie.close (tie.spec Inv-loop μ-loop begun-requires loop-holds replayed-requires sub-turns loop-less loop-again returns returns-2)

@@ -1,0 +1,30 @@
+-- The one lemma that holds the soundings: each is computed by the definitions. Assumes nothing.
+use mathlib.Core.Path.{refl}
+use lib.Ieee.{ofBits, toBits, add, sub, mul, div, lt, le, eq, ofInt, toUnsigned, round}
+use Rattle.ieee.specs.Root.{sqrtOf}
+use Rattle.variogram.specs.Model.{semivariance}
+use Rattle.kriging.specs.Fit.{fitted}
+use Rattle.interpolator.specs.Interpolation.{interpolated}
+use Rattle.semivariogram.specs.Semivariogram.{calculated}
+use Rattle.soundings.specs.Soundings.{Soundings}
+
+pub soundings : Soundings
+unfolding fitted interpolated calculated semivariance sqrtOf add sub mul div lt le eq ofInt toUnsigned round ofBits toBits
+soundings = record {
+  A = record { accepted = refl; figures = refl; variances = refl; coefficients = refl; verdicts = refl };
+  B = record { accepted = refl; figures = refl; variances = refl; coefficients = refl; verdicts = refl };
+  B-accepted = refl;
+  B-figure = refl;
+  B-variance = refl;
+  C = record { accepted = refl; figures = refl; variances = refl; coefficients = refl; verdicts = refl };
+  D-missed = record { accepted = refl; figures = refl; variances = refl; coefficients = refl; verdicts = refl };
+  D-met = record { accepted = refl; figures = refl; variances = refl; coefficients = refl; verdicts = refl };
+  E-refused = refl;
+  E-accepted = refl;
+  F-spherical = refl;
+  F-linear = refl;
+  G-kept = refl;
+  G = refl;
+  H-two = refl;
+  H-smallest = refl;
+}
