@@ -12,8 +12,8 @@ pub record Tells (b : Bool) (A : Type 0) : Type 0 where
   pub back : A → T b
 
 -- both ways at once
-pub told : {b : Bool} {A : Type 0} → T b ↔ A → Tells b A
-told h = record { then = h .0; back = h .1 }
+pub told : (b : Bool) {A : Type 0} → T b ↔ A → Tells b A
+told b h = record { then = h .0; back = h .1 }
 
 -- a condition that says the same
 pub told-as : {b : Bool} {A B : Type 0} → Tells b A → (A → B) → (B → A) → Tells b B
