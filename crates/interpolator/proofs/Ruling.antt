@@ -40,11 +40,11 @@ outside m = record { then = there m; back = from }
     from (inl x) = rw x tt
     from (inr x) = rw x tt
 
-not-finite-told : (x : Float) → Tells (not (finite x)) (NotFinite x)
-not-finite-told x = told (not (finite x)) (not-finite x)
+not-finite-is : (x : Float) → Tells (not (finite x)) (NotFinite x)
+not-finite-is x = told (not (finite x)) (not-finite x)
 
-some-told : (xs : List Float) → Tells (not (allFinite xs)) (SomeNotFinite xs)
-some-told xs = told (not (allFinite xs)) (not-all-finite xs)
+some-not-finite : (xs : List Float) → Tells (not (allFinite xs)) (SomeNotFinite xs)
+some-not-finite xs = told (not (allFinite xs)) (not-all-finite xs)
 
 pub tells-13 : (q : Query) → Tells (wrongDimension q) (WrongDimension q)
 tells-13 q = either (opposite (both (at-most 1 (q .dimension)) (at-most (q .dimension) 3))) (both (equal (q .dimension) 1) (universal (q .krigingType)))
@@ -60,10 +60,10 @@ tells-9 q = either (below mostWells (wells q)) (below mostNodes (nodes q))
 
 pub tells-11 : (q : Query) → Tells (notFinite q) (NumberNotFinite q)
 tells-11 q =
-    either (not-finite-told (q .variogram .nugget))
-    (either (not-finite-told (q .variogram .sill))
-    (either (not-finite-told (q .variogram .range))
-    (either (some-told (q .values)) (either (some-told (q .points)) (some-told (q .targets))))))
+    either (not-finite-is (q .variogram .nugget))
+    (either (not-finite-is (q .variogram .sill))
+    (either (not-finite-is (q .variogram .range))
+    (either (some-not-finite (q .values)) (either (some-not-finite (q .points)) (some-not-finite (q .targets))))))
 
 pub tells-12 : (q : Query) → Tells (wrongModel q) (WrongModel q)
 tells-12 q = outside (q .variogram .model)

@@ -31,11 +31,11 @@ tells-15 q = opposite (both (at-most 1 (q .bins)) (at-most (q .bins) mostBins))
 pub tells-9 : (q : Samples) → Tells (tooMany q) (TooMany q)
 tells-9 q = below mostSamples (samples q)
 
-some-told : (xs : List Float) → Tells (not (allFinite xs)) (SomeNotFinite xs)
-some-told xs = told (not (allFinite xs)) (not-all-finite xs)
+some-not-finite : (xs : List Float) → Tells (not (allFinite xs)) (SomeNotFinite xs)
+some-not-finite xs = told (not (allFinite xs)) (not-all-finite xs)
 
 pub tells-11 : (q : Samples) → Tells (notFinite q) (NumberNotFinite q)
-tells-11 q = either (some-told (q .values)) (some-told (q .points))
+tells-11 q = either (some-not-finite (q .values)) (some-not-finite (q .points))
 
 pub tells-18 : (q : Samples) (a : Areas) → Tells (shortAnswer q a) (ShortAnswer q a)
 tells-18 q a = either (below (length (a .distances)) (q .bins)) (either (below (length (a .semivariances)) (q .bins)) (below (length (a .counts)) (q .bins)))
