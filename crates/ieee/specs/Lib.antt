@@ -4,3 +4,4 @@ pub mod Root
 pub mod NearestRoot
 pub mod Whole
 pub mod Ieee754
+pub mod Sums
