@@ -21,3 +21,4 @@ pub mod RoundingNearest
 pub mod RoundingSum
 pub mod RoundingProduct
 pub mod RoundingUnique
+pub mod FiniteLists

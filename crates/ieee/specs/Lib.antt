@@ -5,3 +5,4 @@ pub mod NearestRoot
 pub mod Whole
 pub mod Ieee754
 pub mod Sums
+pub mod Finite

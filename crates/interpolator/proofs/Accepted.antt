@@ -1,29 +1,26 @@
 -- What a call that eliminates is known to have, since no condition of a refusal holds. Assumes nothing.
 use Prim.Native.Nat.{ℕ, _*_, _≤_, _<_}
 use native.Mathlib.Omega.{arith}
-use mathlib.Core.Path.{_≡_, refl}
+use mathlib.Core.Path.{_≡_}
 use mathlib.Core.Logic.{inl, inr}
-use mathlib.Core.Bool.{Bool, true, false}
+use lib.Dec.{T}
 use lib.ListN.{length, getD}
 use lib.Ieee.{nan}
 use lib.Ieee.Scale.{finite}
+use Rattle.error.proofs.Tells.{stable, both, equal, at-most}
+use Rattle.ieee.proofs.FiniteLists.{is-finite}
 use Rattle.interpolator.specs.Call.{Query, Areas, wells, nodes, size}
 use Rattle.interpolator.specs.Refusals.{refusal}
 use Rattle.interpolator.specs.Conditions.{Ruling, by-13, by-1, by-2, by-9, by-11, by-12, by-17, by-18, none}
-use Rattle.interpolator.proofs.Tells.{stable, both, equal, at-most}
 use Rattle.interpolator.proofs.Ruling.{ruling}
 
 pub record Accepted (q : Query) (a : Areas) : Type 0 where
   pub dimension : (1 ≤ q .dimension) × (q .dimension ≤ 3)
   pub points : length (q .points) ≡ wells q * q .dimension
-  pub coordinates : (k : ℕ) → k < length (q .points) → finite (getD (q .points) k nan) ≡ true
+  pub coordinates : (k : ℕ) → k < length (q .points) → T (finite (getD (q .points) k nan))
   pub work : 2 * size q * size q ≤ length (a .work)
   pub figures : nodes q ≤ length (a .figures)
   pub variances : nodes q ≤ length (a .variances)
-
-otherwise : (b : Bool) → (b ≡ false → ⊥) → b ≡ true
-otherwise true n = refl
-otherwise false n = absurd (n refl)
 
 pub accepted : (q : Query) (a : Areas) → refusal q a ≡ 0 → Accepted q a
 accepted q a h = go (refusal q a) (ruling q a) h
@@ -40,7 +37,7 @@ accepted q a h = go (refusal q a) (ruling q a) h
     go n (none h13 h1 _ _ h11 _ h17 h18) e = record {
       dimension = stable (both (at-most 1 (q .dimension)) (at-most (q .dimension) 3)) (λ x. h13 (inl x));
       points = stable (equal (length (q .points)) (wells q * q .dimension)) h1;
-      coordinates = λ k l. otherwise (finite (getD (q .points) k nan)) (λ x. h11 (inr (inr (inr (inr (inl record { place = k; inside = l; is = x }))))));
+      coordinates = λ k l. is-finite (getD (q .points) k nan) (λ x. h11 (inr (inr (inr (inr (inl record { place = k; inside = l; is = x }))))));
       work = omega arith;
       figures = let n : ¬ (length (a .figures) < nodes q) = λ x. h18 (inl x) in omega arith;
       variances = let n : ¬ (length (a .variances) < nodes q) = λ x. h18 (inr x) in omega arith;

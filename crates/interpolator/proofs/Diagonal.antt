@@ -5,13 +5,11 @@ use native.Mathlib.Omega.{arith}
 use mathlib.Core.Path.{_≡_, refl, ap, _∙_}
 use mathlib.Core.Bool.{true, false}
 use lib.Dec.{T}
-use lib.ListN.{length, getD}
+use lib.ListN.{length}
 use lib.Ieee.{Float, nan, inf, fin, binary64, up, down, sub, ofBits, fits}
-use lib.Ieee.Scale.{finite}
 use lib.Ieee.Fits.{down-pos}
 use borrow.Author.Tests.{le-ltb}
 use Rattle.area.proofs.Rows.{row-end}
-use Rattle.ieee.proofs.Zero.{holds}
 use Rattle.ieee.proofs.Own.{round-own}
 use Rattle.variogram.specs.Model.{semivariance}
 use Rattle.variogram.proofs.Distance.{is-offered}
@@ -42,6 +40,6 @@ diagonal q a h f i l =
     covariances q i i l l
     ∙ ap (λ (x : Float). sub binary64 (v .sill) (semivariance v x))
     (distance-itself (q .points) i d (is-offered d (k .dimension .0) (k .dimension .1))
-    (λ c b. holds (finite (getD (q .points) (i * d + c) nan)) (k .coordinates (i * d + c) (omega (arith, row-end d i (wells q) l)))))
+    (λ c b. k .coordinates (i * d + c) (omega (arith, row-end d i (wells q) l))))
     ∙ ap (λ (x : Float). sub binary64 (v .sill) x) (variogram-itself v)
     ∙ less-zero (v .sill) f

@@ -1,4 +1,3 @@
-pub mod Tells
 pub mod Ruling
 pub mod Accepted
 pub mod Matrix

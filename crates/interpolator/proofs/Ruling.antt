@@ -1,12 +1,18 @@
 -- Which number turns a call away before it eliminates: the first in the paper's order whose condition holds, and 0 exactly where none does. Assumes nothing.
 use Prim.Native.Nat.{ℕ, _*_, _%_}
 use native.Mathlib.Omega.{arith}
-use mathlib.Core.Path.{_≡_, refl, ap, sym, subst}
+use mathlib.Core.Path.{_≡_, refl, sym, subst}
 use mathlib.Core.Logic.{_≢_, _↔_, _⊎_, inl, inr}
-use mathlib.Core.Bool.{Bool, true, false, true≢false}
-use mathlib.Core.List.{[], _∷_}
+use mathlib.Core.Bool.{Bool, true, false, not}
+use mathlib.Core.List.{List, [], _∷_}
+use lib.Dec.{T}
 use lib.ListN.{length}
+use lib.Ieee.{Float}
+use lib.Ieee.Scale.{finite}
 use Rattle.error.specs.Tests.{test, firstOf}
+use Rattle.error.proofs.Tells.{Tells, told, affirm, refute, opposite, both, either, equal, different, below, at-most}
+use Rattle.ieee.specs.Finite.{allFinite, NotFinite, SomeNotFinite}
+use Rattle.ieee.proofs.FiniteLists.{not-finite, not-all-finite}
 use Rattle.variogram.specs.declared.VariogramModel.{VariogramModel}
 use Rattle.variogram.specs.declared.VariogramModel.the-variants.{Spherical, Exponential, Gaussian, Linear}
 use Rattle.interpolator.specs.declared.KrigingType.{KrigingType}
@@ -14,46 +20,50 @@ use Rattle.interpolator.specs.declared.KrigingType.the-variants.{Ordinar
 use Rattle.interpolator.specs.Call.{Query, Areas, wells, nodes, size}
 use Rattle.interpolator.specs.Limits.{mostWells, mostNodes}
 use Rattle.interpolator.specs.Refusals.{isUniversal, notOffered, wrongDimension, wrongPoints, wrongTargets, tooMany, notFinite, wrongModel, shortWork, shortAnswer, refusal}
-use Rattle.interpolator.specs.Conditions.{WrongDimension, WrongPoints, WrongTargets, TooMany, NotFinite, WrongModel, ShortWork, ShortAnswer, Ruling, by-13, by-1, by-2, by-9, by-11, by-12, by-17, by-18, none}
-use Rattle.interpolator.proofs.Tells.{Tells, affirm, refute, opposite, both, either, equal, below, at-most, not-finite, not-all-finite}
+use Rattle.interpolator.specs.Conditions.{WrongDimension, WrongPoints, WrongTargets, TooMany, NumberNotFinite, WrongModel, ShortWork, ShortAnswer, Ruling, by-13, by-1, by-2, by-9, by-11, by-12, by-17, by-18, none}
 
 -- ---- each test tells its condition
 universal : (t : KrigingType) → Tells (isUniversal t) (t ≡ Universal)
-universal Ordinary = record { then = λ e. absurd (true≢false (sym e)); else = λ e x. true≢false (sym (ap isUniversal x)) }
-universal Universal = record { then = λ e. refl; else = λ e x. true≢false e }
+universal Ordinary = record { then = λ h. absurd h; back = λ x. subst (λ (t : KrigingType). T (isUniversal t)) (sym x) tt }
+universal Universal = record { then = λ h. refl; back = λ x. tt }
 
 outside : (m : VariogramModel) → Tells (notOffered m) ((m ≡ Exponential) ⊎ (m ≡ Gaussian))
-outside Spherical = record { then = λ e. absurd (true≢false (sym e)); else = λ e. neither }
+outside m = record { then = there m; back = from }
   where
-    neither : (Spherical ≡ Exponential) ⊎ (Spherical ≡ Gaussian) → ⊥
-    neither (inl x) = true≢false (sym (ap notOffered x))
-    neither (inr x) = true≢false (sym (ap notOffered x))
-outside Exponential = record { then = λ e. inl refl; else = λ e x. true≢false e }
-outside Gaussian = record { then = λ e. inr refl; else = λ e x. true≢false e }
-outside Linear = record { then = λ e. absurd (true≢false (sym e)); else = λ e. neither }
-  where
-    neither : (Linear ≡ Exponential) ⊎ (Linear ≡ Gaussian) → ⊥
-    neither (inl x) = true≢false (sym (ap notOffered x))
-    neither (inr x) = true≢false (sym (ap notOffered x))
+    there : (m : VariogramModel) → T (notOffered m) → (m ≡ Exponential) ⊎ (m ≡ Gaussian)
+    there Spherical h = absurd h
+    there Exponential h = inl refl
+    there Gaussian h = inr refl
+    there Linear h = absurd h
+
+    from : (m ≡ Exponential) ⊎ (m ≡ Gaussian) → T (notOffered m)
+    from (inl x) = rw x tt
+    from (inr x) = rw x tt
+
+not-finite-told : (x : Float) → Tells (not (finite x)) (NotFinite x)
+not-finite-told x = told (not (finite x)) (not-finite x)
+
+some-told : (xs : List Float) → Tells (not (allFinite xs)) (SomeNotFinite xs)
+some-told xs = told (not (allFinite xs)) (not-all-finite xs)
 
 pub tells-13 : (q : Query) → Tells (wrongDimension q) (WrongDimension q)
 tells-13 q = either (opposite (both (at-most 1 (q .dimension)) (at-most (q .dimension) 3))) (both (equal (q .dimension) 1) (universal (q .krigingType)))
 
 pub tells-1 : (q : Query) → Tells (wrongPoints q) (WrongPoints q)
-tells-1 q = opposite (equal (length (q .points)) (wells q * q .dimension))
+tells-1 q = different (length (q .points)) (wells q * q .dimension)
 
 pub tells-2 : (q : Query) → Tells (wrongTargets q) (WrongTargets q)
-tells-2 q = opposite (equal (length (q .targets) % q .dimension) 0)
+tells-2 q = different (length (q .targets) % q .dimension) 0
 
 pub tells-9 : (q : Query) → Tells (tooMany q) (TooMany q)
 tells-9 q = either (below mostWells (wells q)) (below mostNodes (nodes q))
 
-pub tells-11 : (q : Query) → Tells (notFinite q) (NotFinite q)
+pub tells-11 : (q : Query) → Tells (notFinite q) (NumberNotFinite q)
 tells-11 q =
-    either (not-finite (q .variogram .nugget))
-    (either (not-finite (q .variogram .sill))
-    (either (not-finite (q .variogram .range))
-    (either (not-all-finite (q .values)) (either (not-all-finite (q .points)) (not-all-finite (q .targets))))))
+    either (not-finite-told (q .variogram .nugget))
+    (either (not-finite-told (q .variogram .sill))
+    (either (not-finite-told (q .variogram .range))
+    (either (some-told (q .values)) (either (some-told (q .points)) (some-told (q .targets))))))
 
 pub tells-12 : (q : Query) → Tells (wrongModel q) (WrongModel q)
 tells-12 q = outside (q .variogram .model)
@@ -69,19 +79,19 @@ tells-18 q a = either (below (length (a .figures)) (nodes q)) (below (length (a 
 pub ruling : (q : Query) (a : Areas) → Ruling q a (refusal q a)
 unfolding refusal firstOf
 ruling q a =
-    go (wrongDimension q) (wrongPoints q) (wrongTargets q) (tooMany q) (notFinite q) (wrongModel q) (shortWork q a) (shortAnswer q a) refl refl refl refl refl refl refl refl
+    go _ _ _ _ _ _ _ _ (tells-13 q) (tells-1 q) (tells-2 q) (tells-9 q) (tells-11 q) (tells-12 q) (tells-17 q a) (tells-18 q a)
   where
-    go : (b13 b1 b2 b9 b11 b12 b17 b18 : Bool) → wrongDimension q ≡ b13 → wrongPoints q ≡ b1 → wrongTargets q ≡ b2 → tooMany q ≡ b9 → notFinite q ≡ b11 → wrongModel q ≡ b12 → shortWork q a ≡ b17 → shortAnswer q a ≡ b18
+    go : (b13 b1 b2 b9 b11 b12 b17 b18 : Bool) → Tells b13 (WrongDimension q) → Tells b1 (WrongPoints q) → Tells b2 (WrongTargets q) → Tells b9 (TooMany q) → Tells b11 (NumberNotFinite q) → Tells b12 (WrongModel q) → Tells b17 (ShortWork q a) → Tells b18 (ShortAnswer q a)
         → Ruling q a (firstOf (test 13 b13 ∷ test 1 b1 ∷ test 2 b2 ∷ test 9 b9 ∷ test 11 b11 ∷ test 12 b12 ∷ test 17 b17 ∷ test 18 b18 ∷ []))
-    go true b1 b2 b9 b11 b12 b17 b18 e1 e2 e3 e4 e5 e6 e7 e8 = by-13 (tells-13 q .then e1)
-    go false true b2 b9 b11 b12 b17 b18 e1 e2 e3 e4 e5 e6 e7 e8 = by-1 (tells-13 q .else e1) (tells-1 q .then e2)
-    go false false true b9 b11 b12 b17 b18 e1 e2 e3 e4 e5 e6 e7 e8 = by-2 (tells-13 q .else e1) (tells-1 q .else e2) (tells-2 q .then e3)
-    go false false false true b11 b12 b17 b18 e1 e2 e3 e4 e5 e6 e7 e8 = by-9 (tells-13 q .else e1) (tells-1 q .else e2) (tells-2 q .else e3) (tells-9 q .then e4)
-    go false false false false true b12 b17 b18 e1 e2 e3 e4 e5 e6 e7 e8 = by-11 (tells-13 q .else e1) (tells-1 q .else e2) (tells-2 q .else e3) (tells-9 q .else e4) (tells-11 q .then e5)
-    go false false false false false true b17 b18 e1 e2 e3 e4 e5 e6 e7 e8 = by-12 (tells-13 q .else e1) (tells-1 q .else e2) (tells-2 q .else e3) (tells-9 q .else e4) (tells-11 q .else e5) (tells-12 q .then e6)
-    go false false false false false false true b18 e1 e2 e3 e4 e5 e6 e7 e8 = by-17 (tells-13 q .else e1) (tells-1 q .else e2) (tells-2 q .else e3) (tells-9 q .else e4) (tells-11 q .else e5) (tells-12 q .else e6) (tells-17 q a .then e7)
-    go false false false false false false false true e1 e2 e3 e4 e5 e6 e7 e8 = by-18 (tells-13 q .else e1) (tells-1 q .else e2) (tells-2 q .else e3) (tells-9 q .else e4) (tells-11 q .else e5) (tells-12 q .else e6) (tells-17 q a .else e7) (tells-18 q a .then e8)
-    go false false false false false false false false e1 e2 e3 e4 e5 e6 e7 e8 = none (tells-13 q .else e1) (tells-1 q .else e2) (tells-2 q .else e3) (tells-9 q .else e4) (tells-11 q .else e5) (tells-12 q .else e6) (tells-17 q a .else e7) (tells-18 q a .else e8)
+    go true b1 b2 b9 b11 b12 b17 b18 t13 t1 t2 t9 t11 t12 t17 t18 = by-13 (t13 .then tt)
+    go false true b2 b9 b11 b12 b17 b18 t13 t1 t2 t9 t11 t12 t17 t18 = by-1 (t13 .back) (t1 .then tt)
+    go false false true b9 b11 b12 b17 b18 t13 t1 t2 t9 t11 t12 t17 t18 = by-2 (t13 .back) (t1 .back) (t2 .then tt)
+    go false false false true b11 b12 b17 b18 t13 t1 t2 t9 t11 t12 t17 t18 = by-9 (t13 .back) (t1 .back) (t2 .back) (t9 .then tt)
+    go false false false false true b12 b17 b18 t13 t1 t2 t9 t11 t12 t17 t18 = by-11 (t13 .back) (t1 .back) (t2 .back) (t9 .back) (t11 .then tt)
+    go false false false false false true b17 b18 t13 t1 t2 t9 t11 t12 t17 t18 = by-12 (t13 .back) (t1 .back) (t2 .back) (t9 .back) (t11 .back) (t12 .then tt)
+    go false false false false false false true b18 t13 t1 t2 t9 t11 t12 t17 t18 = by-17 (t13 .back) (t1 .back) (t2 .back) (t9 .back) (t11 .back) (t12 .back) (t17 .then tt)
+    go false false false false false false false true t13 t1 t2 t9 t11 t12 t17 t18 = by-18 (t13 .back) (t1 .back) (t2 .back) (t9 .back) (t11 .back) (t12 .back) (t17 .back) (t18 .then tt)
+    go false false false false false false false false t13 t1 t2 t9 t11 t12 t17 t18 = none (t13 .back) (t1 .back) (t2 .back) (t9 .back) (t11 .back) (t12 .back) (t17 .back) (t18 .back)
 
 pub only-ruling : (q : Query) (a : Areas) (n : ℕ) → Ruling q a n → refusal q a ≡ n
 unfolding refusal firstOf

@@ -2,20 +2,11 @@
 use Prim.Native.Nat.{ℕ, _*_, _%_, _<_, _≤_}
 use mathlib.Core.Path.{_≡_}
 use mathlib.Core.Logic.{_≢_, _⊎_}
-use mathlib.Core.Bool.{false}
-use mathlib.Core.List.{List}
-use lib.ListN.{length, getD}
-use lib.Ieee.{Float, nan}
-use lib.Ieee.Scale.{finite}
+use lib.ListN.{length}
+use Rattle.ieee.specs.Finite.{NotFinite, SomeNotFinite}
 use Rattle.variogram.specs.declared.VariogramModel.the-variants.{Exponential, Gaussian}
 use Rattle.interpolator.specs.declared.KrigingType.the-variants.{Universal}
 use Rattle.interpolator.specs.Call.{Query, Areas, wells, nodes, size}
-
--- a number of a list is a NaN or an infinity
-pub record SomeNotFinite (xs : List Float) : Type 0 where
-  pub place : ℕ
-  pub inside : place < length xs
-  pub is : finite (getD xs place nan) ≡ false
 
 -- 13: "d not 1, 2 or 3, or d = 1 with Universal"
 abbrev pub WrongDimension : Query → Type 0
@@ -34,11 +25,11 @@ abbrev pub TooMany : Query → Type 0
 TooMany q = (48 < wells q) ⊎ (100 < nodes q)
 
 -- 11: "nugget, sill, range, a value, coordinate, .. node .. not finite"
-abbrev pub NotFinite : Query → Type 0
-NotFinite q =
-    (finite (q .variogram .nugget) ≡ false)
-    ⊎ (finite (q .variogram .sill) ≡ false)
-    ⊎ (finite (q .variogram .range) ≡ false)
+abbrev pub NumberNotFinite : Query → Type 0
+NumberNotFinite q =
+    NotFinite (q .variogram .nugget)
+    ⊎ NotFinite (q .variogram .sill)
+    ⊎ NotFinite (q .variogram .range)
     ⊎ SomeNotFinite (q .values)
     ⊎ SomeNotFinite (q .points)
     ⊎ SomeNotFinite (q .targets)
@@ -61,8 +52,8 @@ pub data Ruling (q : Query) (a : Areas) : ℕ → Type 0 where
   by-1 : ¬ WrongDimension q → WrongPoints q → Ruling q a 1
   by-2 : ¬ WrongDimension q → ¬ WrongPoints q → WrongTargets q → Ruling q a 2
   by-9 : ¬ WrongDimension q → ¬ WrongPoints q → ¬ WrongTargets q → TooMany q → Ruling q a 9
-  by-11 : ¬ WrongDimension q → ¬ WrongPoints q → ¬ WrongTargets q → ¬ TooMany q → NotFinite q → Ruling q a 11
-  by-12 : ¬ WrongDimension q → ¬ WrongPoints q → ¬ WrongTargets q → ¬ TooMany q → ¬ NotFinite q → WrongModel q → Ruling q a 12
-  by-17 : ¬ WrongDimension q → ¬ WrongPoints q → ¬ WrongTargets q → ¬ TooMany q → ¬ NotFinite q → ¬ WrongModel q → ShortWork q a → Ruling q a 17
-  by-18 : ¬ WrongDimension q → ¬ WrongPoints q → ¬ WrongTargets q → ¬ TooMany q → ¬ NotFinite q → ¬ WrongModel q → ¬ ShortWork q a → ShortAnswer q a → Ruling q a 18
-  none : ¬ WrongDimension q → ¬ WrongPoints q → ¬ WrongTargets q → ¬ TooMany q → ¬ NotFinite q → ¬ WrongModel q → ¬ ShortWork q a → ¬ ShortAnswer q a → Ruling q a 0
+  by-11 : ¬ WrongDimension q → ¬ WrongPoints q → ¬ WrongTargets q → ¬ TooMany q → NumberNotFinite q → Ruling q a 11
+  by-12 : ¬ WrongDimension q → ¬ WrongPoints q → ¬ WrongTargets q → ¬ TooMany q → ¬ NumberNotFinite q → WrongModel q → Ruling q a 12
+  by-17 : ¬ WrongDimension q → ¬ WrongPoints q → ¬ WrongTargets q → ¬ TooMany q → ¬ NumberNotFinite q → ¬ WrongModel q → ShortWork q a → Ruling q a 17
+  by-18 : ¬ WrongDimension q → ¬ WrongPoints q → ¬ WrongTargets q → ¬ TooMany q → ¬ NumberNotFinite q → ¬ WrongModel q → ¬ ShortWork q a → ShortAnswer q a → Ruling q a 18
+  none : ¬ WrongDimension q → ¬ WrongPoints q → ¬ WrongTargets q → ¬ TooMany q → ¬ NumberNotFinite q → ¬ WrongModel q → ¬ ShortWork q a → ¬ ShortAnswer q a → Ruling q a 0

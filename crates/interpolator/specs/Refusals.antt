@@ -4,9 +4,9 @@ use mathlib.Core.Bool.{Bool, true, false, not, _&&_, _||_}
 use mathlib.Core.List.{List, [], _∷_}
 use lib.Dec.{eqb, ltb}
 use lib.ListN.{length}
-use lib.Ieee.{Float}
 use lib.Ieee.Scale.{finite}
 use Rattle.error.specs.Tests.{Test, test, firstOf}
+use Rattle.ieee.specs.Finite.{allFinite}
 use Rattle.variogram.specs.declared.VariogramModel.{VariogramModel}
 use Rattle.variogram.specs.declared.VariogramModel.the-variants.{Spherical, Exponential, Gaussian, Linear}
 use Rattle.variogram.specs.Distance.{offered}
@@ -14,11 +14,6 @@ use Rattle.interpolator.specs.declared.KrigingType.{KrigingType}
 use Rattle.interpolator.specs.declared.KrigingType.the-variants.{Ordinary, Universal}
 use Rattle.interpolator.specs.Limits.{mostWells, mostNodes}
 use Rattle.interpolator.specs.Call.{Query, Areas, wells, nodes, size}
-
--- every number of a list is finite
-unfoldable pub allFinite : List Float → Bool
-allFinite [] = true
-allFinite (x ∷ xs) = finite x && allFinite xs
 
 abbrev pub isUniversal : KrigingType → Bool
 isUniversal Ordinary = false

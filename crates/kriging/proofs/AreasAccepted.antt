@@ -3,18 +3,13 @@ use Prim.Native.Nat.{ℕ, _≤_, _<_}
 use native.Mathlib.Omega.{arith}
 use mathlib.Core.Path.{_≡_}
 use lib.Dec.{T}
-use lib.Ieee.{Float, nan, inf, fin}
 use lib.Ieee.Scale.{finite}
+use Rattle.ieee.proofs.FiniteLists.{is-finite}
 use Rattle.kriging.specs.Survey.{Survey, Areas, wells, columns, valueAt}
 use Rattle.kriging.specs.Fit.{fitted}
-use Rattle.kriging.specs.Lowest.{NotFinite, not-a-number, infinite, not-finite, columns-over, value, Condition, too-many, tolerance, numbers}
+use Rattle.kriging.specs.Lowest.{not-finite, columns-over, value, Condition, too-many, tolerance, numbers}
 use Rattle.kriging.proofs.Refusals.{none-exactly}
 use Rattle.kriging.proofs.RefusalsFit.{zero-exactly}
-
-finite-of : (x : Float) → ¬ NotFinite x → T (finite x)
-finite-of nan h = h not-a-number
-finite-of (inf s) h = h (infinite s)
-finite-of (fin s m e) h = tt
 
 at-most : {n k : ℕ} → ¬ (k < n) → n ≤ k
 at-most h = omega arith
@@ -27,7 +22,7 @@ module _ (s : Survey) (a : Areas) (accepted : fitted s a .number ≡ 0) where
   few-columns = at-most (λ l. none 9 (too-many (columns-over l)))
 
   pub finite-tolerance : T (finite (s .tolerance))
-  finite-tolerance = finite-of (s .tolerance) (λ n. none 10 (tolerance (not-finite n)))
+  finite-tolerance = is-finite (s .tolerance) (λ n. none 10 (tolerance (not-finite n)))
 
   pub finite-values : (i : ℕ) → i < wells s → T (finite (valueAt s i))
-  finite-values i l = finite-of (valueAt s i) (λ n. none 11 (numbers (value (record { at = i; inside = l; is = n }))))
+  finite-values i l = is-finite (valueAt s i) (λ n. none 11 (numbers (value (record { place = i; inside = l; is = n }))))

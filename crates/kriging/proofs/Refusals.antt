@@ -10,8 +10,9 @@ use Rattle.kriging.specs.Survey.{Survey, Areas, wells, nodeCount, column
 use Rattle.kriging.specs.Refusals.{tests, refusal}
 use Rattle.kriging.specs.Lowest.{Condition, Lowest}
 use Rattle.kriging.specs.Lowest.{coordinates, odd-nodes, no-basis, code, regularization, externals-length, few-wells, node-externals-length, too-many, tolerance, numbers, model, work-short, answer-short}
+use Rattle.error.proofs.Tells.{both, equal, different, below}
 use Rattle.error.proofs.Rising.{rising, Holding, given-holds, none-lower}
-use Rattle.kriging.proofs.RefusalsTests.{both, equal, different, below, some-bad-code, bad-amount, not-offered, too-many-is, number-not-finite, answer-short-is}
+use Rattle.kriging.proofs.RefusalsTests.{some-bad-code, bad-amount, not-offered, too-many-is, number-not-finite, answer-short-is}
 
 module _ (s : Survey) (a : Areas) where
   in-order : T (rising 0 (tests s a))

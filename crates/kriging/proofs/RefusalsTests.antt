@@ -2,119 +2,32 @@
 use Prim.Native.Nat.{ℕ, zero, suc, _*_, _<_}
 use native.Mathlib.Nat.{not-suc-le-zero, le-of-suc-le-suc}
 use native.Mathlib.Omega.{arith}
-use mathlib.Core.Path.{_≡_, refl, sym, subst}
-use mathlib.Core.Logic.{_≢_, _⊎_, inl, inr}
-use mathlib.Core.Bool.{Bool, true, false, not, _&&_, _||_}
+use mathlib.Core.Path.{_≡_}
+use mathlib.Core.Logic.{_⊎_, inl, inr}
+use mathlib.Core.Bool.{true, not, _||_}
 use mathlib.Core.List.{List, [], _∷_}
-use lib.Dec.{T, ltb, eqb, ltb→lt, lt→ltb, eqb→eq, eqb-refl, T-not, not-T}
+use lib.Dec.{T, ltb}
 use lib.ListN.{length, getD}
-use lib.Ieee.{Float, nan, inf, fin, binary64, lt, ofBits}
-use lib.Ieee.Fits.{and-l, and-r}
+use lib.Ieee.{Float, binary64, lt, ofBits}
+use lib.Ieee.Scale.{finite}
+use Rattle.error.proofs.Tells.{Tells, told, told-as, both, either, is-true, below}
+use Rattle.ieee.specs.Finite.{allFinite, NotFinite, SomeNotFinite}
+use Rattle.ieee.proofs.FiniteLists.{not-finite as not-finite-told, not-all-finite}
 use Rattle.variogram.specs.declared.VariogramModel.{VariogramModel}
 use Rattle.variogram.specs.declared.VariogramModel.the-variants.{Spherical, Exponential, Gaussian, Linear}
 use Rattle.kriging.specs.Survey.{Survey, Areas, wells, nodeCount, columns, externals}
 use Rattle.kriging.specs.Limits.{mostWells, mostColumns, mostNodes}
-use Rattle.kriging.specs.Refusals.{any, differ, badCode, badAmount, notFinite, anyNotFinite, notOffered, shortAnswer}
-use Rattle.kriging.specs.Lowest.{NotFinite, not-a-number, infinite, SomeNotFinite, BadCode, too-low, too-high, SomeBadCode, BadAmount, negative, not-finite, TooMany, wells-over, columns-over, nodes-over, NotOffered, exponential, gaussian}
+use Rattle.kriging.specs.Refusals.{any, badCode, badAmount, anyNotFinite, notOffered, shortAnswer}
+use Rattle.kriging.specs.Lowest.{BadCode, too-low, too-high, SomeBadCode, BadAmount, negative, not-finite, TooMany, wells-over, columns-over, nodes-over, NotOffered, exponential, gaussian}
 use Rattle.kriging.specs.Lowest.{NumberNotFinite, nugget, sill, range, value, coordinate, external, node, node-external}
 use Rattle.kriging.specs.Lowest.{AnswerShort, figures, variances, verdicts, weights, coefficients}
 
--- a test holds exactly where A does
-pub record Tells (b : Bool) (A : Type 0) : Type 0 where
-  pub then : T b → A
-  pub back : A → T b
-
--- ---- tests joined
-or-elim : {C : Type 0} (a b : Bool) → (T a → C) → (T b → C) → T (a || b) → C
-or-elim true b f g t = f t
-or-elim false b f g t = g t
-
-or-l : (a b : Bool) → T a → T (a || b)
-or-l true b t = tt
-or-l false b t = absurd t
-
-or-r : (a b : Bool) → T b → T (a || b)
-or-r true b t = tt
-or-r false b t = t
-
-and-both : (a b : Bool) → T a → T b → T (a && b)
-and-both true b t u = u
-and-both false b t u = t
-
-either : {a b : Bool} {A B : Type 0} → Tells a A → Tells b B → Tells (a || b) (A ⊎ B)
-either {a} {b} {A} {B} f g = record { then = or-elim a b (λ t. inl (f .then t)) (λ t. inr (g .then t)); back = from }
-  where
-    from : A ⊎ B → T (a || b)
-    from (inl x) = or-l a b (f .back x)
-    from (inr x) = or-r a b (g .back x)
-
-pub both : {a b : Bool} {A B : Type 0} → Tells a A → Tells b B → Tells (a && b) (A × B)
-both {a} {b} f g = record { then = λ t. (f .then (and-l a b t), g .then (and-r a b t)); back = λ x. and-both a b (f .back (x .0)) (g .back (x .1)) }
-
-told-as : {b : Bool} {A B : Type 0} → Tells b A → (A → B) → (B → A) → Tells b B
-told-as f g h = record { then = λ t. g (f .then t); back = λ x. f .back (h x) }
-
-opposite : {b : Bool} {A : Type 0} → Tells b A → Tells (not b) (¬ A)
-opposite {b} f = record { then = λ t x. T-not b t (f .back x); back = λ n. not-T b (λ t. n (f .then t)) }
-
--- ---- numbers
-pub equal : (a b : ℕ) → Tells (eqb a b) (a ≡ b)
-equal a b = record { then = eqb→eq a b; back = λ e. subst (λ (n : ℕ). T (eqb a n)) e (eqb-refl a) }
-
-pub different : (a b : ℕ) → Tells (differ a b) (a ≢ b)
-different a b = opposite (equal a b)
-
-pub below : (a b : ℕ) → Tells (ltb a b) (a < b)
-below a b = record { then = ltb→lt a b; back = lt→ltb a b }
-
--- ---- some element of a list
-record Found {A : Type 0} (P : A → Type 0) (xs : List A) (d : A) : Type 0 where
-  at : ℕ
-  inside : at < length xs
-  is : P (getD xs at d)
-
-module _ {A : Type 0} (f : A → Bool) (P : A → Type 0) (tells : (x : A) → Tells (f x) (P x)) (d : A) where
-  found : (xs : List A) → T (any f xs) → Found P xs d
-  found [] t = absurd t
-  found (x ∷ xs) t =
-      or-elim (f x) (any f xs)
-      (λ h. record { at = 0; inside = omega arith; is = tells x .then h })
-      (λ h. let r = found xs h in record { at = suc (r .at); inside = let b = r .inside in omega arith; is = r .is })
-      t
-
-  any-of : (xs : List A) (i : ℕ) → i < length xs → P (getD xs i d) → T (any f xs)
-  any-of [] i h p = absurd (not-suc-le-zero h)
-  any-of (x ∷ xs) zero h p = or-l (f x) (any f xs) (tells x .back p)
-  any-of (x ∷ xs) (suc i) h p = or-r (f x) (any f xs) (any-of xs i (le-of-suc-le-suc h) p)
-
-  some : (xs : List A) → Tells (any f xs) (Found P xs d)
-  some xs = record { then = found xs; back = λ r. any-of xs (r .at) (r .inside) (r .is) }
-
 -- ---- floats
-not-finite-is : (x : Float) → Tells (notFinite x) (NotFinite x)
-not-finite-is x = record { then = there x; back = from }
-  where
-    there : (x : Float) → T (notFinite x) → NotFinite x
-    there nan t = not-a-number
-    there (inf s) t = infinite s
-    there (fin s m e) t = absurd t
+not-finite-is : (x : Float) → Tells (not (finite x)) (NotFinite x)
+not-finite-is x = told (not (finite x)) (not-finite-told x)
 
-    from : {x : Float} → NotFinite x → T (notFinite x)
-    from not-a-number = tt
-    from (infinite s) = tt
-
-some-not-finite : (xs : List Float) → Tells (any notFinite xs) (SomeNotFinite xs)
-some-not-finite xs =
-    told-as (some notFinite NotFinite not-finite-is nan xs)
-    (λ r. record { at = r .at; inside = r .inside; is = r .is })
-    (λ r. record { at = r .at; inside = r .inside; is = r .is })
-
-is-true : (b : Bool) → Tells b (b ≡ true)
-is-true b = record { then = there b; back = λ e. subst T (sym e) tt }
-  where
-    there : (b : Bool) → T b → b ≡ true
-    there true t = refl
-    there false t = absurd t
+some-not-finite : (xs : List Float) → Tells (not (allFinite xs)) (SomeNotFinite xs)
+some-not-finite xs = told (not (allFinite xs)) (not-all-finite xs)
 
 pub bad-amount : (x : Float) → Tells (badAmount x) (BadAmount x)
 bad-amount x = told-as (either (not-finite-is x) (is-true (lt x (ofBits binary64 0)))) there from
@@ -140,10 +53,16 @@ bad-code c = told-as (either (below c 1) (below 4 c)) there from
     from (too-high h) = inr h
 
 pub some-bad-code : (cs : List ℕ) → Tells (any badCode cs) (SomeBadCode cs)
-some-bad-code cs =
-    told-as (some badCode BadCode bad-code 0 cs)
-    (λ r. record { at = r .at; inside = r .inside; is = r .is })
-    (λ r. record { at = r .at; inside = r .inside; is = r .is })
+some-bad-code [] = record { then = λ h. absurd h; back = λ r. not-suc-le-zero (r .inside) }
+some-bad-code (c ∷ cs) = told-as (either (bad-code c) (some-bad-code cs)) there (λ r. from (r .at) (r .inside) (r .is))
+  where
+    there : BadCode c ⊎ SomeBadCode cs → SomeBadCode (c ∷ cs)
+    there (inl h) = record { at = 0; inside = omega arith; is = h }
+    there (inr r) = record { at = suc (r .at); inside = let b = r .inside in omega arith; is = r .is }
+
+    from : (i : ℕ) → i < length (c ∷ cs) → BadCode (getD (c ∷ cs) i 0) → BadCode c ⊎ SomeBadCode cs
+    from zero l h = inl h
+    from (suc i) l h = inr record { at = i; inside = le-of-suc-le-suc l; is = h }
 
 -- ---- the model
 pub not-offered : (m : VariogramModel) → Tells (notOffered m) (NotOffered m)

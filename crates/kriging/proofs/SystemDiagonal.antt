@@ -7,9 +7,10 @@ use mathlib.Core.Bool.{true}
 use borrow.Author.Tests.{eq-eqb}
 use lib.Dec.{T}
 use lib.ListN.{length, getD}
-use lib.Ieee.{Float, nan, inf, fin, binary64, add, mul, lt, ofBits, round}
+use lib.Ieee.{Float, nan, fin, binary64, add, mul, lt, ofBits, round}
 use lib.Ieee.Scale.{finite}
 use Rattle.ieee.specs.Root.{sqrtOf}
+use Rattle.ieee.proofs.FiniteLists.{is-finite}
 use Rattle.ieee.proofs.Zero.{sub-self}
 use Rattle.variogram.specs.declared.Variogram.{Variogram}
 use Rattle.variogram.specs.Model.{epsilon, semivariance}
@@ -17,7 +18,7 @@ use Rattle.variogram.specs.Distance.{squaredDistance2d, distance2d}
 use Rattle.variogram.proofs.Model.{same-spot}
 use Rattle.kriging.specs.Survey.{Survey, Areas, wells, wellX, wellY}
 use Rattle.kriging.specs.Refusals.{refusal}
-use Rattle.kriging.specs.Lowest.{NotFinite, not-a-number, infinite, coordinate, coordinates, numbers}
+use Rattle.kriging.specs.Lowest.{coordinate, coordinates, numbers}
 use Rattle.kriging.specs.System.{wellPlace, variogramOf, Well, coefficientOf}
 use Rattle.kriging.proofs.Refusals.{none-exactly}
 
@@ -33,16 +34,11 @@ zero-near = refl
 pub own-variogram : (v : Variogram) (x y : Float) → T (finite x) → T (finite y) → semivariance v (distance2d x y x y) ≡ ofBits binary64 0
 own-variogram v x y hx hy = same-spot v (distance2d x y x y) (ap (λ (h : Float). lt h epsilon) (own-distance x y hx hy) ∙ zero-near)
 
--- the coordinates of an accepted survey's wells are finite
-is-finite : (x : Float) → ¬ NotFinite x → T (finite x)
-is-finite nan n = n not-a-number
-is-finite (inf s) n = n (infinite s)
-is-finite (fin s m e) n = tt
-
 module _ (s : Survey) (a : Areas) (none : refusal s a ≡ 0) where
+  -- the coordinates of an accepted survey's wells are finite
   coordinate-finite : (p : ℕ) → p < length (s .coords) → T (finite (getD (s .coords) p nan))
   coordinate-finite p h =
-      is-finite (getD (s .coords) p nan) (λ n. none-exactly s a .0 none 11 (numbers (coordinate (record { at = p; inside = h; is = n }))))
+      is-finite (getD (s .coords) p nan) (λ n. none-exactly s a .0 none 11 (numbers (coordinate (record { place = p; inside = h; is = n }))))
 
   coordinates-length : length (s .coords) ≡ 2 * wells s
   coordinates-length = elim (ℕ-discrete (length (s .coords)) (2 * wells s)) [ yes e ↦ e | no n ↦ absurd (none-exactly s a .0 none 1 (coordinates n)) ]

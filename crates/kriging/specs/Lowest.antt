@@ -2,24 +2,14 @@
 use Prim.Native.Nat.{ℕ, _*_, _%_, _<_}
 use mathlib.Core.Path.{_≡_}
 use mathlib.Core.Logic.{_≢_}
-use mathlib.Core.Bool.{Bool, true}
+use mathlib.Core.Bool.{true}
 use mathlib.Core.List.{List}
 use lib.ListN.{length, getD}
-use lib.Ieee.{Float, nan, inf, binary64, lt, ofBits}
+use lib.Ieee.{Float, binary64, lt, ofBits}
+use Rattle.ieee.specs.Finite.{NotFinite, SomeNotFinite}
 use Rattle.variogram.specs.declared.VariogramModel.{VariogramModel}
 use Rattle.variogram.specs.declared.VariogramModel.the-variants.{Exponential, Gaussian}
 use Rattle.kriging.specs.Survey.{Survey, Areas, wells, nodeCount, columns, externals, size}
-
--- a NaN or an infinity
-pub data NotFinite : Float → Type 0 where
-  not-a-number : NotFinite nan
-  infinite : (s : Bool) → NotFinite (inf s)
-
--- some number of a list is not finite
-pub record SomeNotFinite (xs : List Float) : Type 0 where
-  pub at : ℕ
-  pub inside : at < length xs
-  pub is : NotFinite (getD xs at nan)
 
 -- "a code outside 1..4"
 pub data BadCode (c : ℕ) : Type 0 where

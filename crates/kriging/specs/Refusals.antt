@@ -7,6 +7,7 @@ use lib.ListN.{length}
 use lib.Ieee.{Float, binary64, lt, ofBits}
 use lib.Ieee.Scale.{finite}
 use Rattle.error.specs.Tests.{Test, test, firstOf}
+use Rattle.ieee.specs.Finite.{allFinite}
 use Rattle.variogram.specs.declared.VariogramModel.{VariogramModel}
 use Rattle.variogram.specs.declared.VariogramModel.the-variants.{Spherical, Exponential, Gaussian, Linear}
 use Rattle.kriging.specs.Limits.{mostWells, mostColumns, mostNodes}
@@ -28,20 +29,18 @@ badCode c = ltb c 1 || ltb 4 c
 abbrev pub badAmount : Float → Bool
 badAmount x = not (finite x) || lt x (ofBits binary64 0)
 
-abbrev pub notFinite : Float → Bool
-notFinite x = not (finite x)
-
 -- "nugget, sill, range, a value, coordinate, external, node or, if k > 0, node external not finite"
 unfoldable pub anyNotFinite : Survey → Bool
+unfolding allFinite
 anyNotFinite s =
-    notFinite (s .options .variogram .nugget)
-    || notFinite (s .options .variogram .sill)
-    || notFinite (s .options .variogram .range)
-    || any notFinite (s .values)
-    || any notFinite (s .coords)
-    || any notFinite (s .external)
-    || any notFinite (s .nodes)
-    || (ltb 0 (externals s) && any notFinite (s .nodeExternal))
+    not (finite (s .options .variogram .nugget))
+    || not (finite (s .options .variogram .sill))
+    || not (finite (s .options .variogram .range))
+    || not (allFinite (s .values))
+    || not (allFinite (s .coords))
+    || not (allFinite (s .external))
+    || not (allFinite (s .nodes))
+    || (ltb 0 (externals s) && not (allFinite (s .nodeExternal)))
 
 -- "Exponential or Gaussian"
 abbrev pub notOffered : VariogramModel → Bool

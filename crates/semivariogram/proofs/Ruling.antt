@@ -2,22 +2,25 @@
 use Prim.Native.Nat.{ℕ, _*_}
 use mathlib.Core.Path.{_≡_, refl, subst}
 use mathlib.Core.Logic.{_↔_}
-use mathlib.Core.Bool.{Bool, true, false}
-use mathlib.Core.List.{[], _∷_}
+use mathlib.Core.Bool.{Bool, true, false, not}
+use mathlib.Core.List.{List, [], _∷_}
 use lib.ListN.{length}
+use lib.Ieee.{Float}
 use Rattle.error.specs.Tests.{test, firstOf}
+use Rattle.error.proofs.Tells.{Tells, told, affirm, refute, opposite, both, either, different, below, at-most}
+use Rattle.ieee.specs.Finite.{allFinite, SomeNotFinite}
+use Rattle.ieee.proofs.FiniteLists.{not-all-finite}
 use Rattle.semivariogram.specs.Call.{Samples, Areas, samples}
 use Rattle.semivariogram.specs.Limits.{mostSamples, mostBins}
 use Rattle.semivariogram.specs.Refusals.{wrongDimension, wrongPoints, tooFew, wrongBins, tooMany, notFinite, shortAnswer, refusal}
-use Rattle.semivariogram.specs.Conditions.{WrongDimension, WrongPoints, TooFew, WrongBins, TooMany, NotFinite, ShortAnswer, Ruling, by-13, by-1, by-14, by-15, by-9, by-11, by-18, none}
-use Rattle.semivariogram.proofs.Tells.{Tells, affirm, refute, opposite, both, either, equal, below, at-most, not-all-finite}
+use Rattle.semivariogram.specs.Conditions.{WrongDimension, WrongPoints, TooFew, WrongBins, TooMany, NumberNotFinite, ShortAnswer, Ruling, by-13, by-1, by-14, by-15, by-9, by-11, by-18, none}
 
 -- ---- each test tells its condition
 pub tells-13 : (q : Samples) → Tells (wrongDimension q) (WrongDimension q)
 tells-13 q = opposite (both (at-most 1 (q .dimension)) (at-most (q .dimension) 3))
 
 pub tells-1 : (q : Samples) → Tells (wrongPoints q) (WrongPoints q)
-tells-1 q = opposite (equal (length (q .points)) (samples q * q .dimension))
+tells-1 q = different (length (q .points)) (samples q * q .dimension)
 
 pub tells-14 : (q : Samples) → Tells (tooFew q) (TooFew q)
 tells-14 q = below (samples q) 2
@@ -28,8 +31,11 @@ tells-15 q = opposite (both (at-most 1 (q .bins)) (at-most (q .bins) mostBins))
 pub tells-9 : (q : Samples) → Tells (tooMany q) (TooMany q)
 tells-9 q = below mostSamples (samples q)
 
-pub tells-11 : (q : Samples) → Tells (notFinite q) (NotFinite q)
-tells-11 q = either (not-all-finite (q .values)) (not-all-finite (q .points))
+some-told : (xs : List Float) → Tells (not (allFinite xs)) (SomeNotFinite xs)
+some-told xs = told (not (allFinite xs)) (not-all-finite xs)
+
+pub tells-11 : (q : Samples) → Tells (notFinite q) (NumberNotFinite q)
+tells-11 q = either (some-told (q .values)) (some-told (q .points))
 
 pub tells-18 : (q : Samples) (a : Areas) → Tells (shortAnswer q a) (ShortAnswer q a)
 tells-18 q a = either (below (length (a .distances)) (q .bins)) (either (below (length (a .semivariances)) (q .bins)) (below (length (a .counts)) (q .bins)))
@@ -39,18 +45,18 @@ tells-18 q a = either (below (length (a .distances)) (q .bins)) (either (below (
 pub ruling : (q : Samples) (a : Areas) → Ruling q a (refusal q a)
 unfolding refusal firstOf
 ruling q a =
-    go (wrongDimension q) (wrongPoints q) (tooFew q) (wrongBins q) (tooMany q) (notFinite q) (shortAnswer q a) refl refl refl refl refl refl refl
+    go _ _ _ _ _ _ _ (tells-13 q) (tells-1 q) (tells-14 q) (tells-15 q) (tells-9 q) (tells-11 q) (tells-18 q a)
   where
-    go : (b13 b1 b14 b15 b9 b11 b18 : Bool) → wrongDimension q ≡ b13 → wrongPoints q ≡ b1 → tooFew q ≡ b14 → wrongBins q ≡ b15 → tooMany q ≡ b9 → notFinite q ≡ b11 → shortAnswer q a ≡ b18
+    go : (b13 b1 b14 b15 b9 b11 b18 : Bool) → Tells b13 (WrongDimension q) → Tells b1 (WrongPoints q) → Tells b14 (TooFew q) → Tells b15 (WrongBins q) → Tells b9 (TooMany q) → Tells b11 (NumberNotFinite q) → Tells b18 (ShortAnswer q a)
         → Ruling q a (firstOf (test 13 b13 ∷ test 1 b1 ∷ test 14 b14 ∷ test 15 b15 ∷ test 9 b9 ∷ test 11 b11 ∷ test 18 b18 ∷ []))
-    go true b1 b14 b15 b9 b11 b18 e1 e2 e3 e4 e5 e6 e7 = by-13 (tells-13 q .then e1)
-    go false true b14 b15 b9 b11 b18 e1 e2 e3 e4 e5 e6 e7 = by-1 (tells-13 q .else e1) (tells-1 q .then e2)
-    go false false true b15 b9 b11 b18 e1 e2 e3 e4 e5 e6 e7 = by-14 (tells-13 q .else e1) (tells-1 q .else e2) (tells-14 q .then e3)
-    go false false false true b9 b11 b18 e1 e2 e3 e4 e5 e6 e7 = by-15 (tells-13 q .else e1) (tells-1 q .else e2) (tells-14 q .else e3) (tells-15 q .then e4)
-    go false false false false true b11 b18 e1 e2 e3 e4 e5 e6 e7 = by-9 (tells-13 q .else e1) (tells-1 q .else e2) (tells-14 q .else e3) (tells-15 q .else e4) (tells-9 q .then e5)
-    go false false false false false true b18 e1 e2 e3 e4 e5 e6 e7 = by-11 (tells-13 q .else e1) (tells-1 q .else e2) (tells-14 q .else e3) (tells-15 q .else e4) (tells-9 q .else e5) (tells-11 q .then e6)
-    go false false false false false false true e1 e2 e3 e4 e5 e6 e7 = by-18 (tells-13 q .else e1) (tells-1 q .else e2) (tells-14 q .else e3) (tells-15 q .else e4) (tells-9 q .else e5) (tells-11 q .else e6) (tells-18 q a .then e7)
-    go false false false false false false false e1 e2 e3 e4 e5 e6 e7 = none (tells-13 q .else e1) (tells-1 q .else e2) (tells-14 q .else e3) (tells-15 q .else e4) (tells-9 q .else e5) (tells-11 q .else e6) (tells-18 q a .else e7)
+    go true b1 b14 b15 b9 b11 b18 t13 t1 t14 t15 t9 t11 t18 = by-13 (t13 .then tt)
+    go false true b14 b15 b9 b11 b18 t13 t1 t14 t15 t9 t11 t18 = by-1 (t13 .back) (t1 .then tt)
+    go false false true b15 b9 b11 b18 t13 t1 t14 t15 t9 t11 t18 = by-14 (t13 .back) (t1 .back) (t14 .then tt)
+    go false false false true b9 b11 b18 t13 t1 t14 t15 t9 t11 t18 = by-15 (t13 .back) (t1 .back) (t14 .back) (t15 .then tt)
+    go false false false false true b11 b18 t13 t1 t14 t15 t9 t11 t18 = by-9 (t13 .back) (t1 .back) (t14 .back) (t15 .back) (t9 .then tt)
+    go false false false false false true b18 t13 t1 t14 t15 t9 t11 t18 = by-11 (t13 .back) (t1 .back) (t14 .back) (t15 .back) (t9 .back) (t11 .then tt)
+    go false false false false false false true t13 t1 t14 t15 t9 t11 t18 = by-18 (t13 .back) (t1 .back) (t14 .back) (t15 .back) (t9 .back) (t11 .back) (t18 .then tt)
+    go false false false false false false false t13 t1 t14 t15 t9 t11 t18 = none (t13 .back) (t1 .back) (t14 .back) (t15 .back) (t9 .back) (t11 .back) (t18 .back)
 
 pub only-ruling : (q : Samples) (a : Areas) (n : ℕ) → Ruling q a n → refusal q a ≡ n
 unfolding refusal firstOf

@@ -2,11 +2,11 @@
 use Prim.Native.Nat.{ℕ, zero, suc, _+_, _-_, _*_, _^_, _<_}
 use native.Mathlib.Omega.{arith}
 use mathlib.Core.Path.{_≡_, sym, subst}
-use mathlib.Core.Bool.{Bool, true, false, cond, not, _&&_, Bool·beq, true≢false}
+use mathlib.Core.Bool.{Bool, true, false, cond, not, _&&_, Bool·beq}
 use mathlib.Core.List.{List}
 use lib.IntN.{ℤ}
-use lib.Dec.{ltb}
-use lib.Ieee.{Float, nan, inf, fin, binary64, prec, emax, low, up, down, round, units, odd, sum, add, sub, neg, mul, ofBits}
+use lib.Dec.{T, ltb}
+use lib.Ieee.{Float, inf, fin, binary64, prec, emax, low, up, down, round, units, odd, sum, add, sub, neg, mul, ofBits}
 use lib.Ieee.Fits.{round-is}
 use lib.Ieee.Scale.{finite}
 use Rattle.ieee.specs.Root.{wholeRoot, sqrtOf, rootOf}
@@ -41,12 +41,8 @@ some-sign : (b : Bool) (x y : Float) → ((s : Bool) × Signed s x) → ((s : Bo
 some-sign true x y p q = p
 some-sign false x y p q = q
 
-difference : (x y : Float) → finite x ≡ true → finite y ≡ true → (s : Bool) × Signed s (sub binary64 x y)
+difference : (x y : Float) → T (finite x) → T (finite y) → (s : Bool) × Signed s (sub binary64 x y)
 unfolding sub add neg sum
-difference nan y h g = absurd (true≢false (sym h))
-difference (inf s) y h g = absurd (true≢false (sym h))
-difference (fin s m e) nan h g = absurd (true≢false (sym g))
-difference (fin s m e) (inf t) h g = absurd (true≢false (sym g))
 difference (fin s m e) (fin t n d) h g =
     let a : ℕ = m * up e * down d in
     let b : ℕ = n * up d * down e in
@@ -71,7 +67,7 @@ add-clear x y infinite (number n d) = infinite
 add-clear x y (number m e) infinite = infinite
 add-clear x y (number m e) (number n d) = round-signed false (m * up e * down d + n * up d * down e) (down e * down d)
 
-squares-clear : (a b : ℕ → Float) (k : ℕ) → ((i : ℕ) → i < k → finite (a i) ≡ true) → ((i : ℕ) → i < k → finite (b i) ≡ true) → Signed false (squares a b k)
+squares-clear : (a b : ℕ → Float) (k : ℕ) → ((i : ℕ) → i < k → T (finite (a i))) → ((i : ℕ) → i < k → T (finite (b i))) → Signed false (squares a b k)
 unfolding squares ofBits
 squares-clear a b zero f g = number _ _
 squares-clear a b (suc k) f g =
@@ -87,6 +83,6 @@ root-clear x (number zero e) = number _ _
 root-clear x (number (suc m) e) = round-signed false (2 * wholeRoot 1586 (multiple (fin false (suc m) e) * 2 ^ 1074) + 1) (2 * 2 ^ 1074)
 
 pub distance-clear : (xs : List Float) (i : ℕ) (ys : List Float) (j d : ℕ) → offered d ≡ true
-    → ((k : ℕ) → k < d → finite (axisFrom xs (i * d) k) ≡ true) → ((k : ℕ) → k < d → finite (axisFrom ys (j * d) k) ≡ true) → Signed false (distance xs i ys j d)
+    → ((k : ℕ) → k < d → T (finite (axisFrom xs (i * d) k))) → ((k : ℕ) → k < d → T (finite (axisFrom ys (j * d) k))) → Signed false (distance xs i ys j d)
 distance-clear xs i ys j d o f g =
     subst (Signed false) (sym (distance-offered xs i ys j d o)) (root-clear _ (squares-clear (axisFrom xs (i * d)) (axisFrom ys (j * d)) d f g))

@@ -1,19 +1,9 @@
 -- What turns a call of the semivariogram away, as the paper says it and not as tests: for each number its condition, and which number is given. Assumes nothing.
 use Prim.Native.Nat.{ℕ, _*_, _<_, _≤_}
-use mathlib.Core.Path.{_≡_}
 use mathlib.Core.Logic.{_≢_, _⊎_}
-use mathlib.Core.Bool.{false}
-use mathlib.Core.List.{List}
-use lib.ListN.{length, getD}
-use lib.Ieee.{Float, nan}
-use lib.Ieee.Scale.{finite}
+use lib.ListN.{length}
+use Rattle.ieee.specs.Finite.{SomeNotFinite}
 use Rattle.semivariogram.specs.Call.{Samples, Areas, samples}
-
--- a number of a list is a NaN or an infinity
-pub record SomeNotFinite (xs : List Float) : Type 0 where
-  pub place : ℕ
-  pub inside : place < length xs
-  pub is : finite (getD xs place nan) ≡ false
 
 -- 13: "d not 1, 2 or 3"
 abbrev pub WrongDimension : Samples → Type 0
@@ -36,8 +26,8 @@ abbrev pub TooMany : Samples → Type 0
 TooMany q = 48 < samples q
 
 -- 11: "a value, coordinate .. not finite"
-abbrev pub NotFinite : Samples → Type 0
-NotFinite q = SomeNotFinite (q .values) ⊎ SomeNotFinite (q .points)
+abbrev pub NumberNotFinite : Samples → Type 0
+NumberNotFinite q = SomeNotFinite (q .values) ⊎ SomeNotFinite (q .points)
 
 -- 18: "an answer area too short: .. for bins, the bin count, three times"
 abbrev pub ShortAnswer : Samples → Areas → Type 0
@@ -50,6 +40,6 @@ pub data Ruling (q : Samples) (a : Areas) : ℕ → Type 0 where
   by-14 : ¬ WrongDimension q → ¬ WrongPoints q → TooFew q → Ruling q a 14
   by-15 : ¬ WrongDimension q → ¬ WrongPoints q → ¬ TooFew q → WrongBins q → Ruling q a 15
   by-9 : ¬ WrongDimension q → ¬ WrongPoints q → ¬ TooFew q → ¬ WrongBins q → TooMany q → Ruling q a 9
-  by-11 : ¬ WrongDimension q → ¬ WrongPoints q → ¬ TooFew q → ¬ WrongBins q → ¬ TooMany q → NotFinite q → Ruling q a 11
-  by-18 : ¬ WrongDimension q → ¬ WrongPoints q → ¬ TooFew q → ¬ WrongBins q → ¬ TooMany q → ¬ NotFinite q → ShortAnswer q a → Ruling q a 18
-  none : ¬ WrongDimension q → ¬ WrongPoints q → ¬ TooFew q → ¬ WrongBins q → ¬ TooMany q → ¬ NotFinite q → ¬ ShortAnswer q a → Ruling q a 0
+  by-11 : ¬ WrongDimension q → ¬ WrongPoints q → ¬ TooFew q → ¬ WrongBins q → ¬ TooMany q → NumberNotFinite q → Ruling q a 11
+  by-18 : ¬ WrongDimension q → ¬ WrongPoints q → ¬ TooFew q → ¬ WrongBins q → ¬ TooMany q → ¬ NumberNotFinite q → ShortAnswer q a → Ruling q a 18
+  none : ¬ WrongDimension q → ¬ WrongPoints q → ¬ TooFew q → ¬ WrongBins q → ¬ TooMany q → ¬ NumberNotFinite q → ¬ ShortAnswer q a → Ruling q a 0

@@ -1,20 +1,14 @@
 -- What turns a call of the semivariogram away: "Semivariogram: 13, 1, 14, 15, 9, 11, 18". Assumes nothing.
 use Prim.Native.Nat.{ℕ, _*_}
-use mathlib.Core.Bool.{Bool, true, not, _&&_, _||_}
+use mathlib.Core.Bool.{Bool, not, _&&_, _||_}
 use mathlib.Core.List.{List, [], _∷_}
 use lib.Dec.{eqb, leb, ltb}
 use lib.ListN.{length}
-use lib.Ieee.{Float}
-use lib.Ieee.Scale.{finite}
 use Rattle.error.specs.Tests.{Test, test, firstOf}
+use Rattle.ieee.specs.Finite.{allFinite}
 use Rattle.variogram.specs.Distance.{offered}
 use Rattle.semivariogram.specs.Limits.{mostSamples, mostBins}
 use Rattle.semivariogram.specs.Call.{Samples, Areas, samples}
-
--- every number of a list is finite
-unfoldable pub allFinite : List Float → Bool
-allFinite [] = true
-allFinite (x ∷ xs) = finite x && allFinite xs
 
 -- 13: "d not 1, 2 or 3"
 abbrev pub wrongDimension : Samples → Bool

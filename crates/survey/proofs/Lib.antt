@@ -1,4 +1,3 @@
-pub mod Truth
 pub mod Bytes
 pub mod Filled
 pub mod WellFormed

@@ -5,16 +5,16 @@ use mathlib.Core.Path.{_≡_, refl, ap, sym, _∙_, subst}
 use mathlib.Core.Logic.{_↔_, _≢_}
 use mathlib.Core.List.{List, [], _∷_, _++_, map}
 use mathlib.Core.Option.{none, some}
-use lib.Dec.{T, eqb, ltb, ltb→lt, lt→ltb, nleb→lt, eqb→eq}
+use lib.Dec.{T, nleb→lt}
 use lib.ListN.{length, take, drop}
-use lib.Ieee.Fits.{eq→eqb}
 use Rattle.error.specs.Tests.{Test, firstOf}
+use Rattle.error.proofs.Tells.{twice, only-where, passes, equal, below, not-below}
 use Rattle.error.proofs.Tests.{NoneHolds, First, numbered, allOf, noneOf, exactly, none-is-zero, zero-is-none, first-of, first-append-zero, first-append, one-number}
+use Rattle.ieee.specs.Finite.{allFinite}
 use Rattle.survey.specs.Survey.{Survey, wells, nodeCount, columns, numbers}
 use Rattle.survey.specs.Areas.{Areas, allFilled}
 use Rattle.survey.specs.Reader.{headerOf, surveyIn, wellsIn, nodesIn, columnsIn, codeCountIn, fileTests, areaTests, readerTests, readBytes, readingOf, reader}
-use Rattle.survey.specs.Writer.{allFinite, writerFile, writerTests, writingOf, writer}
-use Rattle.survey.proofs.Truth.{not-not, equal, at-most, only-where}
+use Rattle.survey.specs.Writer.{writerFile, writerTests, writingOf, writer}
 use Rattle.survey.proofs.WellFormed.{WellFormed, no-flaw, no-refusal, reads, read-well-formed, refused-exactly}
 
 -- ---- the writer
@@ -43,18 +43,17 @@ pub writable : (s : Survey) (area : List ℕ) → writer s area .number ≡ 0 �
 writable s area e =
     let n = zero-is-none (writerTests s area) tt (sym (writer-number s area) ∙ e) in
     let k = columns s in
-    let o = only-where (ltb 0 k) (eqb (length (s .nodeExternal)) (k * nodeCount s)) .0 (n .1 .1 .1 .0) in
     record {
-      coordinates = equal (length (s .coordinates)) (2 * wells s) .0 (n .0);
-      nodes = equal (length (s .nodes) % 2) 0 .0 (n .1 .0);
-      external = equal (length (s .external)) (k * wells s) .0 (n .1 .1 .0);
-      nodeExternal = λ h. eqb→eq (length (s .nodeExternal)) (k * nodeCount s) (o (lt→ltb 0 k h));
-      finite = not-not (allFinite (numbers s)) .0 (n .1 .1 .1 .1 .0);
+      coordinates = twice (equal (length (s .coordinates)) (2 * wells s)) .then (n .0);
+      nodes = twice (equal (length (s .nodes) % 2) 0) .then (n .1 .0);
+      external = twice (equal (length (s .external)) (k * wells s)) .then (n .1 .1 .0);
+      nodeExternal = only-where (below 0 k) (equal (length (s .nodeExternal)) (k * nodeCount s)) .then (n .1 .1 .1 .0);
+      finite = twice (passes (allFinite (numbers s))) .then (n .1 .1 .1 .1 .0);
       size = let h = n .1 .1 .1 .1 .1 .0 in omega (arith, nleb→lt);
-      few-wells = at-most 65535 (wells s) .0 (n .1 .1 .1 .1 .1 .1 .0);
-      few-nodes = at-most 65535 (nodeCount s) .0 (n .1 .1 .1 .1 .1 .1 .1 .0);
-      few-codes = at-most 65535 (length (s .codes)) .0 (n .1 .1 .1 .1 .1 .1 .1 .1 .0);
-      room = at-most (length area) (length (writerFile s)) .0 (n .1 .1 .1 .1 .1 .1 .1 .1 .1 .0);
+      few-wells = not-below 65535 (wells s) .then (n .1 .1 .1 .1 .1 .1 .0);
+      few-nodes = not-below 65535 (nodeCount s) .then (n .1 .1 .1 .1 .1 .1 .1 .0);
+      few-codes = not-below 65535 (length (s .codes)) .then (n .1 .1 .1 .1 .1 .1 .1 .1 .0);
+      room = not-below (length area) (length (writerFile s)) .then (n .1 .1 .1 .1 .1 .1 .1 .1 .1 .0);
     }
 
 pub not-refused : (s : Survey) (area : List ℕ) → Writable s area → writer s area .number ≡ 0
@@ -62,25 +61,25 @@ not-refused s area w =
     let k = columns s in
     writer-number s area
     ∙ none-is-zero (writerTests s area) (
-      equal (length (s .coordinates)) (2 * wells s) .1 (w .coordinates),
+      twice (equal (length (s .coordinates)) (2 * wells s)) .back (w .coordinates),
       (
-        equal (length (s .nodes) % 2) 0 .1 (w .nodes),
+        twice (equal (length (s .nodes) % 2) 0) .back (w .nodes),
         (
-          equal (length (s .external)) (k * wells s) .1 (w .external),
+          twice (equal (length (s .external)) (k * wells s)) .back (w .external),
           (
-            only-where (ltb 0 k) (eqb (length (s .nodeExternal)) (k * nodeCount s)) .1 (λ h. eq→eqb (w .nodeExternal (ltb→lt 0 k h))),
+            only-where (below 0 k) (equal (length (s .nodeExternal)) (k * nodeCount s)) .back (w .nodeExternal),
             (
-              not-not (allFinite (numbers s)) .1 (w .finite),
+              twice (passes (allFinite (numbers s))) .back (w .finite),
               (
-                at-most 65536 (length (writerFile s)) .1 (w .size),
+                not-below 65536 (length (writerFile s)) .back (w .size),
                 (
-                  at-most 65535 (wells s) .1 (w .few-wells),
+                  not-below 65535 (wells s) .back (w .few-wells),
                   (
-                    at-most 65535 (nodeCount s) .1 (w .few-nodes),
+                    not-below 65535 (nodeCount s) .back (w .few-nodes),
                     (
-                      at-most 65535 (length (s .codes)) .1 (w .few-codes),
+                      not-below 65535 (length (s .codes)) .back (w .few-codes),
                       (
-                        at-most (length area) (length (writerFile s)) .1 (w .room),
+                        not-below (length area) (length (writerFile s)) .back (w .room),
                         tt,
                       ),
                     ),
@@ -153,28 +152,28 @@ room : (bytes : List ℕ) (areas : Areas) → firstOf (areaTests bytes areas) �
 room bytes areas e =
     let n = zero-is-none (areaTests bytes areas) tt e in
     record {
-      values = at-most (length (areas .values)) (wellsIn bytes) .0 (n .0);
-      coordinates = at-most (length (areas .coordinates)) (2 * wellsIn bytes) .0 (n .1 .0);
-      external = at-most (length (areas .external)) (columnsIn bytes * wellsIn bytes) .0 (n .1 .1 .0);
-      nodes = at-most (length (areas .nodes)) (2 * nodesIn bytes) .0 (n .1 .1 .1 .0);
-      nodeExternal = at-most (length (areas .nodeExternal)) (columnsIn bytes * nodesIn bytes) .0 (n .1 .1 .1 .1 .0);
-      codes = at-most (length (areas .codes)) (codeCountIn bytes) .0 (n .1 .1 .1 .1 .1 .0);
+      values = not-below (length (areas .values)) (wellsIn bytes) .then (n .0);
+      coordinates = not-below (length (areas .coordinates)) (2 * wellsIn bytes) .then (n .1 .0);
+      external = not-below (length (areas .external)) (columnsIn bytes * wellsIn bytes) .then (n .1 .1 .0);
+      nodes = not-below (length (areas .nodes)) (2 * nodesIn bytes) .then (n .1 .1 .1 .0);
+      nodeExternal = not-below (length (areas .nodeExternal)) (columnsIn bytes * nodesIn bytes) .then (n .1 .1 .1 .1 .0);
+      codes = not-below (length (areas .codes)) (codeCountIn bytes) .then (n .1 .1 .1 .1 .1 .0);
     }
 
 enough : (bytes : List ℕ) (areas : Areas) → Room bytes areas → firstOf (areaTests bytes areas) ≡ 0
 enough bytes areas r =
     none-is-zero (areaTests bytes areas) (
-      at-most (length (areas .values)) (wellsIn bytes) .1 (r .values),
+      not-below (length (areas .values)) (wellsIn bytes) .back (r .values),
       (
-        at-most (length (areas .coordinates)) (2 * wellsIn bytes) .1 (r .coordinates),
+        not-below (length (areas .coordinates)) (2 * wellsIn bytes) .back (r .coordinates),
         (
-          at-most (length (areas .external)) (columnsIn bytes * wellsIn bytes) .1 (r .external),
+          not-below (length (areas .external)) (columnsIn bytes * wellsIn bytes) .back (r .external),
           (
-            at-most (length (areas .nodes)) (2 * nodesIn bytes) .1 (r .nodes),
+            not-below (length (areas .nodes)) (2 * nodesIn bytes) .back (r .nodes),
             (
-              at-most (length (areas .nodeExternal)) (columnsIn bytes * nodesIn bytes) .1 (r .nodeExternal),
+              not-below (length (areas .nodeExternal)) (columnsIn bytes * nodesIn bytes) .back (r .nodeExternal),
               (
-                at-most (length (areas .codes)) (codeCountIn bytes) .1 (r .codes),
+                not-below (length (areas .codes)) (codeCountIn bytes) .back (r .codes),
                 tt,
               ),
             ),

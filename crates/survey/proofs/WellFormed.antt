@@ -8,10 +8,10 @@ use mathlib.Core.Option.{none, some}
 use lib.Dec.{nleb→lt}
 use lib.ListN.{length}
 use Rattle.error.specs.Tests.{firstOf}
+use Rattle.error.proofs.Tells.{twice, equal, not-below}
 use Rattle.error.proofs.Tests.{NoneHolds, none-is-zero, zero-is-none}
 use Rattle.survey.specs.Survey.{Survey}
 use Rattle.survey.specs.Reader.{startIn, wellsIn, nodesIn, codeCountIn, columnsIn, lengthIn, modelIn, versionIn, zeroIn, lastZeroIn, fileTests, surveyIn, unlessRefused, readBytes}
-use Rattle.survey.proofs.Truth.{equal, at-most}
 
 -- "16: under 14 or over 65,536 bytes, lengths that do not meet exactly, another model or version, trailer zeros not zero": when none of this is so
 pub record WellFormed (bytes : List ℕ) : Type 0 where
@@ -27,39 +27,39 @@ pub record WellFormed (bytes : List ℕ) : Type 0 where
 
 pub well-formed : (bytes : List ℕ) → NoneHolds (fileTests bytes) → WellFormed bytes
 well-formed bytes n =
-    let l : length bytes ≡ lengthIn bytes = equal (length bytes) (lengthIn bytes) .0 (n .1 .1 .1 .0) in
+    let l : length bytes ≡ lengthIn bytes = twice (equal (length bytes) (lengthIn bytes)) .then (n .1 .1 .1 .0) in
     record {
-      least = at-most (length bytes) 14 .0 (n .0);
+      least = not-below (length bytes) 14 .then (n .0);
       most = let h = n .1 .0 in omega (arith, nleb→lt);
-      codes = at-most (length bytes - 14) (codeCountIn bytes) .0 (n .1 .1 .0);
+      codes = not-below (length bytes - 14) (codeCountIn bytes) .then (n .1 .1 .0);
       meet = omega arith;
-      model-least = at-most (modelIn bytes) 1 .0 (n .1 .1 .1 .1 .0);
-      model-most = at-most 4 (modelIn bytes) .0 (n .1 .1 .1 .1 .1 .0);
-      version = equal (versionIn bytes) 1 .0 (n .1 .1 .1 .1 .1 .1 .0);
-      zero-byte = equal (zeroIn bytes) 0 .0 (n .1 .1 .1 .1 .1 .1 .1 .0);
-      last-zero-byte = equal (lastZeroIn bytes) 0 .0 (n .1 .1 .1 .1 .1 .1 .1 .1 .0);
+      model-least = not-below (modelIn bytes) 1 .then (n .1 .1 .1 .1 .0);
+      model-most = not-below 4 (modelIn bytes) .then (n .1 .1 .1 .1 .1 .0);
+      version = twice (equal (versionIn bytes) 1) .then (n .1 .1 .1 .1 .1 .1 .0);
+      zero-byte = twice (equal (zeroIn bytes) 0) .then (n .1 .1 .1 .1 .1 .1 .1 .0);
+      last-zero-byte = twice (equal (lastZeroIn bytes) 0) .then (n .1 .1 .1 .1 .1 .1 .1 .1 .0);
     }
 
 pub no-flaw : (bytes : List ℕ) → WellFormed bytes → NoneHolds (fileTests bytes)
 no-flaw bytes w =
     let l : length bytes ≡ lengthIn bytes = let x = w .meet in omega arith in (
-      at-most (length bytes) 14 .1 (w .least),
+      not-below (length bytes) 14 .back (w .least),
       (
-        at-most 65536 (length bytes) .1 (w .most),
+        not-below 65536 (length bytes) .back (w .most),
         (
-          at-most (length bytes - 14) (codeCountIn bytes) .1 (w .codes),
+          not-below (length bytes - 14) (codeCountIn bytes) .back (w .codes),
           (
-            equal (length bytes) (lengthIn bytes) .1 l,
+            twice (equal (length bytes) (lengthIn bytes)) .back l,
             (
-              at-most (modelIn bytes) 1 .1 (w .model-least),
+              not-below (modelIn bytes) 1 .back (w .model-least),
               (
-                at-most 4 (modelIn bytes) .1 (w .model-most),
+                not-below 4 (modelIn bytes) .back (w .model-most),
                 (
-                  equal (versionIn bytes) 1 .1 (w .version),
+                  twice (equal (versionIn bytes) 1) .back (w .version),
                   (
-                    equal (zeroIn bytes) 0 .1 (w .zero-byte),
+                    twice (equal (zeroIn bytes) 0) .back (w .zero-byte),
                     (
-                      equal (lastZeroIn bytes) 0 .1 (w .last-zero-byte),
+                      twice (equal (lastZeroIn bytes) 0) .back (w .last-zero-byte),
                       tt,
                     ),
                   ),

@@ -1,13 +1,12 @@
 -- The writer of the survey file: when it refuses, and its area at exit. Assumes nothing.
 use Prim.Native.Nat.{ℕ, zero, suc, _*_, _%_}
-use mathlib.Core.Bool.{Bool, true, not, _&&_}
+use mathlib.Core.Bool.{not, _&&_}
 use mathlib.Core.List.{List, [], _∷_}
 use mathlib.Core.Option.{Option, none, some}
 use lib.Dec.{eqb, ltb}
 use lib.ListN.{length}
-use lib.Ieee.{Float}
-use lib.Ieee.Scale.{finite}
 use Rattle.error.specs.Tests.{Test, test, firstOf}
+use Rattle.ieee.specs.Finite.{allFinite}
 use Rattle.survey.specs.Survey.{Survey, wells, nodeCount, columns, numbers}
 use Rattle.survey.specs.File.{longestFile, greatestCount, fileOf}
 use Rattle.survey.specs.Areas.{filled}
@@ -16,10 +15,6 @@ use Rattle.survey.specs.Areas.{filled}
 unfoldable pub writerFile : Survey → List ℕ
 unfolding fileOf
 writerFile s = fileOf [] s
-
-abbrev pub allFinite : List Float → Bool
-allFinite [] = true
-allFinite (x ∷ xs) = finite x && allFinite xs
 
 -- "refuses by 1, 2, 6, 8, 11 (r and t included), 16 (over 65,536 bytes or a count over 65,535), 18, in that order":
 -- 1 "coordinates not 2n long", 2 "node list odd", 6 "externals not k·n", 8 "k > 0 and node externals not k·m",
@@ -50,5 +45,5 @@ writingOf zero s area = record { number = 0; count = some (length (writerFile s)
 writingOf (suc refusal) s area = record { number = suc refusal; count = none; area = area }
 
 unfoldable pub writer : Survey → List ℕ → Writing
-unfolding writerFile numbers firstOf
+unfolding writerFile numbers firstOf allFinite
 writer s area = writingOf (firstOf (writerTests s area)) s area
