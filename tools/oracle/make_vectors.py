@@ -205,7 +205,32 @@ def matrix(size):
     return flat(rows)
 
 
+def struck():
+    """Matrices of four rows with a NaN, an infinity or a signed zero at each place, and those that stop at the first, a middle and the last step."""
+    plain = [[4.0, 1.0, -2.0, 0.5], [1.0, -3.0, 0.25, 2.0], [-2.0, 0.75, 5.0, 1.0], [0.5, 2.0, 1.0, -6.0]]
+    for odd in (float("nan"), float("inf"), -float("inf"), 0.0, -0.0):
+        for at in range(16):
+            rows = [row[:] for row in plain]
+            rows[at // 4][at % 4] = odd
+            yield rows
+    for step in range(4):
+        # rows and columns from the step on are alike but for a hair below 2^-52
+        rows = [[float(i == j) for j in range(4)] for i in range(4)]
+        for i in range(step, 4):
+            for j in range(step, 4):
+                rows[i][j] = 2.0**-53
+        yield rows
+    # a factor that is a zero of either sign, beside entries whose product with it is a NaN or flips a zero's sign
+    for zero in (0.0, -0.0):
+        for beside in (float("inf"), -0.0, 3.0):
+            yield [[1.0, beside, 0.0], [zero, -0.0, 1.0], [2.0, 1.0, -0.0]]
+
+
 def inverses():
+    for rows in struck():
+        entries = numbers(flat(rows))
+        yield ["invert_uked", len(rows), *entries]
+        yield ["matrix_inverse", len(rows), *entries]
     for size in [1, 2, 3, 4, 5, 6, 7, 8, 9, 10, 12]:
         for _ in range(24 if size < 8 else 6):
             entries = numbers(matrix(size))
@@ -250,4 +275,5 @@ def main():
         sys.stdout.buffer.write(struct.pack(f"<{len(record)}Q", *record))
 
 
-main()
+if __name__ == "__main__":
+    main()

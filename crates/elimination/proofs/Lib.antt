@@ -7,3 +7,4 @@ pub mod Stops
 pub mod Edges
 pub mod Untouched
 pub mod Entries
+pub mod Laid

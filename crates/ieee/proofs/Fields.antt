@@ -1,12 +1,11 @@
 -- A finite f64 by its bit fields: the multiple of 2^-1074 that it is, its sign, and that these two tell it from every other f64. Assumes nothing.
-use Prim.Native.Nat.{ℕ, zero, suc, _+_, _-_, _*_, _/_, _%_, _^_, _<_, _≤_}
+use Prim.Native.Nat.{ℕ, zero, suc, _+_, _*_, _/_, _%_, _^_}
 use native.Mathlib.Nat.{mul-div-cancel, mul-one}
-use native.Mathlib.Omega.{arith}
-use mathlib.Core.Path.{_≡_, refl, ap, sym, _∙_, subst}
-use mathlib.Core.Bool.{Bool, true, false, not, cond}
-use lib.IntN.{ℤ, pos, negsuc}
+use mathlib.Core.Path.{_≡_, ap, sym, _∙_, subst}
+use mathlib.Core.Bool.{Bool, true, false, cond}
+use lib.IntN.{ℤ}
 use lib.Dec.{T, eqb, leb}
-use lib.Ieee.{Float, nan, inf, fin, binary64, fits, up, down, ofBits, toBits, ofFields, odd}
+use lib.Ieee.{Float, nan, inf, fin, binary64, fits, down, ofBits, toBits, ofFields, odd}
 use lib.Ieee.Fits.{down-pos}
 use lib.Ieee.Bits.{ofBits-toBits}
 use lib.Ieee.Exact.{HasValue, odd-sign}

@@ -1,10 +1,10 @@
 -- A significand brought up to 53 bits by the count of its leading zeros. Assumes nothing.
-use Prim.Native.Nat.{ℕ, zero, suc, _+_, _-_, _*_, _/_, _%_, _^_, _<_, _≤_}
-use native.Mathlib.Nat.{le-trans, lt-of-le-of-lt, lt-of-lt-of-le, lt-of-not-le, lt-irrefl, mul-assoc, mul-comm, mul-le-mul-right, mul-lt-mul-of-pos-right, mod-eq-of-lt}
+use Prim.Native.Nat.{ℕ, suc, _+_, _-_, _*_, _%_, _^_, _<_, _≤_}
+use native.Mathlib.Nat.{le-trans, lt-of-lt-of-le, lt-of-not-le, lt-irrefl, mul-assoc, mul-le-mul-right, mul-lt-mul-of-pos-right, mod-eq-of-lt}
 use native.Mathlib.Omega.{arith}
-use mathlib.Core.Path.{_≡_, refl, ap, sym, _∙_, subst}
-use lib.Pow.{pow-add, pow-pos, pow-mono, pow-lt}
-use lib.Dec.{lit<, lit≤}
+use mathlib.Core.Path.{_≡_, ap, sym, _∙_, subst}
+use lib.Pow.{pow-add, pow-pos, pow-mono}
+use lib.Dec.{lit≤}
 use lib.Count.{leadingZeros, leading-top}
 use Rattle.ieee.specs.Root.{Normalised}
 

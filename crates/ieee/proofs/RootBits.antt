@@ -1,21 +1,17 @@
 -- The pattern that `nearest_root` puts together is the f64 that `rootOf` gives. Assumes nothing.
 use Prim.Native.Nat.{ℕ, zero, suc, _+_, _-_, _*_, _/_, _%_, _^_, _<_, _≤_}
-use native.Mathlib.Nat.{le-trans, lt-of-le-of-lt, lt-of-lt-of-le, lt-of-not-le, not-le-of-lt, lt-irrefl, le-of-lt, le-of-eq, mul-pos, mul-assoc, mul-comm, mul-one, mul-le-mul, mul-le-mul-right, mul-lt-mul-of-pos-right, mul-mul-mul-comm, mod-eq-of-lt, pow-suc}
+use native.Mathlib.Nat.{le-trans, lt-of-le-of-lt, lt-of-lt-of-le, lt-of-not-le, le-of-eq, mul-pos, mul-assoc, mul-le-mul, mul-le-mul-right, mul-lt-mul-of-pos-right, mul-mul-mul-comm, pow-suc}
 use native.Mathlib.Omega.{arith}
-use native.Mathlib.Numerals.{add-one}
 use mathlib.Core.Path.{_≡_, refl, ap, sym, _∙_, subst}
-use mathlib.Core.Bool.{Bool, true, false, not, cond}
-use mathlib.Core.Logic.{_⊎_, inl, inr}
-use lib.Dec.{T, leb, eqb, lit<, lit≤}
-use lib.Arith.{digits-div, digits-mod}
-use lib.Pow.{pow-add, pow-pos, pow-mono, pow-lt}
+use mathlib.Core.Bool.{Bool, false}
+use lib.Dec.{T, leb}
+use lib.Pow.{pow-add, pow-pos, pow-mono}
 use borrow.Author.Tests.{lt-leb, ne-eqb}
 use lib.Ieee.{Float, binary64, round, ofBits, ofFields, odd}
 use lib.Ieee.Fits.{round-fits}
 use lib.Ieee.Bits.{ofBits-fits}
 use lib.Ieee.Exact.{HasValue, odd-sign}
 use lib.Ieee.Scale.{finite}
-use Rattle.ieee.specs.Values.{multiple, signOf, fieldsMultiple}
 use Rattle.ieee.specs.Root.{wholeRoot, rootOf}
 use Rattle.ieee.proofs.Fields.{value-multiple, value-sign, value-finite, fields-value, same-value}
 use Rattle.ieee.proofs.WholeRoot.{square-even, root-lt, whole-root-le, whole-root-lt}

@@ -1,10 +1,9 @@
 -- What `nearest_root` hands on and what it puts together: the fields of a number above zero, and bounds. Assumes nothing.
 use Prim.Native.Nat.{ℕ, zero, suc, _+_, _-_, _*_, _/_, _%_, _^_, _<_, _≤_}
-use native.Mathlib.Nat.{le-trans, lt-of-le-of-lt, lt-irrefl, mul-assoc, mul-le-mul-left, le-of-lt}
+use native.Mathlib.Nat.{lt-of-le-of-lt, mul-assoc, mul-le-mul-left}
 use native.Mathlib.Omega.{arith}
 use mathlib.Core.Path.{_≡_, refl, ap, sym, _∙_, subst}
 use mathlib.Core.Bool.{Bool, true, false, not, cond}
-use lib.IntN.{ℤ}
 use lib.Dec.{T, leb, eqb}
 use lib.Pow.{pow-pos}
 use borrow.Author.Tests.{leb-false, ne-eqb}

@@ -1,13 +1,13 @@
 -- The square root's cases: at zero, above zero, at infinity, and elsewhere. Assumes nothing.
-use Prim.Native.Nat.{ℕ, zero, suc, _+_, _*_, _<_, _≤_}
+use Prim.Native.Nat.{ℕ, zero, suc, _*_, _<_}
 use native.Mathlib.Nat.{mul-pos, zero-lt-suc, zero-mul}
 use native.Mathlib.Omega.{arith}
-use mathlib.Core.Path.{_≡_, refl, ap, sym, _∙_, subst}
-use mathlib.Core.Bool.{Bool, true, false, not, _&&_, _||_, Bool·beq}
-use lib.IntN.{ℤ, pos}
-use lib.Dec.{T, eqb, ltb, ltb→lt, lt→ltb, T-not}
+use mathlib.Core.Path.{_≡_, refl, ap, sym, subst}
+use mathlib.Core.Bool.{Bool, true, false, not}
+use lib.IntN.{ℤ}
+use lib.Dec.{T, ltb→lt, lt→ltb, T-not}
 use lib.Ieee.{Float, nan, inf, fin, lt, eq, div, level, ofBits, binary64, up, down}
-use lib.Ieee.Fits.{up-pos, down-pos}
+use lib.Ieee.Fits.{up-pos}
 use lib.Ieee.Positive.{positive}
 use lib.Ieee.Scale.{finite}
 use Rattle.ieee.specs.Values.{multiple}

@@ -1,26 +1,20 @@
 -- The root's 54 digits, rounded to 53, are the f64 that `rootOf` gives. Assumes nothing.
 use Prim.Native.Nat.{ℕ, zero, suc, _+_, _-_, _*_, _/_, _%_, _^_, _<_, _≤_, compare, Ordering, Ordering·lt, Ordering·eq, Ordering·gt}
-use native.Mathlib.Nat.{le-refl, le-trans, lt-of-le-of-lt, lt-of-lt-of-le, lt-of-not-le, not-le-of-lt, lt-irrefl, le-of-lt, mul-assoc, mul-comm, mul-one, mul-le-mul, mul-le-mul-right, mul-lt-mul-of-pos-right, mul-mul-mul-comm, mul-left-comm, add-mul, one-mul, mul-pos, mul-div-mul-right, mod-eq-of-lt, pow-suc}
+use native.Mathlib.Nat.{le-trans, lt-of-lt-of-le, lt-of-not-le, not-le-of-lt, lt-irrefl, le-of-lt, mul-assoc, mul-comm, mul-le-mul-right, mul-left-comm, add-mul, one-mul, mul-pos, mul-div-mul-right, pow-suc}
 use native.Mathlib.Omega.{arith}
 use native.Mathlib.Numerals.{add-one}
 use mathlib.Core.Path.{_≡_, refl, ap, sym, _∙_, subst}
-use mathlib.Core.Bool.{Bool, true, false, not, cond}
+use mathlib.Core.Bool.{Bool, false}
 use mathlib.Core.Logic.{_⊎_, inl, inr}
-use lib.Dec.{T, isLe, isEq, leb, eqb, lit<, lit≤, le→leb, eqb→eq, leb→le, nleb→lt, eqb-refl}
+use lib.Dec.{T, isLe, isEq, le→leb}
 use borrow.Author.Tests.{lt-leb, ne-eqb}
 use lib.Arith.{digits-div, digits-mod}
 use lib.Pow.{pow-add, pow-pos, pow-mono, shl-lt}
-use lib.Ieee.{Float, binary64, round, units, nearest, size, ofBits, ofFields}
+use lib.Ieee.{Float, binary64, round, units, nearest, size}
 use lib.Ieee.Digits.{size-lt, size-le}
-use lib.Ieee.Fits.{round-is, round-fits}
-use lib.Ieee.Bits.{ofBits-fits, is-false, is-true}
+use lib.Ieee.Fits.{round-is}
 use lib.Ieee.Nearest.{closest, closest-same}
 use lib.Ieee.Exact.{HasValue, units-val}
-use lib.Ieee.Scale.{finite}
-use Rattle.ieee.specs.Values.{multiple, signOf, fieldsMultiple}
-use Rattle.ieee.specs.Root.{wholeRoot, rootOf}
-use Rattle.ieee.proofs.Fields.{value-multiple, value-sign, value-finite, fields-value, same-value}
-use Rattle.ieee.proofs.WholeRoot.{root-lt, whole-root-le, whole-root-lt}
 
 -- ---- what `compare` answers
 less : (o : Ordering) → T (isLe o) → isEq o ≡ false → o ≡ Ordering·lt

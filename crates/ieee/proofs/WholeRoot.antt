@@ -1,9 +1,8 @@
 -- Whole square roots, and the root that is worked out digit by digit. Assumes nothing.
-use Prim.Native.Nat.{ℕ, zero, suc, _+_, _-_, _*_, _/_, _%_, _^_, _<_, _≤_}
-use native.Mathlib.Nat.{le-trans, lt-of-le-of-lt, lt-of-lt-of-le, lt-irrefl, mul-le-mul, mul-mul-mul-comm, add-mul, mul-add, mul-one, one-mul, div-lt-iff-lt-mul, div-mul-le-self, div-add-mod', lt-of-not-le, le-antisymm, pow-suc}
+use Prim.Native.Nat.{ℕ, zero, suc, _+_, _*_, _/_, _^_, _<_, _≤_}
+use native.Mathlib.Nat.{lt-of-le-of-lt, lt-of-lt-of-le, lt-irrefl, mul-le-mul, mul-mul-mul-comm, add-mul, mul-add, div-lt-iff-lt-mul, lt-of-not-le, pow-suc}
 use native.Mathlib.Omega.{arith}
-use native.Mathlib.Numerals.{add-one}
-use mathlib.Core.Path.{_≡_, refl, ap, sym, _∙_, subst}
+use mathlib.Core.Path.{_≡_, _∙_, subst}
 use mathlib.Core.Bool.{Bool, true, false, not, cond}
 use lib.Dec.{T, leb, leb→le, nleb→lt, lit<}
 use Rattle.ieee.specs.Root.{wholeRoot, nextDigit}

@@ -1,9 +1,9 @@
 -- A float beside the constant 0.0, and what the language tells of every f64: that it fits its format. Assumes nothing.
 use Prim.Native.Nat.{ℕ, zero, suc, _+_, _-_, _*_, _^_, _<_, _≤_}
-use native.Mathlib.Nat.{mul-pos, lt-irrefl, zero-lt-suc, mul-one, one-mul, zero-mul, le-refl}
+use native.Mathlib.Nat.{mul-pos, zero-lt-suc, mul-one, one-mul, zero-mul, le-refl}
 use native.Mathlib.Omega.{arith}
 use mathlib.Core.Path.{_≡_, refl, ap, sym, _∙_, subst}
-use mathlib.Core.Bool.{Bool, true, false, not, _&&_, _||_, Bool·beq}
+use mathlib.Core.Bool.{Bool, true, false, not, _||_, Bool·beq}
 use lib.IntN.{ℤ, pos, negsuc}
 use lib.Dec.{T, eqb, ltb, eqb→eq, ltb→lt, nltb→le, T-not, lit<}
 use lib.Arith.{le→nltb}

@@ -4,4 +4,5 @@ pub mod Root
 pub mod NearestRoot
 pub mod Whole
 pub mod Ieee754
+pub mod Sums
 pub mod Finite

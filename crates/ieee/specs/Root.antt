@@ -1,9 +1,8 @@
 -- The square root of an f64: "the f64 nearest the exact root, proved over whole numbers; infinity gives infinity". Assumes nothing.
 use Prim.Native.Nat.{ℕ, zero, suc, _+_, _*_, _/_, _^_, _≤_, _<_}
 use mathlib.Core.Path.{_≡_}
-use mathlib.Core.Bool.{Bool, true, false, cond}
-use lib.IntN.{ℤ, pos}
-use lib.Dec.{leb, eqb}
+use mathlib.Core.Bool.{true, false, cond}
+use lib.Dec.{leb}
 use lib.Ieee.{Float, nan, inf, fin, binary64, round}
 use Rattle.ieee.specs.Values.{multiple, fieldsMultiple}
 

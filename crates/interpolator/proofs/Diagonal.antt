@@ -15,7 +15,8 @@ use Rattle.variogram.specs.Model.{semivariance}
 use Rattle.variogram.proofs.Distance.{is-offered}
 use Rattle.variogram.proofs.Itself.{distance-itself, variogram-itself}
 use Rattle.interpolator.specs.Call.{Query, Areas, wells}
-use Rattle.interpolator.specs.System.{zeroFloat, entry}
+use Rattle.elimination.specs.Inverse.{zeroFloat}
+use Rattle.interpolator.specs.System.{entry}
 use Rattle.interpolator.specs.Refusals.{refusal}
 use Rattle.interpolator.proofs.Accepted.{Accepted, accepted}
 use Rattle.interpolator.proofs.Matrix.{covariances}

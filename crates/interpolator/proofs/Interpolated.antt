@@ -22,14 +22,15 @@ use Rattle.elimination.proofs.Untouched.{kept-eliminated}
 use Rattle.interpolator.specs.declared.KrigingType.{KrigingType}
 use Rattle.interpolator.specs.declared.KrigingType.the-variants.{Ordinary, Universal}
 use Rattle.interpolator.specs.Call.{Query, Areas, Outcome, wells, nodes, added, size}
-use Rattle.interpolator.specs.System.{zeroFloat, assembled}
+use Rattle.elimination.specs.Inverse.{zeroFloat}
+use Rattle.interpolator.specs.System.{assembled}
 use Rattle.interpolator.specs.Refusals.{refusal}
 use Rattle.interpolator.specs.Conditions.{Ruling}
 use Rattle.interpolator.specs.Endings.{workAfter, Solves, Stops, Way, refused, stopped, done, Untouched}
 use Rattle.interpolator.specs.Interpolation.{figure, variance, answered, concluded, judged, interpolated}
 use Rattle.interpolator.proofs.Ruling.{ruling, only-ruling, never-19}
 use Rattle.interpolator.proofs.Accepted.{Accepted, accepted}
-use Rattle.interpolator.proofs.Matrix.{assembled-at, kept-assembled, left-half, lower-right}
+use Rattle.interpolator.proofs.Matrix.{assembled-at, kept-assembled, lower-right}
 
 -- ---- how it ends
 -- "A refusal carries only its number and writes nothing"
@@ -162,7 +163,7 @@ no-wells q a h z =
     let p : 0 < size q = omega (arith, added-some (q .krigingType)) in
     where-it-stops q a 0 h
     (zero-column (size q) xs p (omega (arith, kept-assembled q (a .work) .len))
-    (λ r b. assembled-at q (a .work) r 0 (k .work) b (omega arith) ∙ left-half q r 0 p ∙ lower-right q r 0 (omega arith) (omega arith)))
+    (λ r b. assembled-at q (a .work) (k .work) r 0 b p ∙ lower-right q r 0 (omega arith) (omega arith)))
 
 -- ---- the areas at exit
 kept-fill : (n : ℕ) (f : ℕ → Float) (xs : List Float) → Kept n xs (written 0 n f xs)

@@ -8,15 +8,16 @@ use mathlib.Core.List.{List}
 use lib.Dec.{ltb}
 use lib.ListN.{length}
 use lib.Ieee.{Float, nan, binary64, sub}
-use borrow.Author.Tests.{lt-ltb, le-ltb, eq-eqb, ne-eqb}
+use borrow.Author.Tests.{lt-ltb, le-ltb}
 use Rattle.area.specs.Area.{Kept}
-use Rattle.area.proofs.Filled.{entry as filled-entry, kept-filled}
 use Rattle.elimination.specs.Elimination.{at}
+use Rattle.elimination.specs.Inverse.{zeroFloat, oneFloat}
+use Rattle.elimination.proofs.Laid.{kept-laid, laid-left, laid-one, laid-zero}
 use Rattle.variogram.specs.Model.{semivariance}
 use Rattle.variogram.specs.Distance.{distance}
 use Rattle.variogram.proofs.Distance.{distance-back}
 use Rattle.interpolator.specs.Call.{Query, wells, size}
-use Rattle.interpolator.specs.System.{zeroFloat, oneFloat, covariance, trendAt, column, entry, augmented, assembled}
+use Rattle.interpolator.specs.System.{covariance, trendAt, column, entry, assembled}
 
 -- "Entries are sill − variogram, the diagonal too": of every two wells, a well and itself too
 pub covariances : (q : Query) (i j : ℕ) → i < wells q → j < wells q
@@ -61,32 +62,23 @@ symmetric q i j = go (ltb i (wells q)) (ltb j (wells q))
     go false true = refl
     go false false = refl
 
--- the matrix beside the identity stands in the work area, row after row
-pub assembled-at : (q : Query) (xs : List Float) (r c : ℕ) → 2 * size q * size q ≤ length xs → r < size q → c < 2 * size q
-    → at (2 * size q) (assembled q xs) r c ≡ augmented q r c
-unfolding assembled
-assembled-at q xs r c l hr hc = filled-entry (2 * size q) (size q) (augmented q) xs r c nan (omega arith) hr hc
+-- ---- the matrix beside the identity stands in the work area, row after row
+module _ (q : Query) (xs : List Float) where
+  -- what lies past it is as it was
+  pub kept-assembled : Kept (2 * size q * size q) xs (assembled q xs)
+  unfolding assembled
+  kept-assembled = kept-laid (size q) (entry q) xs
 
--- and what lies past it is as it was
-pub kept-assembled : (q : Query) (xs : List Float) → Kept (2 * size q * size q) xs (assembled q xs)
-unfolding assembled
-kept-assembled q xs =
-    let s : ℕ = size q in
-    let e : s * (2 * s) ≡ 2 * s * s = omega arith in
-    rw e at (kept-filled (2 * s) s s (augmented q) xs (omega arith))
+  module _ (long : 2 * size q * size q ≤ length xs) where
+    -- the left half is the matrix, the right half the identity
+    pub assembled-at : (i j : ℕ) → i < size q → j < size q → at (2 * size q) (assembled q xs) i j ≡ entry q i j
+    unfolding assembled
+    assembled-at = laid-left (size q) (entry q) xs nan long
 
--- its left half is the matrix, its right half the identity
-pub left-half : (q : Query) (i j : ℕ) → j < size q → augmented q i j ≡ entry q i j
-unfolding augmented
-left-half q i j h = rw (lt-ltb j (size q) h)
+    pub on-diagonal : (i : ℕ) → i < size q → at (2 * size q) (assembled q xs) i (size q + i) ≡ oneFloat
+    unfolding assembled
+    on-diagonal = laid-one (size q) (entry q) xs nan long
 
-pub on-diagonal : (q : Query) (i : ℕ) → augmented q i (size q + i) ≡ oneFloat
-unfolding augmented
-on-diagonal q i =
-    let e : size q + i - size q ≡ i = omega arith in
-    rw (le-ltb (size q + i) (size q) (omega arith), eq-eqb (size q + i - size q) i e)
-
-pub off-diagonal : (q : Query) (i j : ℕ) → i ≢ j → augmented q i (size q + j) ≡ zeroFloat
-unfolding augmented
-off-diagonal q i j n =
-    rw (le-ltb (size q + j) (size q) (omega arith), ne-eqb (size q + j - size q) i (λ h. n (omega arith)))
+    pub off-diagonal : (i j : ℕ) → i < size q → j < size q → i ≢ j → at (2 * size q) (assembled q xs) i (size q + j) ≡ zeroFloat
+    unfolding assembled
+    off-diagonal = laid-zero (size q) (entry q) xs nan long

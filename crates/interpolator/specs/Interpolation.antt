@@ -1,40 +1,28 @@
 -- What the interpolator answers: paper 01, "Interpolator", each operation rounded once. Assumes nothing.
-use Prim.Native.Nat.{ℕ, zero, suc, _+_, _*_}
+use Prim.Native.Nat.{ℕ, zero, suc}
 use mathlib.Core.Bool.{false}
 use mathlib.Core.List.{List}
 use lib.ListN.{getD}
-use lib.Ieee.{Float, nan, binary64, add, sub, mul}
+use lib.Ieee.{Float, nan, binary64, mul}
 use Rattle.area.specs.Area.{written}
 use Rattle.ieee.specs.Floats.{maxOf}
+use Rattle.ieee.specs.Sums.{runningSum, lessEach}
 use Rattle.elimination.specs.declared.Elimination.{Elimination}
 use Rattle.elimination.specs.declared.Elimination.the-variants.{Done, Stopped, TooShort}
-use Rattle.elimination.specs.Elimination.{at, eliminated}
+use Rattle.elimination.specs.Elimination.{eliminated}
+use Rattle.elimination.specs.Inverse.{zeroFloat, timesInverse}
 use Rattle.interpolator.specs.Call.{Query, Areas, Outcome, wells, nodes, size}
-use Rattle.interpolator.specs.System.{zeroFloat, column, assembled}
+use Rattle.interpolator.specs.System.{column, assembled}
 use Rattle.interpolator.specs.Refusals.{refusal}
-
--- "summed from 0 by rising column": f 0, f 1, .. added in turn, each addition rounded
-unfoldable pub runningSum : ℕ → (ℕ → Float) → Float
-runningSum zero f = zeroFloat
-runningSum (suc k) f = add binary64 (runningSum k f) (f k)
-
--- f 0, f 1, .. taken from a number in turn, each subtraction rounded
-unfoldable pub lessEach : Float → ℕ → (ℕ → Float) → Float
-lessEach x zero f = x
-lessEach x (suc k) f = sub binary64 (lessEach x k f) (f k)
-
--- "The right half is the inverse": its entry in row i and column j
-abbrev pub inverseAt : ℕ → List Float → ℕ → ℕ → Float
-inverseAt s work i j = at (2 * s) work i (s + j)
 
 -- b of the target t
 abbrev pub rightSide : Query → ℕ → ℕ → Float
 rightSide q t i = column q (q .targets) t i
 
--- "z = inverse times b, summed from 0 by rising column", from the work area of the finished elimination
+-- "z = inverse times b", from the work area of the finished elimination
 unfoldable pub solution : Query → List Float → ℕ → ℕ → Float
-unfolding runningSum column
-solution q work t i = runningSum (size q) (λ j. mul binary64 (inverseAt (size q) work i j) (rightSide q t j))
+unfolding timesInverse column
+solution q work t i = timesInverse (size q) work (rightSide q t) i
 
 -- "Figure: Σ z_i·value_i"
 unfoldable pub figure : Query → List Float → ℕ → Float

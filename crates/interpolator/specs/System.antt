@@ -2,21 +2,15 @@
 use Prim.Native.Nat.{ℕ, _-_, _*_}
 use mathlib.Core.Bool.{cond}
 use mathlib.Core.List.{List, [], _∷_}
-use lib.Dec.{eqb, ltb}
+use lib.Dec.{ltb}
 use lib.ListN.{getD}
-use lib.Ieee.{Float, binary64, ofBits, sub, mul}
-use Rattle.area.specs.Area.{filled}
+use lib.Ieee.{Float, binary64, sub, mul}
 use Rattle.variogram.specs.Model.{semivariance}
 use Rattle.variogram.specs.Distance.{axisFrom, distance}
+use Rattle.elimination.specs.Inverse.{zeroFloat, oneFloat, laid}
 use Rattle.interpolator.specs.declared.KrigingType.{KrigingType}
 use Rattle.interpolator.specs.declared.KrigingType.the-variants.{Ordinary, Universal}
 use Rattle.interpolator.specs.Call.{Query, wells, size}
-
-abbrev pub zeroFloat : Float
-zeroFloat = ofBits binary64 0
-
-abbrev pub oneFloat : Float
-oneFloat = ofBits binary64 0x3ff0_0000_0000_0000
 
 -- "Entries are sill − variogram": of the well i and the point j of a list, the wells' or the targets'
 unfoldable pub covariance : Query → ℕ → List Float → ℕ → Float
@@ -43,12 +37,7 @@ unfoldable pub entry : Query → ℕ → ℕ → Float
 unfolding column trendAt
 entry q i j = cond (ltb j (wells q)) (column q (q .points) j i) (cond (ltb i (wells q)) (trendAt q (q .points) i (j - wells q)) zeroFloat)
 
--- "The matrix beside the identity, s rows of 2s"
-unfoldable pub augmented : Query → ℕ → ℕ → Float
-unfolding entry
-augmented q i c = cond (ltb c (size q)) (entry q i c) (cond (eqb (c - size q) i) oneFloat zeroFloat)
-
--- a work area with it, row after row
+-- "The matrix beside the identity, s rows of 2s", in a work area
 unfoldable pub assembled : Query → List Float → List Float
-unfolding augmented
-assembled q xs = filled (2 * size q) (size q) (augmented q) xs
+unfolding entry laid
+assembled q xs = laid (size q) (entry q) xs

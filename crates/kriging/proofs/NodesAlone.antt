@@ -9,12 +9,13 @@ use lib.Ieee.{Float, nan}
 use Rattle.elimination.specs.Elimination.{Outcome, stepped}
 use Rattle.elimination.proofs.Stops.{finished}
 use Rattle.kriging.specs.Survey.{Survey, Areas, nodeCount, size}
-use Rattle.kriging.specs.Assembly.{assembled}
+use Rattle.elimination.proofs.Laid.{laid-place}
+use Rattle.kriging.specs.Assembly.{entry, assembled}
 use Rattle.kriging.specs.Fit.{Node, nodeOf, fitted}
 use Rattle.kriging.specs.Alike.{SameWells, SameNode, SameAnswer}
 use Rattle.kriging.proofs.RefusalsFit.{worked, long, length-assembled, zero-exactly}
 use Rattle.kriging.proofs.Nodes.{node-alone, size-same, assembled-same}
-use Rattle.kriging.proofs.NodesExit.{filled, figure-at, variance-at, verdict-at, weight-at}
+use Rattle.kriging.proofs.NodesExit.{figure-at, variance-at, verdict-at, weight-at}
 use Rattle.kriging.proofs.NodesWork.{Agree, agree-stepped, node-agree}
 
 -- two areas long enough get the same matrix
@@ -27,7 +28,7 @@ agree-assembled s xs ys hx hy =
     record {
       left = omega arith;
       right = omega arith;
-      same = λ p b. filled (2 * size s * size s) _ xs p nan hx (omega arith) ∙ sym (filled (2 * size s * size s) _ ys p nan hy (omega arith));
+      same = λ p b. laid-place (size s) (entry s) xs nan hx p b ∙ sym (laid-place (size s) (entry s) ys nan hy p b);
     }
 
 -- an accepted fit went through every step

@@ -9,15 +9,15 @@ use mathlib.Core.List.{List}
 use lib.ListN.{length}
 use lib.Ieee.{Float}
 use Rattle.area.specs.Area.{Kept}
-use Rattle.area.proofs.Turns.{length-written}
 use Rattle.area.proofs.Kept.{kept-same, kept-then, kept-written}
 use Rattle.elimination.specs.declared.Elimination.{Elimination}
 use Rattle.elimination.specs.declared.Elimination.the-variants.{Done, Stopped, TooShort}
 use Rattle.elimination.specs.Elimination.{Outcome, eliminated, stepped, Through, StopsAt}
 use Rattle.elimination.proofs.Stops.{stops-exactly, done-exactly, refused-exactly, stopped as elimination-stopped}
+use Rattle.elimination.proofs.Laid.{kept-laid}
 use Rattle.elimination.proofs.Untouched.{kept-eliminated}
 use Rattle.kriging.specs.Survey.{Survey, Areas, wells, nodeCount, columns, size}
-use Rattle.kriging.specs.Assembly.{assembled}
+use Rattle.kriging.specs.Assembly.{entry, assembled}
 use Rattle.kriging.specs.Refusals.{refusal}
 use Rattle.kriging.specs.Fit.{Node, Ended, nodeOf, answered, withWork, ended, afterwards, fitWhere, fitted}
 use Rattle.kriging.specs.Lowest.{Lowest, work-short}
@@ -36,7 +36,7 @@ pub data Way (s : Survey) (a : Areas) : Type 0 where
 
 pub length-assembled : (s : Survey) (work : List Float) → length (assembled s work) ≡ length work
 unfolding assembled
-length-assembled s work = length-written 0 (2 * size s * size s) _ work
+length-assembled s work = kept-laid (size s) (entry s) work .len
 
 -- the definition, case by case
 fitted-is : (s : Survey) (a : Areas) (k : ℕ) → refusal s a ≡ k → fitted s a ≡ fitWhere k s a
@@ -159,7 +159,7 @@ module _ (s : Survey) (a : Areas) where
   kept-worked : Kept (2 * size s * size s) (a .work) (worked s a)
   unfolding assembled
   kept-worked =
-      kept-then (kept-written (2 * size s * size s) 0 (2 * size s * size s) _ (a .work) (omega arith)) (kept-eliminated true (size s) (assembled s (a .work)))
+      kept-then (kept-laid (size s) (entry s) (a .work)) (kept-eliminated true (size s) (assembled s (a .work)))
 
   untouched-same : Untouched s a a
   untouched-same =

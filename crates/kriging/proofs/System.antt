@@ -1,26 +1,26 @@
 -- The assembled matrix is the kriging system's, entry by entry, beside the identity; its right-hand side and its variance are the node's; and it is symmetric, bit for bit. Assumes nothing.
-use Prim.Native.Nat.{ℕ, _+_, _-_, _*_, _/_, _%_, _<_, _≤_}
-use native.Mathlib.Nat.{zero-add}
+use Prim.Native.Nat.{ℕ, _+_, _-_, _*_, _<_, _≤_}
 use native.Mathlib.Decide.{decLt, ℕ-discrete}
 use native.Mathlib.Omega.{arith}
 use mathlib.Core.Path.{_≡_, refl, ap, ap₂, sym, _∙_}
 use mathlib.Core.Logic.{_≢_}
 use mathlib.Core.Bool.{Bool, true, false, cond}
 use mathlib.Core.List.{List}
-use borrow.Author.Tests.{lt-ltb, le-ltb, eq-eqb, ne-eqb}
-use lib.Dec.{eqb, ltb}
+use borrow.Author.Tests.{lt-ltb, le-ltb, ne-eqb}
+use lib.Dec.{ltb}
 use lib.ListN.{length, getD, length-append}
 use lib.Ieee.{Float, nan, binary64, mul}
-use Rattle.area.proofs.Places.{at-place}
-use Rattle.area.proofs.Rows.{row-end}
 use Rattle.variogram.proofs.Distance.{distance2d-back}
 use Rattle.kriging.specs.Survey.{Survey, wells, columns, size, wellX, wellY}
-use Rattle.kriging.specs.Drift.{drift, one, nodeRow}
-use Rattle.kriging.specs.Assembly.{zero, between, entry, augmented, assembled}
-use Rattle.kriging.specs.Node.{rightHand, runningSum, table}
+use Rattle.elimination.specs.Inverse.{zeroFloat, oneFloat}
+use Rattle.elimination.proofs.Laid.{laid-left, laid-one, laid-zero}
+use Rattle.kriging.specs.Drift.{drift, nodeRow}
+use Rattle.kriging.specs.Assembly.{between, entry, assembled}
+use Rattle.ieee.specs.Sums.{runningSum}
+use Rattle.kriging.specs.Node.{rightHand, table}
 use Rattle.kriging.specs.System.{nodePlace, variogramOf, Index, Well, Drift, Within, coefficientOf, rightOf, varianceSum, rowOf}
 use Rattle.kriging.proofs.SystemDrift.{drift-well, drift-node, node-row-length}
-use Rattle.kriging.proofs.SystemTable.{row-back, column-back, table-length, joined-at, joined-past, sum-on}
+use Rattle.kriging.proofs.SystemTable.{table-length, joined-at, joined-past, sum-on}
 
 -- ---- rows and unknowns
 -- a row of the system is the row of one equation
@@ -54,38 +54,23 @@ module _ (s : Survey) where
   entry-is (Drift l) (Drift k) hu hv = rw (past l, past k)
 
 -- ---- the work area: the matrix, and the identity beside it
--- an area long enough holds the matrix beside the identity, row after row
-augmented-at : (s : Survey) (work : List Float) (i j : ℕ) (d : Float) → 2 * size s * size s ≤ length work → i < size s → j < 2 * size s
-    → getD (assembled s work) (i * (2 * size s) + j) d ≡ augmented s i j
-unfolding assembled
-augmented-at s work i j d long hi hj =
-    let w : ℕ = 2 * size s in
-    let e = row-end w i (size s) hi in
-    ap (λ (p : ℕ). getD (assembled s work) p d) (sym (zero-add (i * w + j)))
-    ∙ at-place 0 (2 * size s * size s) (λ t. augmented s (t / w) (t % w)) work (i * w + j) d (omega arith) (omega arith)
-    ∙ ap₂ (augmented s) (row-back w i j hj) (column-back w i j hj)
-
 module _ (s : Survey) (work : List Float) (d : Float) (long : 2 * size s * size s ≤ length work) where
   -- in the left half, column j of row i
   left-half : (i j : ℕ) → i < size s → j < size s → getD (assembled s work) (i * (2 * size s) + j) d ≡ entry s i j
-  unfolding augmented
-  left-half i j hi hj =
-      augmented-at s work i j d long hi (omega arith) ∙ rw (lt-ltb j (size s) hj)
+  unfolding assembled
+  left-half = laid-left (size s) (entry s) work d long
 
   pub matrix-at : (u v : Index) → Within s u → Within s v → getD (assembled s work) (rowOf s u * (2 * size s) + rowOf s v) d ≡ coefficientOf s u v
   matrix-at u v hu hv = left-half (rowOf s u) (rowOf s v) (row-below s u hu) (row-below s v hv) ∙ entry-is s u v hu hv
 
   -- in the right half, column j of row i
-  right-half : (i j : ℕ) → i < size s → j < size s → getD (assembled s work) (i * (2 * size s) + (size s + j)) d ≡ cond (eqb (size s + j) (size s + i)) one zero
-  unfolding augmented
-  right-half i j hi hj =
-      augmented-at s work i (size s + j) d long hi (omega arith) ∙ rw (le-ltb (size s + j) (size s) (omega arith))
+  pub identity-one : (i : ℕ) → i < size s → getD (assembled s work) (i * (2 * size s) + (size s + i)) d ≡ oneFloat
+  unfolding assembled
+  identity-one = laid-one (size s) (entry s) work d long
 
-  pub identity-one : (i : ℕ) → i < size s → getD (assembled s work) (i * (2 * size s) + (size s + i)) d ≡ one
-  identity-one i h = right-half i i h h ∙ ap (λ (b : Bool). cond b one zero) (eq-eqb (size s + i) (size s + i) refl)
-
-  pub identity-zero : (i j : ℕ) → i < size s → j < size s → i ≢ j → getD (assembled s work) (i * (2 * size s) + (size s + j)) d ≡ zero
-  identity-zero i j hi hj n = right-half i j hi hj ∙ ap (λ (b : Bool). cond b one zero) (ne-eqb (size s + j) (size s + i) (λ e. n (omega arith)))
+  pub identity-zero : (i j : ℕ) → i < size s → j < size s → i ≢ j → getD (assembled s work) (i * (2 * size s) + (size s + j)) d ≡ zeroFloat
+  unfolding assembled
+  identity-zero = laid-zero (size s) (entry s) work d long
 
 -- ---- the right-hand side and the variance of a node
 pub right-length : (s : Survey) (q : ℕ) → length (rightHand s q) ≡ size s
@@ -121,8 +106,8 @@ unfolding entry
 symmetric s i j = by (ltb i (wells s)) (ltb j (wells s))
   where
     by : (p q : Bool)
-        → cond p (cond q (between s i j) (drift s i (j - wells s))) (cond q (drift s j (i - wells s)) zero)
-        ≡ cond q (cond p (between s j i) (drift s j (i - wells s))) (cond p (drift s i (j - wells s)) zero)
+        → cond p (cond q (between s i j) (drift s i (j - wells s))) (cond q (drift s j (i - wells s)) zeroFloat)
+        ≡ cond q (cond p (between s j i) (drift s j (i - wells s))) (cond p (drift s i (j - wells s)) zeroFloat)
     by true true = between-back s i j
     by true false = refl
     by false true = refl

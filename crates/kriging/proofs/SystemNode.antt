@@ -6,7 +6,9 @@ use lib.ListN.{getD}
 use lib.Ieee.{Float, nan, binary64, mul, ofBits}
 use Rattle.ieee.specs.Floats.{maxOf}
 use Rattle.kriging.specs.Survey.{Survey, wells, columns, size, valueAt}
-use Rattle.kriging.specs.Node.{runningSum, inverseAt, solution, figureOf, varianceOf}
+use Rattle.ieee.specs.Sums.{runningSum}
+use Rattle.elimination.specs.Inverse.{inverseAt}
+use Rattle.kriging.specs.Node.{solution, figureOf, varianceOf}
 use Rattle.kriging.specs.Fit.{Node, nodeOf}
 use Rattle.kriging.specs.System.{nodePlace, Index, Well, Drift, Within, rightOf, addedTo, varianceSum, rowOf}
 use Rattle.kriging.proofs.System.{row-below, right-is, variance-is}

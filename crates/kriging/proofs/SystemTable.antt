@@ -9,7 +9,8 @@ use mathlib.Core.List.{List, [], _∷_, _++_}
 use lib.ListN.{length, getD, length-append, List·getD-append}
 use lib.Seq.{getD-append-add, getD-at}
 use lib.Ieee.{Float, binary64, add, ofBits}
-use Rattle.kriging.specs.Node.{table, runningSum}
+use Rattle.ieee.specs.Sums.{runningSum}
+use Rattle.kriging.specs.Node.{table}
 use Rattle.kriging.specs.System.{addedTo}
 
 pub table-length : {A : Type 0} (k : ℕ) (f : ℕ → A) → length (table k f) ≡ k

@@ -1,24 +1,21 @@
 -- The matrix of a fit: paper 01, "Assembly". Assumes nothing.
-use Prim.Native.Nat.{ℕ, _+_, _-_, _*_, _/_, _%_}
+use Prim.Native.Nat.{ℕ, _-_}
 use mathlib.Core.Bool.{cond}
 use mathlib.Core.List.{List}
 use lib.Dec.{eqb, ltb}
-use lib.Ieee.{Float, binary64, add, ofBits}
-use Rattle.area.specs.Area.{written}
+use lib.Ieee.{Float, binary64, add}
 use Rattle.variogram.specs.Model.{semivariance}
 use Rattle.variogram.specs.Distance.{distance2d}
+use Rattle.elimination.specs.Inverse.{zeroFloat, laid}
 use Rattle.kriging.specs.Survey.{Survey, wells, size, wellX, wellY}
-use Rattle.kriging.specs.Drift.{drift, one}
-
-abbrev pub zero : Float
-zero = ofBits binary64 0
+use Rattle.kriging.specs.Drift.{drift}
 
 -- "variogram between different wells, 0 + r on the diagonal"
 unfoldable pub between : Survey → ℕ → ℕ → Float
 unfolding semivariance distance2d
 between s i j =
     cond (eqb i j)
-    (add binary64 zero (s .options .regularization))
+    (add binary64 zeroFloat (s .options .regularization))
     (semivariance (s .options .variogram) (distance2d (wellX s i) (wellY s i) (wellX s j) (wellY s j)))
 
 -- "Upper left: variogram ..  Beside and below: F and its transpose; Lower right: zeros."
@@ -28,14 +25,9 @@ entry s i j =
     let n = wells s in
     cond (ltb i n)
     (cond (ltb j n) (between s i j) (drift s i (j - n)))
-    (cond (ltb j n) (drift s j (i - n)) zero)
+    (cond (ltb j n) (drift s j (i - n)) zeroFloat)
 
--- "The matrix beside the identity, s rows of 2s"
-unfoldable pub augmented : Survey → ℕ → ℕ → Float
-unfolding entry
-augmented s i j = cond (ltb j (size s)) (entry s i j) (cond (eqb j (size s + i)) one zero)
-
--- a work area with it, row after row
+-- "The matrix beside the identity, s rows of 2s", in a work area
 unfoldable pub assembled : Survey → List Float → List Float
-unfolding augmented
-assembled s work = written 0 (2 * size s * size s) (λ t. augmented s (t / (2 * size s)) (t % (2 * size s))) work
+unfolding entry laid
+assembled s work = laid (size s) (entry s) work

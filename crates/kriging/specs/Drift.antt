@@ -4,18 +4,16 @@ use mathlib.Core.Bool.{cond}
 use mathlib.Core.List.{List, [], _∷_, _++_}
 use lib.Dec.{eqb}
 use lib.ListN.{getD}
-use lib.Ieee.{Float, nan, binary64, mul, ofBits}
+use lib.Ieee.{Float, nan, binary64, mul}
+use Rattle.elimination.specs.Inverse.{oneFloat}
 use Rattle.kriging.specs.Survey.{Survey, wellX, wellY, wellExternal, nodeX, nodeY, nodeExternalAt}
-
-abbrev pub one : Float
-one = ofBits binary64 0x3ff0_0000_0000_0000
 
 -- "1; 1, x, y; 1, x, y, x², xy, y²; or the external value": the columns of one code at x, y with the external value e
 abbrev pub block : ℕ → Float → Float → Float → List Float
 block c x y e =
-    cond (eqb c 1) (one ∷ [])
-    (cond (eqb c 2) (one ∷ x ∷ y ∷ [])
-    (cond (eqb c 3) (one ∷ x ∷ y ∷ mul binary64 x x ∷ mul binary64 x y ∷ mul binary64 y y ∷ [])
+    cond (eqb c 1) (oneFloat ∷ [])
+    (cond (eqb c 2) (oneFloat ∷ x ∷ y ∷ [])
+    (cond (eqb c 3) (oneFloat ∷ x ∷ y ∷ mul binary64 x x ∷ mul binary64 x y ∷ mul binary64 y y ∷ [])
     (cond (eqb c 4) (e ∷ []) [])))
 
 -- "row i of F joins .., in basis order": each code 4 takes the next external column; `used` are taken already

@@ -1,6 +1,6 @@
 -- A fit, from a survey and the areas lent to the answer and the areas at exit. Assumes nothing.
 use Prim.Native.Nat.{ℕ, zero, suc, _+_, _-_, _*_, _/_, _%_}
-use mathlib.Core.Bool.{true, false, cond}
+use mathlib.Core.Bool.{true, cond}
 use mathlib.Core.List.{List}
 use lib.Dec.{eqb}
 use lib.ListN.{getD}
@@ -9,13 +9,13 @@ use Rattle.area.specs.Area.{written}
 use Rattle.error.specs.Numbers.{numberOf}
 use Rattle.elimination.specs.declared.Elimination.{Elimination}
 use Rattle.elimination.specs.declared.Elimination.the-variants.{Done, Stopped, TooShort}
-use Rattle.elimination.specs.Elimination.{Outcome, eliminated}
+use Rattle.elimination.specs.Elimination.{eliminated}
 use Rattle.kriging.specs.declared.Fit.{Fit}
 use Rattle.kriging.specs.declared.Fit.the-variants as fit
 use Rattle.kriging.specs.Survey.{Survey, Areas, wells, nodeCount, columns, size, valueAt}
-use Rattle.kriging.specs.Drift.{wellRow, nodeRow, drift}
+use Rattle.kriging.specs.Drift.{nodeRow, drift}
 use Rattle.kriging.specs.Assembly.{assembled}
-use Rattle.kriging.specs.Node.{table, rightHand, solution, figureOf, varianceOf}
+use Rattle.kriging.specs.Node.{rightHand, solution, figureOf, varianceOf}
 use Rattle.kriging.specs.Audit.{Audited, verdictOf}
 use Rattle.kriging.specs.Refusals.{refusal}
 

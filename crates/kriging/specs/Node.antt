@@ -1,11 +1,11 @@
 -- One node: paper 01, "Node". Assumes nothing.
-use Prim.Native.Nat.{ℕ, zero, suc, _+_, _-_, _*_}
-use mathlib.Core.Bool.{cond}
+use Prim.Native.Nat.{ℕ, zero, suc}
 use mathlib.Core.List.{List, [], _∷_, _++_}
-use lib.Dec.{ltb}
 use lib.ListN.{getD}
-use lib.Ieee.{Float, nan, binary64, add, mul, ofBits}
+use lib.Ieee.{Float, nan, binary64, mul, ofBits}
 use Rattle.ieee.specs.Floats.{maxOf}
+use Rattle.ieee.specs.Sums.{runningSum}
+use Rattle.elimination.specs.Inverse.{timesInverse}
 use Rattle.variogram.specs.Model.{semivariance}
 use Rattle.variogram.specs.Distance.{distance2d}
 use Rattle.kriging.specs.Survey.{Survey, wells, size, wellX, wellY, nodeX, nodeY, valueAt}
@@ -16,11 +16,6 @@ abbrev pub table : {A : Type 0} → ℕ → (ℕ → A) → List A
 table zero f = []
 table (suc k) f = table k f ++ (f k ∷ [])
 
--- "summed from 0 by rising column": f 0, f 1, .. added in turn, each addition rounded
-unfoldable pub runningSum : ℕ → (ℕ → Float) → Float
-runningSum zero f = ofBits binary64 0
-runningSum (suc k) f = add binary64 (runningSum k f) (f k)
-
 -- "b is the variogram to each well, then the node's drift entries f0"
 unfoldable pub rightHand : Survey → ℕ → List Float
 unfolding semivariance distance2d
@@ -28,14 +23,10 @@ rightHand s q =
     table (wells s) (λ i. semivariance (s .options .variogram) (distance2d (wellX s i) (wellY s i) (nodeX s q) (nodeY s q)))
     ++ nodeRow s q
 
--- "The right half is the inverse": its entry in row i and column j
-abbrev pub inverseAt : ℕ → List Float → ℕ → ℕ → Float
-inverseAt size work i j = getD work (i * (2 * size) + (size + j)) nan
-
--- "z = inverse times b, summed from 0 by rising column"
+-- "z = inverse times b"
 unfoldable pub solution : ℕ → List Float → List Float → List Float
-unfolding runningSum
-solution size work b = table size (λ i. runningSum size (λ j. mul binary64 (inverseAt size work i j) (getD b j nan)))
+unfolding timesInverse
+solution size work b = table size (timesInverse size work (λ j. getD b j nan))
 
 -- "Figure: Σ z_i·value_i"
 unfoldable pub figureOf : Survey → List Float → Float

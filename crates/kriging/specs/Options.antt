@@ -1,7 +1,7 @@
 -- "Named default options: Constant, Spherical 0, 1, 1, r = 1e-10." Assumes nothing.
 use Prim.Native.Nat.{ℕ}
 use mathlib.Core.List.{List, [], _∷_}
-use lib.Ieee.{Float, binary64, ofBits}
+use lib.Ieee.{binary64, ofBits}
 use Rattle.variogram.specs.Model.{variogram}
 use Rattle.variogram.specs.declared.VariogramModel.the-variants.{Spherical}
 use Rattle.kriging.specs.declared.UniversalKrigingOptions.{UniversalKrigingOptions}

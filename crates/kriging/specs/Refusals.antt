@@ -1,8 +1,8 @@
 -- What turns a fit away before it eliminates: paper 01, "What turns a call away", numbers 1 to 18, each from its own line. "The lowest applying number wins in a fit." Assumes nothing.
-use Prim.Native.Nat.{ℕ, _+_, _*_, _%_}
+use Prim.Native.Nat.{ℕ, _*_, _%_}
 use mathlib.Core.Bool.{Bool, true, false, not, _&&_, _||_}
 use mathlib.Core.List.{List, [], _∷_}
-use lib.Dec.{leb, ltb, eqb}
+use lib.Dec.{ltb, eqb}
 use lib.ListN.{length}
 use lib.Ieee.{Float, binary64, lt, ofBits}
 use lib.Ieee.Scale.{finite}
@@ -10,7 +10,6 @@ use Rattle.error.specs.Tests.{Test, test, firstOf}
 use Rattle.ieee.specs.Finite.{allFinite}
 use Rattle.variogram.specs.declared.VariogramModel.{VariogramModel}
 use Rattle.variogram.specs.declared.VariogramModel.the-variants.{Spherical, Exponential, Gaussian, Linear}
-use Rattle.variogram.specs.declared.Variogram.{Variogram}
 use Rattle.kriging.specs.Limits.{mostWells, mostColumns, mostNodes}
 use Rattle.kriging.specs.Survey.{Survey, Areas, wells, nodeCount, columns, externals, size}
 

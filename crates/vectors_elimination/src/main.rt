@@ -1,4 +1,5 @@
-// Replays inverses of the original Rust: standard input has a record for each, as tools/oracle/make_vectors.py wrote it.
+// Replays inverses of the original Rust, and then whole work areas by another reading of the paper: standard input has a record for each,
+// as tools/oracle/make_vectors.py and tools/oracle/elimination_areas.py wrote them.
 // Writes a line for each record that comes out otherwise, and then how many were compared and how many differ.
 ghost use Prim.Native.Nat.{_≤_};
 use elimination::Elimination;
@@ -8,6 +9,11 @@ use vectors::Tally;
 const LARGEST: usize = 60;
 
 const AREA: usize = 7200;
+
+// The most rows of a record that has whole areas, and how many numbers such an area has past its matrix.
+const LARGEST_WHOLE: usize = 12;
+
+const PAST: usize = 3;
 
 // An answer's first word: an inverse follows, or there is none.
 const OK: u64 = 0;
@@ -124,6 +130,70 @@ fn agrees(head: Head, work: &mut [f64]) -> bool {
     !done && outcome == NONE && head.asked == n + 1 && head.answered == 1
 }
 
+// The next n numbers that come in, at the start of the area.
+fn load_all(work: &mut [f64], n: usize) {
+    let mut at = 0;
+    while at < work.len() && at < n {
+        work[at] = vectors::float(vectors::next_word().value);
+        at += 1;
+    }
+}
+
+// How many of the first n numbers are others than those that come in.
+fn all_differences(work: &[f64], n: usize) -> u64 {
+    let mut differ = 0;
+    let mut at = 0;
+    while at < work.len() && at < n {
+        if vectors::pattern(work[at]) != vectors::next_word().value {
+            differ = std::num::wrapping_add_u64(differ, 1);
+        }
+        at += 1;
+    }
+    differ
+}
+
+// 0, or the step at which it stopped, from 1. No record has the last line's number.
+fn outcome_of(answer: Elimination) -> u64 {
+    match answer {
+        Elimination::Done => 0,
+        Elimination::Stopped(step) => std::num::wrapping_add_u64(step as u64, 1),
+        Elimination::TooShort => u64::MAX,
+    }
+}
+
+// What came of the call: 6 is the fit's elimination, and 7 the interpolator's. No call has another number.
+fn outcome(call: u64, work: &mut [f64], size: usize) -> u64 {
+    if call == 6 {
+        return outcome_of(elimination::gauss_jordan_invert_uked(work, size));
+    }
+    if call == 7 {
+        return outcome_of(elimination::matrix_inverse(work, size));
+    }
+    u64::MAX
+}
+
+// The numbers of an area.
+fn area_numbers(size: usize) -> usize
+    requires { ⌜ size ≤ 12 ⌝ }
+    ensures { λ r. ⌜ r ≤ 291 ⌝ }
+{
+    2 * size * size + PAST
+}
+
+// Whether the call ends as the record says, and leaves the area as the record says, both halves and past them.
+fn agrees_whole(head: Head, work: &mut [f64]) -> bool {
+    let size = head.size;
+    if size > LARGEST_WHOLE {
+        return false;
+    }
+    let n = area_numbers(size);
+    load_all(work, n);
+    let came = outcome(head.call, work, size);
+    let wanted = vectors::next_word().value;
+    let differ = all_differences(work, n);
+    came == wanted && differ == 0 && head.asked == n as u64 + 1 && head.answered == n as u64 + 1
+}
+
 fn next_head() -> Head {
     let call = vectors::next_word();
     let asked = vectors::next_word().value;
@@ -143,6 +213,9 @@ fn replayed(t: Tally, work: &mut [f64]) -> Tally {
     let head = next_head();
     if !head.more {
         return vectors::ended(t);
+    }
+    if head.call > 5 {
+        return vectors::counted(t, agrees_whole(head, work));
     }
     vectors::counted(t, agrees(head, work))
 }

@@ -1,6 +1,6 @@
 -- `ieee::is_finite` meets its contract: a finite number less itself is +0, and an infinity less itself is a NaN. Assumes nothing.
 use mathlib.Core.Path.{_≡_, refl}
-use mathlib.Core.Bool.{Bool, true, false}
+use mathlib.Core.Bool.{true, false}
 use lib.Ieee.{Float, nan, inf, fin, eq, sub, ofBits, binary64}
 use lib.Ieee.Scale.{finite}
 use Rattle.ieee.proofs.Zero.{sub-self}

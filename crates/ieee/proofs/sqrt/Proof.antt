@@ -1,6 +1,5 @@
 -- `ieee::sqrt` meets its contract, by the cases of its tests. Assumes nothing.
 use mathlib.Core.Path.{sym, _∙_}
-use mathlib.Core.Bool.{not}
 use borrow.Author.Needs.{needs}
 use lib.Ieee.{lt, eq, ofBits, binary64}
 use lib.Ieee.Scale.{finite}
