@@ -1,18 +1,13 @@
--- A product of two f64 as a term of three words, and what three words added or taken away come to. Assumes nothing.
-use Prim.Native.Nat.{ℕ, suc, _+_, _*_, _/_, _%_, _^_}
+-- A product of two f64 as a term of three words, added or taken away by its sign. Assumes nothing.
+use Prim.Native.Nat.{ℕ, _+_, _*_, _/_, _%_, _^_}
 use native.Mathlib.Nat.{mul-assoc, mul-mul-mul-comm}
-use native.Mathlib.Numerals.{add-one, add-two}
 use native.Mathlib.Omega.{arith}
 use mathlib.Core.Path.{_≡_, refl, sym, ap, ap₂, _∙_}
 use mathlib.Core.Bool.{Bool, true, false, not}
-use mathlib.Core.List.{List}
 use lib.Pow.{pow-add}
-use lib.IntN.{ℤ, pos, negℤ, _+ℤ_, _-ℤ_, _*ℤ_, +ℤ-assoc, negℤ-negℤ, negℤ-+ℤ}
+use lib.IntN.{ℤ, pos, negℤ, _+ℤ_, _-ℤ_, _*ℤ_, negℤ-negℤ}
 use Rattle.ieee.specs.Values.{signed}
-use Rattle.exact.specs.Words.{reading, held}
 use Rattle.exact.proofs.Whole.{negℤ-*ℤ, *ℤ-negℤ}
-use Rattle.exact.proofs.Words.{place-suc}
-use Rattle.exact.proofs.Held.{held-add}
 
 -- ---- signs
 
@@ -40,47 +35,6 @@ shifted-product m n i j w v e f =
     ∙ ap₂ (λ (x y : ℕ). x * y) (sym e) (sym (pow-add 2 i j) ∙ ap (λ (x : ℕ). 2 ^ x) s ∙ pow-add 2 r (64 * q))
     ∙ sym (mul-assoc w (2 ^ r) (2 ^ (64 * q)))
     ∙ ap (λ (x : ℕ). x * 2 ^ (64 * q)) (sym f)
-
--- ---- three words
-
-weights : (b low middle high p : ℕ) → low * p + middle * (b * p) + high * (b * (b * p)) ≡ (low + b * (middle + b * high)) * p
-weights b low middle high p = omega arith
-
-three : (low middle high i : ℕ)
-    → low * 2 ^ (64 * i) + middle * 2 ^ (64 * (i + 1)) + high * 2 ^ (64 * (i + 2)) ≡ (low + 2 ^ 64 * (middle + 2 ^ 64 * high)) * 2 ^ (64 * i)
-three low middle high i =
-    let b = 2 ^ 64 in
-    let p = 2 ^ (64 * i) in
-    let one : 2 ^ (64 * (i + 1)) ≡ b * p = ap (λ (n : ℕ). 2 ^ (64 * n)) (add-one i) ∙ place-suc i in
-    let two : 2 ^ (64 * (i + 2)) ≡ b * (b * p) =
-    ap (λ (n : ℕ). 2 ^ (64 * n)) (add-two i) ∙ place-suc (suc i) ∙ ap (λ (n : ℕ). b * n) (place-suc i) in
-    ap₂ (λ (x y : ℕ). low * p + middle * x + high * y) one two ∙ weights b low middle high p
-
-module _ (sum first second third : List ℕ) (low middle high i : ℕ) where
-  pub three-added : first ≡ held (reading sum +ℤ pos (low * 2 ^ (64 * i))) → second ≡ held (reading first +ℤ pos (middle * 2 ^ (64 * (i + 1))))
-      → third ≡ held (reading second +ℤ pos (high * 2 ^ (64 * (i + 2)))) → third ≡ held (reading sum +ℤ pos ((low + 2 ^ 64 * (middle + 2 ^ 64 * high)) * 2 ^ (64 * i)))
-  three-added f s t =
-      let x = reading sum in
-      let l = pos (low * 2 ^ (64 * i)) in
-      let m = pos (middle * 2 ^ (64 * (i + 1))) in
-      let h = pos (high * 2 ^ (64 * (i + 2))) in
-      let s′ : second ≡ held (x +ℤ l +ℤ m) = s ∙ ap (λ (ws : List ℕ). held (reading ws +ℤ m)) f ∙ held-add (x +ℤ l) m in
-      t ∙ ap (λ (ws : List ℕ). held (reading ws +ℤ h)) s′ ∙ held-add (x +ℤ l +ℤ m) h
-      ∙ ap held (ap (λ (z : ℤ). z +ℤ h) (+ℤ-assoc x l m) ∙ +ℤ-assoc x (l +ℤ m) h ∙ ap (λ (n : ℕ). x +ℤ pos n) (three low middle high i))
-
-  pub three-taken : first ≡ held (reading sum -ℤ pos (low * 2 ^ (64 * i))) → second ≡ held (reading first -ℤ pos (middle * 2 ^ (64 * (i + 1))))
-      → third ≡ held (reading second -ℤ pos (high * 2 ^ (64 * (i + 2)))) → third ≡ held (reading sum -ℤ pos ((low + 2 ^ 64 * (middle + 2 ^ 64 * high)) * 2 ^ (64 * i)))
-  three-taken f s t =
-      let x = reading sum in
-      let l = pos (low * 2 ^ (64 * i)) in
-      let m = pos (middle * 2 ^ (64 * (i + 1))) in
-      let h = pos (high * 2 ^ (64 * (i + 2))) in
-      let s′ : second ≡ held (x -ℤ l -ℤ m) = s ∙ ap (λ (ws : List ℕ). held (reading ws -ℤ m)) f ∙ held-add (x -ℤ l) (negℤ m) in
-      let n : negℤ l +ℤ negℤ m +ℤ negℤ h ≡ negℤ (l +ℤ m +ℤ h) = sym (negℤ-+ℤ (l +ℤ m) h ∙ ap (λ (z : ℤ). z +ℤ negℤ h) (negℤ-+ℤ l m)) in
-      t ∙ ap (λ (ws : List ℕ). held (reading ws -ℤ h)) s′ ∙ held-add (x -ℤ l -ℤ m) (negℤ h)
-      ∙ ap held (
-      ap (λ (z : ℤ). z -ℤ h) (+ℤ-assoc x (negℤ l) (negℤ m)) ∙ +ℤ-assoc x (negℤ l +ℤ negℤ m) (negℤ h) ∙ ap (λ (z : ℤ). x +ℤ z) n
-      ∙ ap (λ (k : ℕ). x -ℤ pos k) (three low middle high i))
 
 -- ---- a signed term: taken away where it is negative
 

@@ -1,13 +1,13 @@
 // Exact sums of products of f64, in 67 words of 64 bits, in two's complement: nothing is ever rounded.
 // The unit is 2^-2148, the product of two of the smallest f64 above zero.
 ghost use mathlib.Core.Path.{_≡_};
-ghost use mathlib.Core.Bool.{not};
+ghost use mathlib.Core.Bool.{true, not};
 ghost use Prim.Native.Nat.{_+_, _*_, _^_, _<_, _≤_};
 ghost use lib.IntN.{pos, negℤ, natAbs, _+ℤ_, _-ℤ_, _*ℤ_};
 ghost use lib.Signed.{leZ, nonNeg};
 ghost use Rattle.ieee.specs.Values.{signed};
 ghost use Rattle.exact.specs.Units.{units};
-ghost use Rattle.exact.specs.Words.{reading, held};
+ghost use Rattle.exact.specs.Words.{reading, held, carryOf, borrowOf};
 
 // A number by its sign, its significand and its shift: ±significand·2^shift, in units of 2^-1074.
 struct Parts {
@@ -107,46 +107,6 @@ fn shifted(product: Wide, shift: u64, negative: bool, place: usize) -> Term
     }
 }
 
-// sum + word·2^(64·place): each word is added with wrap, and its carry, which a sum below a summand shows, is passed up as far as it goes.
-fn add_at(sum: [u64; 67], place: usize, word: u64) -> [u64; 67]
-    ensures { λ r. ⌜ r ≡ held (reading sum +ℤ pos (word * 2 ^ (64 * place))) ⌝ }
-{
-    let mut total = sum;
-    let mut carry = word;
-    let mut i = place;
-    while i < 67 {
-        if carry == 0 {
-            return total;
-        }
-        let old = total[i];
-        let new = std::num::wrapping_add_u64(old, carry);
-        total[i] = new;
-        carry = if new < old { 1 } else { 0 };
-        i += 1; // the carry goes to the next word
-    }
-    total
-}
-
-// sum − word·2^(64·place): each word is taken away with wrap, and its borrow, which a difference above what was there shows, is passed up as far as it goes.
-fn sub_at(sum: [u64; 67], place: usize, word: u64) -> [u64; 67]
-    ensures { λ r. ⌜ r ≡ held (reading sum -ℤ pos (word * 2 ^ (64 * place))) ⌝ }
-{
-    let mut total = sum;
-    let mut borrow = word;
-    let mut i = place;
-    while i < 67 {
-        if borrow == 0 {
-            return total;
-        }
-        let old = total[i];
-        let new = std::num::wrapping_sub_u64(old, borrow);
-        total[i] = new;
-        borrow = if new > old { 1 } else { 0 };
-        i += 1; // the borrow is taken from the next word
-    }
-    total
-}
-
 // The product x·y as a term of a sum, in units of 2^-2148.
 fn term_of(x: f64, y: f64) -> Term
     ensures { λ r. ⌜ (units x *ℤ units y ≡ signed (r .negative) ((r .low + 2 ^ 64 * (r .middle + 2 ^ 64 * r .high)) * 2 ^ (64 * r .place))) × (r .place ≤ 63) ⌝ }
@@ -162,24 +122,94 @@ fn term_of(x: f64, y: f64) -> Term
     shifted(product, shift % 64, b.negative, place)
 }
 
-// sum + low·2^(64·place) + middle·2^(64·(place + 1)) + high·2^(64·(place + 2))
-fn add_words(sum: [u64; 67], term: Term) -> [u64; 67]
-    requires { ⌜ term .place ≤ 63 ⌝ }
-    ensures { λ r. ⌜ r ≡ held (reading sum +ℤ pos ((term .low + 2 ^ 64 * (term .middle + 2 ^ 64 * term .high)) * 2 ^ (64 * term .place))) ⌝ }
+// Whether nothing is left to add or to take away.
+fn is_done(a: u64, b: u64, c: u64, d: u64) -> bool
+    ensures { λ r. ⌜ (r ≡ true → (a ≡ 0) × (b ≡ 0) × (c ≡ 0) × (d ≡ 0)) ⌝ }
 {
-    let with_low = add_at(sum, term.place, term.low);
-    let with_middle = add_at(with_low, term.place + 1, term.middle);
-    add_at(with_middle, term.place + 2, term.high)
+    if a != 0 {
+        return false;
+    }
+    if b != 0 {
+        return false;
+    }
+    if c != 0 {
+        return false;
+    }
+    d == 0
 }
 
-// sum − low·2^(64·place) − middle·2^(64·(place + 1)) − high·2^(64·(place + 2))
+// The carry of a word to which a word, which gave `part`, and a carry were added: a sum that wrapped is below its summand.
+fn carry_of(old: u64, part: u64, new: u64) -> u64
+    ensures { λ r. ⌜ r ≡ carryOf old part new ⌝ }
+{
+    if part < old {
+        return 1;
+    }
+    if new < part { 1 } else { 0 }
+}
+
+// The borrow of a word from which a word, which left `part`, and a borrow were taken: a difference that wrapped is above what was there.
+fn borrow_of(old: u64, part: u64, new: u64) -> u64
+    ensures { λ r. ⌜ r ≡ borrowOf old part new ⌝ }
+{
+    if part > old {
+        return 1;
+    }
+    if new > part { 1 } else { 0 }
+}
+
+// sum + (low + 2^64·middle + 2^128·high)·2^(64·place), in one pass: each word is added with wrap, and its carry is passed up as far as it goes.
+fn add_words(sum: [u64; 67], term: Term) -> [u64; 67]
+    ensures { λ r. ⌜ r ≡ held (reading sum +ℤ pos ((term .low + 2 ^ 64 * (term .middle + 2 ^ 64 * term .high)) * 2 ^ (64 * term .place))) ⌝ }
+{
+    let mut total = sum;
+    let mut low = term.low;
+    let mut middle = term.middle;
+    let mut high = term.high;
+    let mut carry = 0;
+    let mut i = term.place;
+    while i < 67 {
+        if is_done(carry, low, middle, high) {
+            return total;
+        }
+        let old = total[i];
+        let part = std::num::wrapping_add_u64(old, low);
+        let new = std::num::wrapping_add_u64(part, carry);
+        total[i] = new;
+        carry = carry_of(old, part, new);
+        low = middle;
+        middle = high;
+        high = 0;
+        i += 1; // the carry goes to the next word
+    }
+    total
+}
+
+// sum − (low + 2^64·middle + 2^128·high)·2^(64·place), in one pass: each word is taken away with wrap, and its borrow is passed up as far as it goes.
 fn sub_words(sum: [u64; 67], term: Term) -> [u64; 67]
-    requires { ⌜ term .place ≤ 63 ⌝ }
     ensures { λ r. ⌜ r ≡ held (reading sum -ℤ pos ((term .low + 2 ^ 64 * (term .middle + 2 ^ 64 * term .high)) * 2 ^ (64 * term .place))) ⌝ }
 {
-    let without_low = sub_at(sum, term.place, term.low);
-    let without_middle = sub_at(without_low, term.place + 1, term.middle);
-    sub_at(without_middle, term.place + 2, term.high)
+    let mut total = sum;
+    let mut low = term.low;
+    let mut middle = term.middle;
+    let mut high = term.high;
+    let mut borrow = 0;
+    let mut i = term.place;
+    while i < 67 {
+        if is_done(borrow, low, middle, high) {
+            return total;
+        }
+        let old = total[i];
+        let part = std::num::wrapping_sub_u64(old, low);
+        let new = std::num::wrapping_sub_u64(part, borrow);
+        total[i] = new;
+        borrow = borrow_of(old, part, new);
+        low = middle;
+        middle = high;
+        high = 0;
+        i += 1; // the borrow is taken from the next word
+    }
+    total
 }
 
 // sum + x·y, exactly. An operand that is not finite leaves the sum as it is.
@@ -218,7 +248,14 @@ fn negated(sum: [u64; 67]) -> [u64; 67]
     let mut rest = [0; 67];
     let mut i = 0;
     while i < 67 {
-        let next = sub_at(rest, i, sum[i]);
+        let word = Term {
+            negative: false,
+            place: i,
+            low: sum[i],
+            middle: 0,
+            high: 0,
+        };
+        let next = sub_words(rest, word);
         rest = next;
         i += 1;
     }

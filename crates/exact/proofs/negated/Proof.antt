@@ -3,6 +3,7 @@
 use Prim.Native.Nat.{ℕ, _+_, _-_, _*_, _^_, _≤_, _<_}
 use mathlib.Core.Path.{_≡_, sym, ap, _∙_}
 use mathlib.Core.List.{List}
+use native.Mathlib.Nat.{add-zero}
 use native.Mathlib.Omega.{arith}
 use native.Mathlib.Numerals.{add-one}
 use borrow.Author.Needs.{needs}
@@ -25,14 +26,14 @@ abbrev μ-loop : tie.MeasureT-loop
 loop-holds : tie.Need-loop-holds Inv-loop μ-loop
 loop-holds c = (omega arith, their-length 67 (c .args .t1) _ (c .good .0), held-zero)
 
-mul-sub-at : tie.Need-mul-sub-at Inv-loop μ-loop
-mul-sub-at c = omega arith
+mul-t8 : tie.Need-mul-t8 Inv-loop μ-loop
+mul-t8 c = omega arith
 
-array-read-sub-at : tie.Need-array-read-sub-at Inv-loop μ-loop
-array-read-sub-at c = omega arith
+array-read-t11 : tie.Need-array-read-t11 Inv-loop μ-loop
+array-read-t11 c = omega arith
 
-sub-at-requires : tie.Need-sub-at-requires Inv-loop μ-loop
-sub-at-requires c κs = search needs
+sub-words-requires : tie.Need-sub-words-requires Inv-loop μ-loop
+sub-words-requires c κs = search needs
 
 add-i : tie.Need-add-i Inv-loop μ-loop
 add-i c = omega arith
@@ -53,7 +54,7 @@ loop-again : tie.Need-loop-again Inv-loop μ-loop
 loop-again c =
     let l = c .before .before .loop in
     let sum = c .before .before .before .args .t1 in
-    (omega arith, l .inv .1, turn sum (l .rest) (c .sub-at .result) (l .i) (omega arith) (l .inv .2) (c .sub-at .ensures))
+    (omega arith, l .inv .1, turn sum (l .rest) (c .sub-words .result) (l .i) (omega arith) (l .inv .2) (c .sub-words .ensures ∙ ap (λ (w : ℕ). held (reading (l .rest) -ℤ pos (w * 2 ^ (64 * l .i)))) (add-zero (getD sum (l .i) 0))))
 
 returns : tie.Need-returns Inv-loop μ-loop
 returns c =
@@ -69,9 +70,9 @@ negated-spec =
     Inv-loop
     μ-loop
     loop-holds
-    mul-sub-at
-    array-read-sub-at
-    sub-at-requires
+    mul-t8
+    array-read-t11
+    sub-words-requires
     add-i
     loop-less
     loop-again
