@@ -3,36 +3,24 @@ use Prim.Native.Nat.{ℕ, _+_, _*_, _<_}
 use native.Mathlib.Decide.{ℕ-discrete}
 use native.Mathlib.Omega.{arith}
 use mathlib.Core.Path.{_≡_, refl, ap, _∙_}
-use mathlib.Core.Bool.{true}
 use borrow.Author.Tests.{eq-eqb}
 use lib.Dec.{T}
 use lib.ListN.{length, getD}
-use lib.Ieee.{Float, nan, fin, binary64, add, mul, lt, ofBits, round}
+use lib.Ieee.{Float, nan, binary64, add, ofBits}
 use lib.Ieee.Scale.{finite}
-use Rattle.ieee.specs.Root.{sqrtOf}
 use Rattle.ieee.proofs.FiniteLists.{is-finite}
-use Rattle.ieee.proofs.Zero.{sub-self}
 use Rattle.variogram.specs.declared.Variogram.{Variogram}
-use Rattle.variogram.specs.Model.{epsilon, semivariance}
-use Rattle.variogram.specs.Distance.{squaredDistance2d, distance2d}
-use Rattle.variogram.proofs.Model.{same-spot}
+use Rattle.variogram.specs.Model.{semivariance}
+use Rattle.variogram.specs.Distance.{distance2d}
+use Rattle.variogram.proofs.Itself.{distance2d-itself, variogram-itself}
 use Rattle.kriging.specs.Survey.{Survey, Areas, wells, wellX, wellY}
 use Rattle.kriging.specs.Refusals.{refusal}
 use Rattle.kriging.specs.Lowest.{coordinate, coordinates, numbers}
 use Rattle.kriging.specs.System.{wellPlace, variogramOf, Well, coefficientOf}
 use Rattle.kriging.proofs.Refusals.{none-exactly}
 
--- a place is at distance +0 of itself
-own-distance : (x y : Float) → T (finite x) → T (finite y) → distance2d x y x y ≡ ofBits binary64 0
-unfolding distance2d squaredDistance2d add mul round ofBits sqrtOf
-own-distance (fin s m e) (fin t n d) hx hy = rw (sub-self s m e, sub-self t n d)
-
-zero-near : lt (ofBits binary64 0) epsilon ≡ true
-unfolding lt ofBits
-zero-near = refl
-
 pub own-variogram : (v : Variogram) (x y : Float) → T (finite x) → T (finite y) → semivariance v (distance2d x y x y) ≡ ofBits binary64 0
-own-variogram v x y hx hy = same-spot v (distance2d x y x y) (ap (λ (h : Float). lt h epsilon) (own-distance x y hx hy) ∙ zero-near)
+own-variogram v x y hx hy = ap (semivariance v) (distance2d-itself x y hx hy) ∙ variogram-itself v
 
 module _ (s : Survey) (a : Areas) (none : refusal s a ≡ 0) where
   -- the coordinates of an accepted survey's wells are finite
