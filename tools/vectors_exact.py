@@ -4,7 +4,8 @@
 A finite f64 is read by its bits as a whole number of 2^-1074, as paper 01 says it; what is not finite counts as 0.
 The vectors: extreme, subnormal and zero operands of both signs, infinities and NaNs, sums that cancel to 0, to one
 unit and to minus one unit (a borrow or a carry that runs through every word), words that are all ones, and sums of
-random patterns. Each sum is also compared with the one before it.
+random patterns. Then dot products with a column of rows of every width, at and past the end of the list.
+Each sum is also compared with the one before it.
 Run: python3 tools/vectors_exact.py
 """
 import os
@@ -46,6 +47,10 @@ def reading(ws):
     return n if n < MOD // 2 else n - MOD
 
 
+def line(before, total):
+    return "%d %d %s| %s\n" % (before <= total, total < 0, shown(words(total)), shown(words(abs(total))))
+
+
 NEG = 1 << 63
 TINY, MAX, INF, NAN = 1, 0x7FEFFFFFFFFFFFFF, 0x7FF0000000000000, 0x7FF8000000000001
 ONE, LARGEST_SUBNORMAL, SMALLEST_NORMAL = bits(1.0), (1 << 52) - 1, 1 << 52
@@ -75,6 +80,23 @@ def vectors(rng):
         yield [(0, w, f) for w, f in zip(ws, fs)] + [(1, target, ONE)]
 
 
+def columns(rng):
+    """Dot products: z, f, column and width. What f does not have counts as 0."""
+    def pairs(n):
+        return [rng.choice(EDGES) | NEG * rng.randrange(2) for _ in range(n)], [rng.getrandbits(64) for _ in range(n)]
+
+    for n in (0, 1, 2, 3, 48, 64):
+        yield *pairs(n), 0, 1
+    for width in range(1, 13):  # as an audit has it: rows of `width`, the first column and the last
+        for column in sorted({0, width - 1}):
+            yield *pairs(24), column, width
+    for column, width in ((0, 0), (5, 0), (23, 1), (24, 1), (25, 0), (1, 23), (1, 22), (0, 24), (2**64 - 1, 1), (1, 2**64 - 1), (2**64 - 1, 2**64 - 1)):
+        yield *pairs(24), column, width
+    for _ in range(12):
+        n = rng.randrange(1, 64)
+        yield [bits(rng.uniform(-2, 2)) for _ in range(n)], [bits(rng.uniform(-1e6, 1e6)) for _ in range(n)], 0, 1
+
+
 def main():
     rng = random.Random(67)
     data, text, before = b"", "", 0
@@ -85,7 +107,14 @@ def main():
             total += (-1) ** kind * units(x) * units(y)
         data += struct.pack("<BQQ", 2, 0, 0)
         assert abs(total) < MOD // 2 and reading(words(total)) == total
-        text += "%d %d %s| %s\n" % (before <= total, total < 0, shown(words(total)), shown(words(abs(total))))
+        text += line(before, total)
+        before = total
+    for z, f, column, width in columns(rng):
+        for x, y in zip(z, f):
+            data += struct.pack("<BQQ", 3, x, y)
+        data += struct.pack("<BQQ", 4, column, width)
+        total = sum(units(x) * units(f[column + i * width]) for i, x in enumerate(z) if column + i * width < len(f))
+        text += line(before, total)
         before = total
     assert len(data) < 65536, len(data)
     for name, content in (("stdin", data), ("stdout", text.encode())):

@@ -1,8 +1,8 @@
--- Words added or taken away from a place on, with the carry or the borrow passed up: one turn, and the end. Assumes nothing.
+-- Words added or taken away from a place on, with the carry or the borrow passed up: one step, and the end. One law for both, by the sign. Assumes nothing.
 use Prim.Native.Nat.{ℕ, _+_, _-_, _*_, _%_, _^_, _≤_, _<_}
 use native.Mathlib.Nat.{mul-assoc, zero-mul, add-zero}
 use native.Mathlib.Omega.{arith}
-use mathlib.Core.Path.{_≡_, refl, sym, ap, ap₂, _∙_}
+use mathlib.Core.Path.{_≡_, refl, sym, ap, ap₂, _∙_, subst}
 use mathlib.Core.Bool.{Bool, true, false, cond}
 use lib.Dec.{ltb}
 use borrow.Author.Tests.{ltb-true, ltb-false}
@@ -10,12 +10,13 @@ use mathlib.Core.Logic.{_⊎_, inl, inr}
 use mathlib.Core.List.{List}
 use lib.ListN.{length}
 use lib.Pow.{pow-add}
-use lib.IntN.{ℤ, pos, negℤ, _+ℤ_, _-ℤ_, +ℤ-idr, +ℤ-negℤ-cancel}
+use lib.IntN.{ℤ, pos, negℤ, natAbs, _+ℤ_, _-ℤ_, +ℤ-negℤ-cancel, -ℤ-+ℤ-cancel}
+use Rattle.ieee.specs.Values.{signed}
 use Rattle.exact.specs.Words.{number, modulus, reading, residue, held, carryOf, borrowOf}
 use Rattle.exact.proofs.Whole.{+ℤ-swap}
 use Rattle.exact.proofs.Words.{Words}
-use Rattle.exact.proofs.Residue.{residue-below, residue-more, same-residue, residue-add}
-use Rattle.exact.proofs.Held.{modulus-words, number-below, held-is, reading-residue}
+use Rattle.exact.proofs.Residue.{residue-below, residue-either, residue-add}
+use Rattle.exact.proofs.Held.{modulus-words, number-below, held-is, held-number, reading-residue}
 
 -- the carry of a word: a sum that wrapped is below its summand, and of two additions in turn at most one wraps
 pub carry-most : (old part new : ℕ) → carryOf old part new ≤ 1
@@ -52,22 +53,45 @@ borrow-sum old low borrow part new o l k p n e f = go (ltb old part) (ltb part n
     go false true x y = let q = ltb-false old part x in let r = ltb-true part new y in omega arith
     go false false x y = let q = ltb-false old part x in let r = ltb-false part new y in omega arith
 
--- One turn at the place that weighs p, of words whose number was n and is m: old becomes new there, and of what is left to add, low goes.
-pub carry-turn : (n m old new low rest carry next p total : ℕ) → m + old * p ≡ n + new * p → old + low + carry ≡ new + next * 2 ^ 64
-    → n + (carry + (low + 2 ^ 64 * rest)) * p ≡ total → m + (next + rest) * (2 ^ 64 * p) ≡ total
-carry-turn n m old new low rest carry next p total e f g = omega (arith, ap (λ (x : ℕ). x * p) f)
+-- a ± t = b ± k: with t added to a, or taken away, there is b, and k is still to be added, or taken away
+abbrev pub Moved : Bool → ℕ → ℕ → ℕ → ℕ → Type 0
+Moved false a b t k = a + t ≡ b + k
+Moved true a b t k = b + t ≡ a + k
 
-pub borrow-turn : (n m old new low rest borrow next p taken total : ℕ) → m + old * p ≡ n + new * p → new + low + borrow ≡ old + next * 2 ^ 64
-    → n + taken ≡ total + (borrow + (low + 2 ^ 64 * rest)) * p → m + taken ≡ total + (next + rest) * (2 ^ 64 * p)
-borrow-turn n m old new low rest borrow next p taken total e f g = omega (arith, ap (λ (x : ℕ). x * p) f)
+pub moved-whole : (s : Bool) (a b t k : ℕ) → Moved s a b t k → pos a +ℤ signed s t ≡ pos b +ℤ signed s k
+moved-whole false a b t k h = ap pos h
+moved-whole true a b t k h =
+    let e : pos b +ℤ pos t ≡ pos a +ℤ pos k = ap pos h in
+    ap (λ (z : ℤ). z -ℤ pos t) (sym (+ℤ-negℤ-cancel (pos a) (pos k)) ∙ ap (λ (z : ℤ). z -ℤ pos k) (sym e))
+    ∙ +ℤ-swap (pos b +ℤ pos t) (negℤ (pos k)) (negℤ (pos t))
+    ∙ ap (λ (z : ℤ). z -ℤ pos k) (+ℤ-negℤ-cancel (pos b) (pos t))
 
--- nothing of a term and its carry is left
-pub none-left : (a b c d : ℕ) → a ≡ 0 → b ≡ 0 → c ≡ 0 → d ≡ 0 → a + (b + 2 ^ 64 * (c + 2 ^ 64 * d)) ≡ 0
-none-left a b c d p q r s = rw (p, q, r, s)
+pub whole-moved : (s : Bool) (a b t k : ℕ) → pos a +ℤ signed s t ≡ pos b +ℤ signed s k → Moved s a b t k
+whole-moved false a b t k h = ap natAbs h
+whole-moved true a b t k h =
+    ap natAbs (
+    ap (λ (z : ℤ). z +ℤ pos t) (sym (-ℤ-+ℤ-cancel (pos b) (pos k)) ∙ ap (λ (z : ℤ). z +ℤ pos k) (sym h))
+    ∙ +ℤ-swap (pos a -ℤ pos t) (pos k) (pos t)
+    ∙ ap (λ (z : ℤ). z +ℤ pos k) (-ℤ-+ℤ-cancel (pos a) (pos t)))
 
--- the words of a term move down by one place
-pub one-down : (next middle high p q : ℕ) → q ≡ 2 ^ 64 * p → (next + (middle + 2 ^ 64 * (high + 2 ^ 64 * 0))) * q ≡ (next + (middle + 2 ^ 64 * high)) * (2 ^ 64 * p)
-one-down next middle high p q e = ap₂ (λ (h x : ℕ). (next + (middle + 2 ^ 64 * h)) * x) (add-zero high) e
+-- nothing added yet
+pub moved-none : (s : Bool) (a t : ℕ) → Moved s a a t t
+moved-none false a t = refl
+moved-none true a t = refl
+
+-- One step at the place that weighs p, of words whose number was n and is m: old becomes new there, and of what is left, word goes.
+pub turn : (s : Bool) (a n m t old new word carry next rest p : ℕ) → m + old * p ≡ n + new * p → Moved s old new (word + carry) (2 ^ 64 * next)
+    → Moved s a n t ((carry + (word + 2 ^ 64 * rest)) * p) → Moved s a m t ((next + rest) * (2 ^ 64 * p))
+turn false a n m t old new word carry next rest p e f g = omega (arith, ap (λ (x : ℕ). x * p) f)
+turn true a n m t old new word carry next rest p e f g = omega (arith, ap (λ (x : ℕ). x * p) f)
+
+-- the same where nothing but the carry is left
+pub turn-carry : (s : Bool) (a n m t old new carry next p q : ℕ) → m + old * p ≡ n + new * p → q ≡ 2 ^ 64 * p → Moved s old new (0 + carry) (2 ^ 64 * next)
+    → Moved s a n t (carry * p) → Moved s a m t (next * q)
+turn-carry s a n m t old new carry next p q e up f g =
+    let k : carry * p ≡ (carry + (0 + 2 ^ 64 * 0)) * p = omega arith in
+    let j : (next + 0) * (2 ^ 64 * p) ≡ next * q = ap₂ (λ (x y : ℕ). x * y) (add-zero next) (sym up) in
+    subst (λ (x : ℕ). Moved s a m t x) j (turn s a n m t old new 0 carry next 0 p e f (subst (λ (x : ℕ). Moved s a n t x) k g))
 
 -- what is left to pass up at the end is a multiple of 2^4288
 left-over : (carry i : ℕ) → (carry ≡ 0) ⊎ (67 ≤ i) → (k : ℕ) × (carry * 2 ^ (64 * i) ≡ k * modulus)
@@ -79,25 +103,20 @@ left-over carry i (inr h) =
     ap (λ (x : ℕ). 2 ^ x) s ∙ pow-add 2 (64 * (i - 67)) (64 * 67) ∙ ap (λ (x : ℕ). q * x) modulus-words in
     (carry * q, ap (λ (x : ℕ). carry * x) e ∙ sym (mul-assoc carry q modulus))
 
-module _ (ws sum : List ℕ) (w : Words ws) (l : length ws ≡ 67) (t carry i : ℕ) (end : (carry ≡ 0) ⊎ (67 ≤ i)) where
-  pub added : number ws + carry * 2 ^ (64 * i) ≡ number sum + t → ws ≡ held (reading sum +ℤ pos t)
-  added h =
-      let k = left-over carry i end in
-      held-is ws w l (reading sum +ℤ pos t) (
-      sym (residue-below (number ws) (number-below ws w l))
-      ∙ sym (residue-more (pos (number ws)) (k .0))
-      ∙ ap (λ (x : ℕ). residue (pos x)) (ap (λ (x : ℕ). number ws + x) (sym (k .1)) ∙ h)
-      ∙ residue-add (pos (number sum)) (reading sum) (pos t) (sym (reading-residue sum)))
+-- 67 words after a term, with nothing left that counts below 2^4288
+pub moved-held : (s : Bool) (ws sum : List ℕ) → Words ws → length ws ≡ 67 → (t carry i : ℕ) → (carry ≡ 0) ⊎ (67 ≤ i)
+    → Moved s (number sum) (number ws) t (carry * 2 ^ (64 * i)) → ws ≡ held (reading sum +ℤ signed s t)
+moved-held s ws sum w l t carry i end h =
+    let k = left-over carry i end in
+    held-is ws w l (reading sum +ℤ signed s t) (
+    sym (residue-below (number ws) (number-below ws w l))
+    ∙ sym (residue-either (pos (number ws)) s (k .0))
+    ∙ ap (λ (x : ℕ). residue (pos (number ws) +ℤ signed s x)) (sym (k .1))
+    ∙ ap residue (sym (moved-whole s (number sum) (number ws) t (carry * 2 ^ (64 * i)) h))
+    ∙ residue-add (pos (number sum)) (reading sum) (signed s t) (sym (reading-residue sum)))
 
-  pub taken-away : number ws + t ≡ number sum + carry * 2 ^ (64 * i) → ws ≡ held (reading sum -ℤ pos t)
-  taken-away h =
-      let k = left-over carry i end in
-      let e : pos (number ws) +ℤ pos t ≡ pos (number sum) +ℤ pos (k .0 * modulus) = ap pos (h ∙ ap (λ (x : ℕ). number sum + x) (k .1)) in
-      let f : pos (number sum) -ℤ pos t +ℤ pos (k .0 * modulus) ≡ pos (number ws) +ℤ pos (0 * modulus) =
-      +ℤ-swap (pos (number sum)) (negℤ (pos t)) (pos (k .0 * modulus)) ∙ ap (λ (z : ℤ). z -ℤ pos t) (sym e)
-      ∙ +ℤ-negℤ-cancel (pos (number ws)) (pos t)
-      ∙ sym (ap (λ (x : ℕ). pos (number ws) +ℤ pos x) (zero-mul modulus) ∙ +ℤ-idr (pos (number ws))) in
-      held-is ws w l (reading sum -ℤ pos t) (
-      sym (residue-below (number ws) (number-below ws w l))
-      ∙ sym (same-residue (pos (number sum) -ℤ pos t) (pos (number ws)) (k .0) 0 f)
-      ∙ residue-add (pos (number sum)) (reading sum) (negℤ (pos t)) (sym (reading-residue sum)))
+-- and with something left, which is then passed up
+pub moved-on : (s : Bool) (ws sum next : List ℕ) (t k : ℕ) → Moved s (number sum) (number ws) t k → next ≡ held (reading ws +ℤ signed s k)
+    → next ≡ held (reading sum +ℤ signed s t)
+moved-on s ws sum next t k h e =
+    e ∙ held-number ws (signed s k) ∙ ap held (sym (moved-whole s (number sum) (number ws) t k h)) ∙ sym (held-number sum (signed s t))

@@ -2,7 +2,6 @@
 use Prim.Native.Nat.{ℕ, zero, suc, _+_, _*_, _/_, _%_, _^_, _-_, _≤_, _<_}
 use native.Mathlib.Nat.{le-trans, le-of-lt, le-of-eq, lt-of-le-of-lt, mul-le-mul, mul-le-mul-right, mul-lt-mul-of-pos-right, mul-right-comm, one-mul, zero-mul, zero-div, add-mul, div-lt-iff-lt-mul, add-le-add}
 use native.Mathlib.Omega.{arith}
-use native.Mathlib.Numerals.{add-one}
 use mathlib.Core.Path.{_≡_, refl, sym, ap, _∙_, subst, ap₂}
 use mathlib.Core.Bool.{Bool, true, false, cond, _&&_}
 use mathlib.Core.List.{List}
@@ -10,19 +9,20 @@ use lib.Dec.{T, ltb, leb, eqb, ltb→lt, lit<, lit≤}
 use lib.Pow.{pow-pos, pow-mono}
 use lib.IntN.{ℤ, pos, negℤ, natAbs, _+ℤ_, _-ℤ_, _*ℤ_, +ℤ-idr, zero-*ℤ, *ℤ-zero}
 use lib.Signed.{leZ}
-use lib.ListN.{length}
+use lib.ListN.{length, getD}
 use lib.Ieee.{Float, nan, inf, fin, binary64, ofBits, toBits, fits, up, down}
 use lib.Ieee.Fits.{down-pos, and-r}
 use lib.Ieee.Scale.{finite}
 use Rattle.ieee.specs.Values.{signed, fieldsMultiple, signOf, multiple}
 use Rattle.exact.specs.Whole.{sumℤ}
 use Rattle.exact.specs.Units.{units, exponentField, fractionField, signBit}
+use Rattle.exact.specs.Products.{dotted}
 use Rattle.exact.specs.Words.{half, modulus, residue, reading, held}
 use Rattle.exact.proofs.Whole.{natAbs-negℤ, natAbs-*ℤ, natAbs-+ℤ, natAbs--ℤ}
 use Rattle.exact.proofs.Sums.{sumℤ-bound}
 use Rattle.exact.proofs.Units.{units-value, units-not-finite}
 use Rattle.exact.proofs.Words.{Words}
-use Rattle.exact.proofs.Held.{held-add, reading-held, held-reading}
+use Rattle.exact.proofs.Held.{reading-held, held-reading}
 
 -- ---- one number
 
@@ -131,10 +131,13 @@ pub exact-sum : (k : ℕ) (x y : ℕ → Float) → k ≤ 2 ^ 80
     → reading (held (sumℤ k (λ i. units (x i) *ℤ units (y i)))) ≡ sumℤ k (λ i. units (x i) *ℤ units (y i))
 exact-sum k x y h = exact h (terms-sum k x y)
 
--- ---- a loop that adds one product a turn: its invariant is that the words hold the sum so far, and this is its turn
-pub one-more : (k : ℕ) (f : ℕ → ℤ) (ws next : List ℕ) → ws ≡ held (sumℤ k f) → next ≡ held (reading ws +ℤ f k) → next ≡ held (sumℤ (k + 1) f)
-one-more k f ws next h e =
-    e ∙ ap (λ (l : List ℕ). held (reading l +ℤ f k)) h ∙ held-add (sumℤ k f) (f k) ∙ ap (λ (n : ℕ). held (sumℤ n f)) (sym (add-one k))
+-- and so of a dot product
+pub terms-dotted : (z f : List Float) (column width : ℕ) → Terms (length z) (dotted z f column width)
+unfolding dotted
+terms-dotted z f column width = terms-sum (length z) (λ i. getD z i nan) (λ i. getD f (column + i * width) nan)
+
+pub exact-dotted : (z f : List Float) (column width : ℕ) → length z ≤ 2 ^ 80 → reading (held (dotted z f column width)) ≡ dotted z f column width
+exact-dotted z f column width h = exact h (terms-dotted z f column width)
 
 -- so the order that is read is the order of the sums
 pub exact-order : {j k : ℕ} {y z : ℤ} → j ≤ 2 ^ 80 → Terms j y → k ≤ 2 ^ 80 → Terms k z → leZ (reading (held y)) (reading (held z)) ≡ leZ y z

@@ -1,31 +1,54 @@
 -- A product by halves of words, and a shift over words. Assumes nothing.
 use Prim.Native.Nat.{ℕ, _+_, _-_, _*_, _/_, _%_, _^_, _≤_, _<_}
-use native.Mathlib.Nat.{le-of-lt, lt-of-le-of-lt, mul-le-mul-left, mul-lt-mul-of-pos-right, lt-of-mul-lt-mul-left, le-trans, le-of-eq, mul-div-mul-right, div-add-mod', mod-lt, div-lt-iff-lt-mul, add-mul, mul-assoc, mul-comm}
+use native.Mathlib.Nat.{le-of-lt, lt-of-le-of-lt, mul-le-mul-left, mul-lt-mul-of-pos-right, mul-div-mul-right, div-add-mod', mod-lt, div-lt-iff-lt-mul, add-mul, mul-assoc, mul-comm}
 use native.Mathlib.Omega.{arith}
 use mathlib.Core.Path.{_≡_, sym, ap, _∙_, subst}
 use lib.Arith.{digits-lt, digits-mod}
 use lib.Pow.{pow-pos, pow-add}
 
-pub product-lt : (x y m : ℕ) → 0 < m → x < m → y < m → x * y < m * m
-product-lt x y m p h k = lt-of-le-of-lt (mul-le-mul-left x (le-of-lt k)) (mul-lt-mul-of-pos-right h p)
+pub product-lt : (x y m k : ℕ) → 0 < k → x < m → y < k → x * y < m * k
+product-lt x y m k p h l = lt-of-le-of-lt (mul-le-mul-left x (le-of-lt l)) (mul-lt-mul-of-pos-right h p)
 
--- the product of two halves of a word is a word
-pub halves-fit : (x y : ℕ) → x < 2 ^ 32 → y < 2 ^ 32 → x * y < 2 ^ 64
-halves-fit x y h k = product-lt x y (2 ^ 32) (pow-pos 32) h k
+-- (a₁·h + a₀)·(b₁·h + b₀), from the product of the low halves and what the two sums in the middle carry, each by its own halves
+pub by-halves : (h a₀ a₁ b₀ b₁ l₀ l₁ m₀ m₁ n₀ n₁ : ℕ) → l₁ * h + l₀ ≡ a₀ * b₀ → m₁ * h + m₀ ≡ a₁ * b₀ + l₁ → n₁ * h + n₀ ≡ a₀ * b₁ + m₀
+    → n₀ * h + l₀ + h * h * (a₁ * b₁ + m₁ + n₁) ≡ (a₁ * h + a₀) * (b₁ * h + b₀)
+by-halves h a₀ a₁ b₀ b₁ l₀ l₁ m₀ m₁ n₀ n₁ l m n = omega (arith, l, ap (λ (x : ℕ). h * x) m, ap (λ (x : ℕ). h * x) n)
 
--- (a₁·h + a₀)·(b₁·h + b₀), from the four products of the halves and the sum in the middle, each by its own halves
-pub by-halves : (h a₀ a₁ b₀ b₁ l₀ l₁ c₀ c₁ d₀ d₁ m₀ m₁ : ℕ) → l₁ * h + l₀ ≡ a₀ * b₀ → c₁ * h + c₀ ≡ a₀ * b₁ → d₁ * h + d₀ ≡ a₁ * b₀
-    → m₁ * h + m₀ ≡ l₁ + c₀ + d₀ → m₀ * h + l₀ + h * h * (a₁ * b₁ + c₁ + d₁ + m₁) ≡ (a₁ * h + a₀) * (b₁ * h + b₀)
-by-halves h a₀ a₁ b₀ b₁ l₀ l₁ c₀ c₁ d₀ d₁ m₀ m₁ l c d m =
-    omega (arith, l, ap (λ (x : ℕ). h * x) c, ap (λ (x : ℕ). h * x) d, ap (λ (x : ℕ). h * x) m)
+-- the low word of it: what the sum in the middle, shifted up by a half, leaves there
+pub low-word : (l c d : ℕ) → (l + (c + d) * 2 ^ 32 % 2 ^ 64) % 2 ^ 64 ≡ (c + (d + l / 2 ^ 32) % 2 ^ 32) % 2 ^ 32 * 2 ^ 32 + l % 2 ^ 32
+low-word l c d = omega arith
 
--- the high word of a product of two words is a word
-pub high-fits : (a b low high m : ℕ) → 0 < m → a < m → b < m → low + m * high ≡ a * b → high < m
-high-fits a b low high m p h k e =
-    lt-of-mul-lt-mul-left m (lt-of-le-of-lt (le-trans (below low (m * high)) (le-of-eq e)) (product-lt a b m p h k))
-  where
-    below : (x y : ℕ) → y ≤ x + y
-    below x y = omega arith
+-- the products of the halves of two significands
+pub low-low : (a b : ℕ) → a % 2 ^ 32 * (b % 2 ^ 32) < 2 ^ 64
+low-low a b = product-lt (a % 2 ^ 32) (b % 2 ^ 32) (2 ^ 32) (2 ^ 32) (pow-pos 32) (omega arith) (omega arith)
+
+pub low-high : (a b : ℕ) → b < 2 ^ 53 → a % 2 ^ 32 * (b / 2 ^ 32) < 2 ^ 53
+low-high a b h = product-lt (a % 2 ^ 32) (b / 2 ^ 32) (2 ^ 32) (2 ^ 21) (pow-pos 21) (omega arith) (omega arith)
+
+pub high-low : (a b : ℕ) → a < 2 ^ 53 → a / 2 ^ 32 * (b % 2 ^ 32) < 2 ^ 53
+high-low a b h = product-lt (a / 2 ^ 32) (b % 2 ^ 32) (2 ^ 21) (2 ^ 32) (pow-pos 32) (omega arith) (omega arith)
+
+pub high-high : (a b : ℕ) → a < 2 ^ 53 → b < 2 ^ 53 → a / 2 ^ 32 * (b / 2 ^ 32) < 2 ^ 42
+high-high a b h k = product-lt (a / 2 ^ 32) (b / 2 ^ 32) (2 ^ 21) (2 ^ 21) (pow-pos 21) (omega arith) (omega arith)
+
+-- what they carry fits, and the high word with it
+pub first-fits : (l d : ℕ) → l < 2 ^ 64 → d < 2 ^ 53 → d + l / 2 ^ 32 < 2 ^ 54
+first-fits l d h k = omega arith
+
+three-fit : (x y z : ℕ) → x < 2 ^ 42 → y < 2 ^ 22 → z < 2 ^ 22 → x + y + z < 2 ^ 64
+three-fit x y z h i j = omega arith
+
+high-fits : (x l c d : ℕ) → x < 2 ^ 42 → l < 2 ^ 64 → c < 2 ^ 53 → d < 2 ^ 53
+    → x + (d + l / 2 ^ 32) / 2 ^ 32 + (c + (d + l / 2 ^ 32) % 2 ^ 32) / 2 ^ 32 < 2 ^ 64
+high-fits x l c d h i j k =
+    let f = first-fits l d i k in
+    let p : (d + l / 2 ^ 32) / 2 ^ 32 < 2 ^ 22 = omega arith in
+    let q : (c + (d + l / 2 ^ 32) % 2 ^ 32) / 2 ^ 32 < 2 ^ 22 = omega arith in
+    three-fit x _ _ h p q
+
+pub high-word : (a b : ℕ) → a < 2 ^ 53 → b < 2 ^ 53
+    → let h = 2 ^ 32 in let m = a / h * (b % h) + a % h * (b % h) / h in a / h * (b / h) + m / h + (a % h * (b / h) + m % h) / h < 2 ^ 64
+high-word a b h k = high-fits _ _ _ _ (high-high a b h k) (low-low a b) (low-high a b k) (high-low a b h)
 
 -- ---- a shift by s bits: c is 2^s, and d·c is a word's 2^64
 module _ (s : ℕ) (fits : s ≤ 64) where

@@ -9,3 +9,4 @@ pub mod Units
 pub mod Terms
 pub mod Order
 pub mod Exact
+pub mod Products

@@ -4,8 +4,10 @@ use native.Mathlib.Nat.{add-mod-right, mod-eq-of-lt, mod-eq-sub-mod, mod-lt, suc
 use native.Mathlib.Omega.{arith}
 use mathlib.Core.Path.{_≡_, refl, sym, ap, _∙_}
 use mathlib.Core.Logic.{⊎-elim}
+use mathlib.Core.Bool.{Bool, true, false}
 use lib.Pow.{pow-pos}
-use lib.IntN.{ℤ, pos, negsuc, negℤ, subℕ, _+ℤ_, +ℤ-assoc, +ℤ-idr, +ℤ-idl, +ℤ-invr}
+use lib.IntN.{ℤ, pos, negsuc, negℤ, subℕ, _+ℤ_, _-ℤ_, +ℤ-assoc, +ℤ-idr, +ℤ-idl, +ℤ-invr, -ℤ-+ℤ-cancel}
+use Rattle.ieee.specs.Values.{signed}
 use Rattle.exact.specs.Words.{modulus, half, residue}
 use Rattle.exact.proofs.Whole.{subℕ-ge, subℕ-lt, +ℤ-swap, either-lt}
 
@@ -49,6 +51,12 @@ residue-more z (suc k) =
     ∙ ap residue (sym (+ℤ-assoc z (pos (k * modulus)) (pos modulus)))
     ∙ once (z +ℤ pos (k * modulus))
     ∙ residue-more z k
+
+-- more or fewer
+pub residue-either : (z : ℤ) (s : Bool) (k : ℕ) → residue (z +ℤ signed s (k * modulus)) ≡ residue z
+residue-either z false k = residue-more z k
+residue-either z true k =
+    sym (residue-more (z -ℤ pos (k * modulus)) k) ∙ ap residue (-ℤ-+ℤ-cancel z (pos (k * modulus)))
 
 -- two whole numbers that differ by so many
 pub same-residue : (z w : ℤ) (j k : ℕ) → z +ℤ pos (j * modulus) ≡ w +ℤ pos (k * modulus) → residue z ≡ residue w

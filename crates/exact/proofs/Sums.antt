@@ -3,15 +3,25 @@ use Prim.Native.Nat.{ℕ, zero, suc, _*_, _≤_, _<_}
 use native.Mathlib.Nat.{suc-mul}
 use native.Mathlib.Omega.{arith}
 use mathlib.Core.Path.{_≡_, refl, sym, ap, ap₂, _∙_}
+use mathlib.Core.Logic.{⊎-elim}
 use lib.Signed.{_≤ℤ_, ≤ℤ-refl}
-use lib.IntN.{ℤ, pos, negℤ, natAbs, _+ℤ_, _-ℤ_, _*ℤ_, negℤ-+ℤ, *ℤ-zero, *ℤ-comm}
+use lib.IntN.{ℤ, pos, negℤ, natAbs, _+ℤ_, _-ℤ_, _*ℤ_, negℤ-+ℤ, +ℤ-idr, *ℤ-zero, *ℤ-comm}
 use Rattle.exact.specs.Whole.{sumℤ}
-use Rattle.exact.proofs.Whole.{+ℤ-middle, *ℤ-+ℤ, natAbs-+ℤ, pos-≤ℤ, ≤ℤ-trans, ≤ℤ-add}
+use Rattle.exact.proofs.Whole.{either-lt, +ℤ-middle, *ℤ-+ℤ, natAbs-+ℤ, pos-≤ℤ, ≤ℤ-trans, ≤ℤ-add}
 
 -- two sums of the same terms
 pub sumℤ-same : (n : ℕ) (f g : ℕ → ℤ) → ((i : ℕ) → i < n → f i ≡ g i) → sumℤ n f ≡ sumℤ n g
 sumℤ-same zero f g h = refl
 sumℤ-same (suc n) f g h = ap₂ (λ (x y : ℤ). x +ℤ y) (sumℤ-same n f g (λ i l. h i (omega arith))) (h n (omega arith))
+
+-- a sum whose terms from j on are 0 ends there
+pub sumℤ-ends : (n j : ℕ) (f : ℕ → ℤ) → j ≤ n → ((i : ℕ) → j ≤ i → f i ≡ pos 0) → sumℤ n f ≡ sumℤ j f
+sumℤ-ends zero j f l h = let e : 0 ≡ j = omega arith in ap (λ (k : ℕ). sumℤ k f) e
+sumℤ-ends (suc n) j f l h =
+    ⊎-elim
+    (λ p. let e : suc n ≡ j = omega arith in ap (λ (k : ℕ). sumℤ k f) e)
+    (λ p. ap₂ (λ (x y : ℤ). x +ℤ y) (sumℤ-ends n j f p h) (h n p) ∙ +ℤ-idr (sumℤ j f))
+    (either-lt n j)
 
 pub sumℤ-zero : (n : ℕ) → sumℤ n (λ i. pos 0) ≡ pos 0
 sumℤ-zero zero = refl

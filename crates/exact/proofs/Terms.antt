@@ -1,19 +1,15 @@
--- A product of two f64 as a term of three words, added or taken away by its sign. Assumes nothing.
+-- A product of two f64 as a term of three words: its sign, and its place. Assumes nothing.
 use Prim.Native.Nat.{ℕ, _+_, _*_, _/_, _%_, _^_}
 use native.Mathlib.Nat.{mul-assoc, mul-mul-mul-comm}
 use native.Mathlib.Omega.{arith}
 use mathlib.Core.Path.{_≡_, refl, sym, ap, ap₂, _∙_}
 use mathlib.Core.Bool.{Bool, true, false, not}
 use lib.Pow.{pow-add}
-use lib.IntN.{ℤ, pos, negℤ, _+ℤ_, _-ℤ_, _*ℤ_, negℤ-negℤ}
+use lib.IntN.{pos, negℤ, _*ℤ_, negℤ-negℤ}
 use Rattle.ieee.specs.Values.{signed}
 use Rattle.exact.proofs.Whole.{negℤ-*ℤ, *ℤ-negℤ}
 
 -- ---- signs
-
-pub signed-not : (s : Bool) (n : ℕ) → signed (not s) n ≡ negℤ (signed s n)
-signed-not true n = sym (negℤ-negℤ (pos n))
-signed-not false n = refl
 
 pub unlike-product : (s : Bool) (m n : ℕ) → signed true m *ℤ signed s n ≡ signed (not s) (m * n)
 unlike-product true m n = negℤ-*ℤ (pos m) (negℤ (pos n)) ∙ ap negℤ (*ℤ-negℤ (pos m) (pos n)) ∙ negℤ-negℤ (pos (m * n))
@@ -35,18 +31,3 @@ shifted-product m n i j w v e f =
     ∙ ap₂ (λ (x y : ℕ). x * y) (sym e) (sym (pow-add 2 i j) ∙ ap (λ (x : ℕ). 2 ^ x) s ∙ pow-add 2 r (64 * q))
     ∙ sym (mul-assoc w (2 ^ r) (2 ^ (64 * q)))
     ∙ ap (λ (x : ℕ). x * 2 ^ (64 * q)) (sym f)
-
--- ---- a signed term: taken away where it is negative
-
-module _ (x z : ℤ) (s : Bool) (n : ℕ) (e : z ≡ signed s n) where
-  pub plus-negative : s ≡ true → x +ℤ z ≡ x -ℤ pos n
-  plus-negative h = ap (λ (y : ℤ). x +ℤ y) (e ∙ ap (λ (b : Bool). signed b n) h)
-
-  pub plus-positive : s ≡ false → x +ℤ z ≡ x +ℤ pos n
-  plus-positive h = ap (λ (y : ℤ). x +ℤ y) (e ∙ ap (λ (b : Bool). signed b n) h)
-
-  pub minus-negative : s ≡ true → x -ℤ z ≡ x +ℤ pos n
-  minus-negative h = ap (λ (y : ℤ). x -ℤ y) (e ∙ ap (λ (b : Bool). signed b n) h) ∙ ap (λ (y : ℤ). x +ℤ y) (negℤ-negℤ (pos n))
-
-  pub minus-positive : s ≡ false → x -ℤ z ≡ x -ℤ pos n
-  minus-positive h = ap (λ (y : ℤ). x -ℤ y) (e ∙ ap (λ (b : Bool). signed b n) h)

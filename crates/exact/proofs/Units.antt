@@ -5,8 +5,8 @@ use native.Mathlib.Omega.{arith}
 use mathlib.Core.Path.{_≡_, refl, sym, ap, ap₂, _∙_, subst}
 use mathlib.Core.Bool.{Bool, true, false, not}
 use lib.Dec.{T, nltb→le}
-use lib.IntN.{ℤ, pos, natAbs, negℤ}
-use lib.Ieee.{Float, nan, inf, fin, binary64, toBits, fits, isNan, ofBits, lt, up, down}
+use lib.IntN.{ℤ, pos, natAbs, negℤ, negℤ-negℤ}
+use lib.Ieee.{Float, nan, inf, fin, binary64, toBits, fits, isNan, ofBits, neg, lt, up, down}
 use lib.Ieee.Scale.{finite}
 use Rattle.ieee.specs.Values.{signed, fieldsMultiple, multiple, valueOf}
 use Rattle.ieee.specs.Floats.{absOf}
@@ -57,6 +57,24 @@ units-smallest = refl
 pub units-largest-below-zero : units (ofBits binary64 0xffef_ffff_ffff_ffff) ≡ negℤ (pos ((2 ^ 53 - 1) * 2 ^ 2045))
 unfolding units ofBits toBits
 units-largest-below-zero = refl
+
+-- ---- minus an f64
+fits-neg : (x : Float) → T (fits binary64 x) → T (fits binary64 (neg x))
+unfolding fits neg
+fits-neg nan f = tt
+fits-neg (inf s) f = tt
+fits-neg (fin s m e) f = f
+
+value-neg : (x : Float) → valueOf (neg x) ≡ negℤ (valueOf x)
+unfolding neg
+value-neg nan = refl
+value-neg (inf true) = refl
+value-neg (inf false) = refl
+value-neg (fin true m e) = sym (negℤ-negℤ (pos (multiple (fin true m e))))
+value-neg (fin false m e) = refl
+
+pub units-neg : (x : Float) → T (fits binary64 x) → units (neg x) ≡ negℤ (units x)
+units-neg x f = units-value (neg x) (fits-neg x f) ∙ value-neg x ∙ ap negℤ (sym (units-value x f))
 
 -- ---- the magnitude of an f64
 fits-abs : (x : Float) → T (fits binary64 x) → T (fits binary64 (absOf x))

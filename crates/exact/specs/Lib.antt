@@ -1,3 +1,4 @@
 pub mod Whole
 pub mod Units
 pub mod Words
+pub mod Products

@@ -7,6 +7,7 @@ ghost use lib.IntN.{pos, negℤ, natAbs, _+ℤ_, _-ℤ_, _*ℤ_};
 ghost use lib.Signed.{leZ, nonNeg};
 ghost use Rattle.ieee.specs.Values.{signed};
 ghost use Rattle.exact.specs.Units.{units};
+ghost use Rattle.exact.specs.Products.{dotted};
 ghost use Rattle.exact.specs.Words.{reading, held, carryOf, borrowOf};
 
 // A number by its sign, its significand and its shift: ±significand·2^shift, in units of 2^-1074.
@@ -52,8 +53,9 @@ struct Wide {
     high: u64,
 }
 
-// a·b, by halves of 32 bits: the halves' four products each fit a word.
+// a·b, by halves of 32 bits: four products, and what they carry from the low word to the high one. In this form it is compiled to one multiplication.
 fn multiply(a: u64, b: u64) -> Wide
+    requires { ⌜ (a < 2 ^ 53) × (b < 2 ^ 53) ⌝ }
     ensures { λ r. ⌜ r .low + 2 ^ 64 * r .high ≡ a * b ⌝ }
 {
     let a_low = a % 0x1_0000_0000;
@@ -64,10 +66,11 @@ fn multiply(a: u64, b: u64) -> Wide
     let cross = a_low * b_high;
     let across = a_high * b_low;
     let high = a_high * b_high;
-    let middle = low / 0x1_0000_0000 + cross % 0x1_0000_0000 + across % 0x1_0000_0000;
+    let first = across + low / 0x1_0000_0000;
+    let second = cross + first % 0x1_0000_0000;
     Wide {
-        low: middle % 0x1_0000_0000 * 0x1_0000_0000 + low % 0x1_0000_0000,
-        high: high + cross / 0x1_0000_0000 + across / 0x1_0000_0000 + middle / 0x1_0000_0000,
+        low: std::num::wrapping_add_u64(low, (cross + across) << 32),
+        high: high + first / 0x1_0000_0000 + second / 0x1_0000_0000,
     }
 }
 
@@ -122,22 +125,6 @@ fn term_of(x: f64, y: f64) -> Term
     shifted(product, shift % 64, b.negative, place)
 }
 
-// Whether nothing is left to add or to take away.
-fn is_done(a: u64, b: u64, c: u64, d: u64) -> bool
-    ensures { λ r. ⌜ (r ≡ true → (a ≡ 0) × (b ≡ 0) × (c ≡ 0) × (d ≡ 0)) ⌝ }
-{
-    if a != 0 {
-        return false;
-    }
-    if b != 0 {
-        return false;
-    }
-    if c != 0 {
-        return false;
-    }
-    d == 0
-}
-
 // The carry of a word to which a word, which gave `part`, and a carry were added: a sum that wrapped is below its summand.
 fn carry_of(old: u64, part: u64, new: u64) -> u64
     ensures { λ r. ⌜ r ≡ carryOf old part new ⌝ }
@@ -158,80 +145,106 @@ fn borrow_of(old: u64, part: u64, new: u64) -> u64
     if new > part { 1 } else { 0 }
 }
 
-// sum + (low + 2^64·middle + 2^128·high)·2^(64·place), in one pass: each word is added with wrap, and its carry is passed up as far as it goes.
-fn add_words(sum: [u64; 67], term: Term) -> [u64; 67]
-    ensures { λ r. ⌜ r ≡ held (reading sum +ℤ pos ((term .low + 2 ^ 64 * (term .middle + 2 ^ 64 * term .high)) * 2 ^ (64 * term .place))) ⌝ }
+// A word of a sum after a step, and the carry or the borrow that goes to the next word.
+struct Step {
+    word: u64,
+    carry: u64,
+}
+
+// One word of a sum: a word and the carry are added to it, or a word and the borrow taken away, with wrap.
+fn step_word(old: u64, word: u64, carry: u64, negative: bool) -> Step
+    requires { ⌜ carry ≤ 1 ⌝ }
+    ensures value { λ r. ⌜ pos old +ℤ signed negative (word + carry) ≡ pos (r .word) +ℤ signed negative (2 ^ 64 * r .carry) ⌝ }
+    ensures carry { λ r. ⌜ r .carry ≤ 1 ⌝ }
+{
+    if negative {
+        let part = std::num::wrapping_sub_u64(old, word);
+        let new = std::num::wrapping_sub_u64(part, carry);
+        return Step {
+            word: new,
+            carry: borrow_of(old, part, new),
+        };
+    }
+    let part = std::num::wrapping_add_u64(old, word);
+    let new = std::num::wrapping_add_u64(part, carry);
+    Step {
+        word: new,
+        carry: carry_of(old, part, new),
+    }
+}
+
+// sum ± 2^(64·from): the carry, or the borrow where it is negative, is passed up as far as it goes.
+fn carried(sum: [u64; 67], from: usize, negative: bool) -> [u64; 67]
+    ensures { λ r. ⌜ r ≡ held (reading sum +ℤ signed negative (2 ^ (64 * from))) ⌝ }
 {
     let mut total = sum;
-    let mut low = term.low;
-    let mut middle = term.middle;
-    let mut high = term.high;
-    let mut carry = 0;
-    let mut i = term.place;
+    let mut carry = 1;
+    let mut i = from;
     while i < 67 {
-        if is_done(carry, low, middle, high) {
+        if carry == 0 {
             return total;
         }
-        let old = total[i];
-        let part = std::num::wrapping_add_u64(old, low);
-        let new = std::num::wrapping_add_u64(part, carry);
-        total[i] = new;
-        carry = carry_of(old, part, new);
-        low = middle;
-        middle = high;
-        high = 0;
-        i += 1; // the carry goes to the next word
+        let next = step_word(total[i], 0, carry, negative);
+        total[i] = next.word;
+        carry = next.carry;
+        i += 1;
     }
     total
 }
 
-// sum − (low + 2^64·middle + 2^128·high)·2^(64·place), in one pass: each word is taken away with wrap, and its borrow is passed up as far as it goes.
-fn sub_words(sum: [u64; 67], term: Term) -> [u64; 67]
-    ensures { λ r. ⌜ r ≡ held (reading sum -ℤ pos ((term .low + 2 ^ 64 * (term .middle + 2 ^ 64 * term .high)) * 2 ^ (64 * term .place))) ⌝ }
+// sum + Σ z_i·f_(column + i·width), exactly. The sum stays where it is from product to product: only a carry that leaves a product's three words moves it.
+fn add_products(sum: [u64; 67], z: &[f64], f: &[f64], column: usize, width: usize) -> [u64; 67]
+    ensures { λ r. ⌜ r ≡ held (reading sum +ℤ dotted (now (z .entry)) (now (f .entry)) column width) ⌝ }
 {
     let mut total = sum;
-    let mut low = term.low;
-    let mut middle = term.middle;
-    let mut high = term.high;
-    let mut borrow = 0;
-    let mut i = term.place;
-    while i < 67 {
-        if is_done(borrow, low, middle, high) {
+    let mut at = column;
+    let mut i = 0;
+    while i < z.len() {
+        if at >= f.len() {
             return total;
         }
-        let old = total[i];
-        let part = std::num::wrapping_sub_u64(old, low);
-        let new = std::num::wrapping_sub_u64(part, borrow);
-        total[i] = new;
-        borrow = borrow_of(old, part, new);
-        low = middle;
-        middle = high;
-        high = 0;
-        i += 1; // the borrow is taken from the next word
+        let term = term_of(z[i], f[at]);
+        let place = term.place;
+        let low = step_word(total[place], term.low, 0, term.negative);
+        total[place] = low.word;
+        let middle = step_word(total[place + 1], term.middle, low.carry, term.negative);
+        total[place + 1] = middle.word;
+        let high = step_word(total[place + 2], term.high, middle.carry, term.negative);
+        total[place + 2] = high.word;
+        if high.carry != 0 {
+            let next = carried(total, place + 3, term.negative);
+            total = next;
+        }
+        if width >= f.len() - at {
+            return total; // f ends here, and what it does not have counts as 0
+        }
+        at += width;
+        i += 1;
     }
     total
+}
+
+// Σ z_i·f_(column + i·width), exactly: z with a column of f, whose rows are of that width. What f does not have counts as 0, and so does what is not finite.
+pub fn dot_product(z: &[f64], f: &[f64], column: usize, width: usize) -> [u64; 67]
+    ensures { λ r. ⌜ r ≡ held (dotted (now (z .entry)) (now (f .entry)) column width) ⌝ }
+{
+    add_products([0; 67], z, f, column, width)
 }
 
 // sum + x·y, exactly. An operand that is not finite leaves the sum as it is.
 pub fn add_product(sum: [u64; 67], x: f64, y: f64) -> [u64; 67]
     ensures { λ r. ⌜ r ≡ held (reading sum +ℤ units x *ℤ units y) ⌝ }
 {
-    let term = term_of(x, y);
-    if term.negative {
-        return sub_words(sum, term);
-    }
-    add_words(sum, term)
+    let xs = [x; 1];
+    let ys = [y; 1];
+    add_products(sum, &xs, &ys, 0, 1)
 }
 
 // sum − x·y, exactly. An operand that is not finite leaves the sum as it is.
 pub fn sub_product(sum: [u64; 67], x: f64, y: f64) -> [u64; 67]
     ensures { λ r. ⌜ r ≡ held (reading sum -ℤ units x *ℤ units y) ⌝ }
 {
-    let taken = term_of(x, y);
-    if taken.negative {
-        return add_words(sum, taken);
-    }
-    sub_words(sum, taken)
+    add_product(sum, -x, y)
 }
 
 // Whether the sum is below zero: its highest bit is set.
@@ -241,22 +254,17 @@ pub fn is_negative(sum: [u64; 67]) -> bool
     sum[66] >= 0x8000_0000_0000_0000
 }
 
-// −sum: each word in turn is taken away from 0.
+// −sum: each word is taken away from 0, and the borrow goes on.
 fn negated(sum: [u64; 67]) -> [u64; 67]
     ensures { λ r. ⌜ r ≡ held (negℤ (reading sum)) ⌝ }
 {
     let mut rest = [0; 67];
+    let mut borrow = 0;
     let mut i = 0;
     while i < 67 {
-        let word = Term {
-            negative: false,
-            place: i,
-            low: sum[i],
-            middle: 0,
-            high: 0,
-        };
-        let next = sub_words(rest, word);
-        rest = next;
+        let next = step_word(rest[i], sum[i], borrow, true);
+        rest[i] = next.word;
+        borrow = next.carry;
         i += 1;
     }
     rest

@@ -1,34 +1,24 @@
--- `exact::sub_product` meets its contract: the words are added where the product is negative, taken away otherwise. Assumes nothing.
-use mathlib.Core.Path.{sym, ap, _∙_}
+-- `exact::sub_product` meets its contract: minus x times y is added. Assumes nothing.
+use mathlib.Core.Path.{ap, _∙_}
 use borrow.Author.Needs.{needs}
-use lib.IntN.{_*ℤ_}
+use lib.Ieee.{fits, binary64}
+use lib.IntN.{ℤ, _+ℤ_, _*ℤ_}
+use Rattle.ieee.proofs.Zero.{holds}
 use Rattle.exact.specs.Units.{units}
 use Rattle.exact.specs.Words.{reading, held}
-use Rattle.exact.proofs.Terms.{minus-negative, minus-positive}
+use Rattle.exact.proofs.Whole.{negℤ-*ℤ}
+use Rattle.exact.proofs.Units.{units-neg}
 use Rattle.exact.proofs.sub_product.Statement.{statement}
 use Rattle.exact.proofs.sub_product.Tie as tie
 
-term-of-requires : tie.Need-term-of-requires
-term-of-requires c κs = search needs
-
-add-words-requires : tie.Need-add-words-requires
-add-words-requires c κs = search needs
+add-product-requires : tie.Need-add-product-requires
+add-product-requires c κs = search needs
 
 returns : tie.Need-returns
 returns c =
-    let a = c .before .before .before .args in
-    let t = c .before .before .term-of in
-    c .add-words .ensures ∙ sym (ap held (minus-negative (reading (a .sum)) (units (a .x) *ℤ units (a .y)) (t .result .negative) _ (t .ensures .0) (c .before .if1 .taken)))
-
-sub-words-requires : tie.Need-sub-words-requires
-sub-words-requires c κs = search needs
-
-returns-2 : tie.Need-returns-2
-returns-2 c =
-    let a = c .before .before .before .args in
-    let t = c .before .before .term-of in
-    c .sub-words .ensures ∙ sym (ap held (minus-positive (reading (a .sum)) (units (a .x) *ℤ units (a .y)) (t .result .negative) _ (t .ensures .0) (c .before .if1 .left)))
+    let a = c .before .args in
+    c .add-product .ensures
+    ∙ ap (λ (z : ℤ). held (reading (a .sum) +ℤ z)) (ap (λ (w : ℤ). w *ℤ units (a .y)) (units-neg (a .x) (holds (fits binary64 (a .x)) (c .before .good .1 .0 .1))) ∙ negℤ-*ℤ (units (a .x)) (units (a .y)))
 
 pub sub-product-spec : {M : Type 1} → statement M
-sub-product-spec =
-    tie.close (tie.spec term-of-requires add-words-requires returns sub-words-requires returns-2)
+sub-product-spec = tie.close (tie.spec add-product-requires returns)

@@ -7,10 +7,10 @@ use Rattle.vectors_exact.proofs.replay.Statement.{statement}
 use Rattle.vectors_exact.proofs.replay.Tie as tie
 
 abbrev Inv-loop : tie.InvT-loop
-Inv-loop s before₀ sum₀ at₀ before sum at = at ≤ length s
+Inv-loop s before₀ sum₀ count₀ at₀ before sum count at = at ≤ length s
 
 abbrev μ-loop : tie.MeasureT-loop
-μ-loop s before₀ sum₀ at₀ before sum at = length s - at
+μ-loop s before₀ sum₀ count₀ at₀ before sum count at = length s - at
 
 loop-holds : tie.Need-loop-holds Inv-loop μ-loop
 loop-holds c = omega arith
@@ -27,14 +27,14 @@ add-word c = omega arith
 word-requires : tie.Need-word-requires Inv-loop μ-loop
 word-requires c κs = search needs
 
-float-requires : tie.Need-float-requires Inv-loop μ-loop
-float-requires c κs = search needs
-
 add-word-2 : tie.Need-add-word-2 Inv-loop μ-loop
 add-word-2 c = omega arith
 
 word-requires-2 : tie.Need-word-requires-2 Inv-loop μ-loop
 word-requires-2 c κs = search needs
+
+float-requires : tie.Need-float-requires Inv-loop μ-loop
+float-requires c κs = search needs
 
 float-requires-2 : tie.Need-float-requires-2 Inv-loop μ-loop
 float-requires-2 c κs = search needs
@@ -44,6 +44,15 @@ step-requires c κs = search needs
 
 show-requires : tie.Need-show-requires Inv-loop μ-loop
 show-requires c κs = search needs
+
+next-count-requires : tie.Need-next-count-requires Inv-loop μ-loop
+next-count-requires c κs = search needs
+
+column-sum-requires : tie.Need-column-sum-requires Inv-loop μ-loop
+column-sum-requires c κs = search needs
+
+show-requires-2 : tie.Need-show-requires-2 Inv-loop μ-loop
+show-requires-2 c κs = search needs
 
 add-at : tie.Need-add-at Inv-loop μ-loop
 add-at c = omega arith
@@ -68,12 +77,15 @@ replay-spec =
     shared-slice-read-kind
     add-word
     word-requires
-    float-requires
     add-word-2
     word-requires-2
+    float-requires
     float-requires-2
     step-requires
     show-requires
+    next-count-requires
+    column-sum-requires
+    show-requires-2
     add-at
     loop-less
     loop-again
