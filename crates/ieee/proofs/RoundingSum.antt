@@ -180,7 +180,7 @@ nan-add : (y : Float) → add binary64 nan y ≡ nan
 unfolding add
 nan-add y = refl
 
-add-nan : (x : Float) → add binary64 x nan ≡ nan
+pub add-nan : (x : Float) → add binary64 x nan ≡ nan
 unfolding add
 add-nan nan = refl
 add-nan (inf s) = refl

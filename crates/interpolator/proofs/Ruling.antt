@@ -19,7 +19,8 @@ use Rattle.interpolator.specs.declared.KrigingType.{KrigingType}
 use Rattle.interpolator.specs.declared.KrigingType.the-variants.{Ordinary, Universal}
 use Rattle.interpolator.specs.Call.{Query, Areas, wells, nodes, size}
 use Rattle.interpolator.specs.Limits.{mostWells, mostNodes}
-use Rattle.interpolator.specs.Refusals.{isUniversal, notOffered, wrongDimension, wrongPoints, wrongTargets, tooMany, notFinite, wrongModel, shortWork, shortAnswer, refusal}
+use Rattle.variogram.specs.Model.{notOffered}
+use Rattle.interpolator.specs.Refusals.{isUniversal, wrongDimension, wrongPoints, wrongTargets, tooMany, notFinite, wrongModel, shortWork, shortAnswer, refusal}
 use Rattle.interpolator.specs.Conditions.{WrongDimension, WrongPoints, WrongTargets, TooMany, NumberNotFinite, WrongModel, ShortWork, ShortAnswer, Ruling, by-13, by-1, by-2, by-9, by-11, by-12, by-17, by-18, none}
 
 -- ---- each test tells its condition

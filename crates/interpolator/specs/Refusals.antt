@@ -7,8 +7,7 @@ use lib.ListN.{length}
 use lib.Ieee.Scale.{finite}
 use Rattle.error.specs.Tests.{Test, test, firstOf}
 use Rattle.ieee.specs.Finite.{allFinite}
-use Rattle.variogram.specs.declared.VariogramModel.{VariogramModel}
-use Rattle.variogram.specs.declared.VariogramModel.the-variants.{Spherical, Exponential, Gaussian, Linear}
+use Rattle.variogram.specs.Model.{notOffered}
 use Rattle.variogram.specs.Distance.{offered}
 use Rattle.interpolator.specs.declared.KrigingType.{KrigingType}
 use Rattle.interpolator.specs.declared.KrigingType.the-variants.{Ordinary, Universal}
@@ -18,13 +17,6 @@ use Rattle.interpolator.specs.Call.{Query, Areas, wells, nodes, size}
 abbrev pub isUniversal : KrigingType → Bool
 isUniversal Ordinary = false
 isUniversal Universal = true
-
--- "Exponential or Gaussian"
-abbrev pub notOffered : VariogramModel → Bool
-notOffered Spherical = false
-notOffered Exponential = true
-notOffered Gaussian = true
-notOffered Linear = false
 
 -- 13: "d not 1, 2 or 3, or d = 1 with Universal"
 abbrev pub wrongDimension : Query → Bool

@@ -17,7 +17,8 @@ use Rattle.variogram.specs.declared.VariogramModel.{VariogramModel}
 use Rattle.variogram.specs.declared.VariogramModel.the-variants.{Spherical, Exponential, Gaussian, Linear}
 use Rattle.kriging.specs.Survey.{Survey, Areas, wells, nodeCount, columns, externals}
 use Rattle.kriging.specs.Limits.{mostWells, mostColumns, mostNodes}
-use Rattle.kriging.specs.Refusals.{any, badCode, badAmount, anyNotFinite, notOffered, shortAnswer}
+use Rattle.kriging.specs.Refusals.{any, badCode, badAmount, anyNotFinite, shortAnswer}
+use Rattle.variogram.specs.Model.{notOffered}
 use Rattle.kriging.specs.Lowest.{BadCode, too-low, too-high, SomeBadCode, BadAmount, negative, not-finite, TooMany, wells-over, columns-over, nodes-over, NotOffered, exponential, gaussian}
 use Rattle.kriging.specs.Lowest.{NumberNotFinite, nugget, sill, range, value, coordinate, external, node, node-external}
 use Rattle.kriging.specs.Lowest.{AnswerShort, figures, variances, verdicts, weights, coefficients}

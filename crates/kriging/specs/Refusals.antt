@@ -1,6 +1,6 @@
 -- What turns a fit away before it eliminates: paper 01, "What turns a call away", numbers 1 to 18, each from its own line. "The lowest applying number wins in a fit." Assumes nothing.
 use Prim.Native.Nat.{ℕ, _*_, _%_}
-use mathlib.Core.Bool.{Bool, true, false, not, _&&_, _||_}
+use mathlib.Core.Bool.{Bool, false, not, _&&_, _||_}
 use mathlib.Core.List.{List, [], _∷_}
 use lib.Dec.{ltb, eqb}
 use lib.ListN.{length}
@@ -8,8 +8,7 @@ use lib.Ieee.{Float, binary64, lt, ofBits}
 use lib.Ieee.Scale.{finite}
 use Rattle.error.specs.Tests.{Test, test, firstOf}
 use Rattle.ieee.specs.Finite.{allFinite}
-use Rattle.variogram.specs.declared.VariogramModel.{VariogramModel}
-use Rattle.variogram.specs.declared.VariogramModel.the-variants.{Spherical, Exponential, Gaussian, Linear}
+use Rattle.variogram.specs.Model.{notOffered}
 use Rattle.kriging.specs.Limits.{mostWells, mostColumns, mostNodes}
 use Rattle.kriging.specs.Survey.{Survey, Areas, wells, nodeCount, columns, externals, size}
 
@@ -41,13 +40,6 @@ anyNotFinite s =
     || not (allFinite (s .external))
     || not (allFinite (s .nodes))
     || (ltb 0 (externals s) && not (allFinite (s .nodeExternal)))
-
--- "Exponential or Gaussian"
-abbrev pub notOffered : VariogramModel → Bool
-notOffered Spherical = false
-notOffered Exponential = true
-notOffered Gaussian = true
-notOffered Linear = false
 
 -- "an answer area too short: m figures and variances; in a fit also m verdicts, n·m weights (node after node), p coefficients"
 unfoldable pub shortAnswer : Survey → Areas → Bool

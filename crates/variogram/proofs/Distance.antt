@@ -7,9 +7,10 @@ use mathlib.Core.Bool.{Bool, true, false, _&&_}
 use mathlib.Core.List.{List}
 use lib.Dec.{leb}
 use lib.ListN.{length, List·getD-eq-default}
-use lib.Ieee.{Float, nan, inf, fin, binary64, add, sub, mul, neg}
+use lib.Ieee.{Float, nan, binary64, sub, mul, neg}
 use borrow.Author.Tests.{le-leb, lt-leb, leb-true, leb-false}
 use Rattle.ieee.specs.Root.{sqrtOf}
+use Rattle.ieee.proofs.RoundingSum.{add-nan}
 use Rattle.variogram.specs.Distance.{square, squaredDistance2d, distance2d, squares, axisFrom, offered, hasPoint, distance}
 use Rattle.variogram.proofs.Squares.{square-opposite, plus-square}
 
@@ -52,12 +53,6 @@ unfolding distance distance2d squaredDistance2d squares
 distance-plane xs i ys j = rw (plus-square (sub binary64 (axisFrom xs (i * 2) 0) (axisFrom ys (j * 2) 0)))
 
 -- ---- a point past the end of its list
-add-nan : (x : Float) → add binary64 x nan ≡ nan
-unfolding add
-add-nan nan = refl
-add-nan (inf s) = refl
-add-nan (fin s m e) = refl
-
 sub-nan : (x : Float) → sub binary64 x nan ≡ nan
 unfolding sub neg
 sub-nan x = add-nan x

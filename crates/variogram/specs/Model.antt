@@ -1,5 +1,5 @@
 -- The variogram at a distance: paper 01, "Variogram", each operation rounded once and in the order in which it stands there. Assumes nothing.
-use mathlib.Core.Bool.{cond}
+use mathlib.Core.Bool.{Bool, true, false, cond}
 use lib.Ieee.{Float, nan, binary64, add, sub, mul, div, lt, le, ofBits}
 use Rattle.variogram.specs.declared.Variogram.{Variogram}
 use Rattle.variogram.specs.declared.VariogramModel.{VariogramModel}
@@ -44,3 +44,10 @@ ofModel Linear = linear
 unfoldable pub semivariance : Variogram → Float → Float
 unfolding spherical linear
 semivariance v h = cond (lt h epsilon) (ofBits binary64 0) (ofModel (v .model) (v .nugget) (v .sill) (v .range) h)
+
+-- "12 Exponential or Gaussian": what a call that takes a model refuses
+abbrev pub notOffered : VariogramModel → Bool
+notOffered Spherical = false
+notOffered Exponential = true
+notOffered Gaussian = true
+notOffered Linear = false
