@@ -1,57 +1,20 @@
 -- Words added or taken away from a place on, with the carry or the borrow passed up: one step, and the end. One law for both, by the sign. Assumes nothing.
-use Prim.Native.Nat.{ℕ, _+_, _-_, _*_, _%_, _^_, _≤_, _<_}
+use Prim.Native.Nat.{ℕ, _+_, _-_, _*_, _^_, _≤_}
 use native.Mathlib.Nat.{mul-assoc, zero-mul, add-zero}
 use native.Mathlib.Omega.{arith}
 use mathlib.Core.Path.{_≡_, refl, sym, ap, ap₂, _∙_, subst}
-use mathlib.Core.Bool.{Bool, true, false, cond}
-use lib.Dec.{ltb}
-use borrow.Author.Tests.{ltb-true, ltb-false}
+use mathlib.Core.Bool.{Bool, true, false}
 use mathlib.Core.Logic.{_⊎_, inl, inr}
 use mathlib.Core.List.{List}
 use lib.ListN.{length}
 use lib.Pow.{pow-add}
 use lib.IntN.{ℤ, pos, negℤ, natAbs, _+ℤ_, _-ℤ_, +ℤ-negℤ-cancel, -ℤ-+ℤ-cancel}
 use Rattle.ieee.specs.Values.{signed}
-use Rattle.exact.specs.Words.{number, modulus, reading, residue, held, carryOf, borrowOf}
+use Rattle.exact.specs.Words.{number, modulus, reading, residue, held}
 use Rattle.exact.proofs.Whole.{+ℤ-swap}
 use Rattle.exact.proofs.Words.{Words}
 use Rattle.exact.proofs.Residue.{residue-below, residue-either, residue-add}
 use Rattle.exact.proofs.Held.{modulus-words, number-below, held-is, held-number, reading-residue}
-
--- the carry of a word: a sum that wrapped is below its summand, and of two additions in turn at most one wraps
-pub carry-most : (old part new : ℕ) → carryOf old part new ≤ 1
-carry-most old part new = go (ltb part old) (ltb new part)
-  where
-    go : (a b : Bool) → cond a 1 (cond b 1 0) ≤ 1
-    go true b = omega arith
-    go false true = omega arith
-    go false false = omega arith
-
-pub carry-sum : (old low carry part new : ℕ) → old < 2 ^ 64 → low < 2 ^ 64 → carry ≤ 1 → part ≡ (old + low) % 2 ^ 64 → new ≡ (part + carry) % 2 ^ 64
-    → old + low + carry ≡ new + carryOf old part new * 2 ^ 64
-carry-sum old low carry part new o l k e f = go (ltb part old) (ltb new part) refl refl
-  where
-    go : (a b : Bool) → ltb part old ≡ a → ltb new part ≡ b → old + low + carry ≡ new + cond a 1 (cond b 1 0) * 2 ^ 64
-    go true b x y = let p = ltb-true part old x in omega arith
-    go false true x y = let p = ltb-false part old x in let q = ltb-true new part y in omega arith
-    go false false x y = let p = ltb-false part old x in let q = ltb-false new part y in omega arith
-
-pub borrow-most : (old part new : ℕ) → borrowOf old part new ≤ 1
-borrow-most old part new = go (ltb old part) (ltb part new)
-  where
-    go : (a b : Bool) → cond a 1 (cond b 1 0) ≤ 1
-    go true b = omega arith
-    go false true = omega arith
-    go false false = omega arith
-
-pub borrow-sum : (old low borrow part new : ℕ) → old < 2 ^ 64 → low < 2 ^ 64 → borrow ≤ 1 → part < 2 ^ 64 → new < 2 ^ 64
-    → (part + low) % 2 ^ 64 ≡ old → (new + borrow) % 2 ^ 64 ≡ part → new + low + borrow ≡ old + borrowOf old part new * 2 ^ 64
-borrow-sum old low borrow part new o l k p n e f = go (ltb old part) (ltb part new) refl refl
-  where
-    go : (a b : Bool) → ltb old part ≡ a → ltb part new ≡ b → new + low + borrow ≡ old + cond a 1 (cond b 1 0) * 2 ^ 64
-    go true b x y = let q = ltb-true old part x in omega arith
-    go false true x y = let q = ltb-false old part x in let r = ltb-true part new y in omega arith
-    go false false x y = let q = ltb-false old part x in let r = ltb-false part new y in omega arith
 
 -- a ± t = b ± k: with t added to a, or taken away, there is b, and k is still to be added, or taken away
 abbrev pub Moved : Bool → ℕ → ℕ → ℕ → ℕ → Type 0

@@ -14,21 +14,18 @@ use lib.Ieee.{Float, nan, inf, fin, binary64, ofBits, toBits, fits, up, down}
 use lib.Ieee.Fits.{down-pos, and-r}
 use lib.Ieee.Scale.{finite}
 use Rattle.ieee.specs.Values.{signed, fieldsMultiple, signOf, multiple}
+use Rattle.ieee.proofs.RoundingSigned.{signed-abs}
 use Rattle.exact.specs.Whole.{sumℤ}
 use Rattle.exact.specs.Units.{units, exponentField, fractionField, signBit}
 use Rattle.exact.specs.Products.{dotted}
 use Rattle.exact.specs.Words.{half, modulus, residue, reading, held}
-use Rattle.exact.proofs.Whole.{natAbs-negℤ, natAbs-*ℤ, natAbs-+ℤ, natAbs--ℤ}
+use Rattle.exact.proofs.Whole.{natAbs-*ℤ, natAbs-+ℤ, natAbs--ℤ}
 use Rattle.exact.proofs.Sums.{sumℤ-bound}
 use Rattle.exact.proofs.Units.{units-value, units-not-finite}
 use Rattle.exact.proofs.Words.{Words}
 use Rattle.exact.proofs.Held.{reading-held, held-reading}
 
 -- ---- one number
-
-natAbs-signed : (s : Bool) (n : ℕ) → natAbs (signed s n) ≡ n
-natAbs-signed true n = natAbs-negℤ (pos n)
-natAbs-signed false n = refl
 
 -- every finite f64 is below 2^2098 units
 multiple-lt : (x : Float) → T (fits binary64 x) → multiple x < 2 ^ 2098
@@ -45,7 +42,7 @@ multiple-lt (fin s (suc m) e) f =
 
 pub units-lt : (x : Float) → T (fits binary64 x) → natAbs (units x) < 2 ^ 2098
 units-lt x f =
-    subst (λ (n : ℕ). n < 2 ^ 2098) (sym (ap natAbs (units-value x f) ∙ natAbs-signed (signOf x) (multiple x))) (multiple-lt x f)
+    subst (λ (n : ℕ). n < 2 ^ 2098) (sym (ap natAbs (units-value x f) ∙ signed-abs (signOf x) (multiple x))) (multiple-lt x f)
 
 -- A bound that holds with no word on the format: the fields are short.
 unfoldable pub unitBound : ℕ
@@ -73,7 +70,7 @@ units-le x = go (finite x)
     short = fields-le (exponentField b) (fractionField b) (omega arith) (omega arith)
 
     go : (t : Bool) → natAbs (cond t (signed (signBit b) n) (pos 0)) ≤ unitBound
-    go true = subst (λ (k : ℕ). k ≤ unitBound) (sym (natAbs-signed (signBit b) n)) short
+    go true = subst (λ (k : ℕ). k ≤ unitBound) (sym (signed-abs (signBit b) n)) short
     go false = le-trans (omega arith) short
 
 -- ---- k products: `Terms k z` says that z is no further from 0 than k products of two f64 can be

@@ -34,11 +34,3 @@ residue (negsuc n) = modulus - suc (n % modulus)
 -- the 67 words that hold a whole number, modulo 2^4288
 unfoldable pub held : ℤ → List ℕ
 held z = wordsOf 67 (residue z)
-
--- the carry of a word to which two numbers were added in turn, with what stood there after each: "its carry passed up", "recovered by comparison"
-abbrev pub carryOf : ℕ → ℕ → ℕ → ℕ
-carryOf old part new = cond (ltb part old) 1 (cond (ltb new part) 1 0)
-
--- the borrow of a word from which two numbers were taken in turn
-abbrev pub borrowOf : ℕ → ℕ → ℕ → ℕ
-borrowOf old part new = cond (ltb old part) 1 (cond (ltb part new) 1 0)

@@ -8,7 +8,7 @@ ghost use lib.Signed.{leZ, nonNeg};
 ghost use Rattle.ieee.specs.Values.{signed};
 ghost use Rattle.exact.specs.Units.{units};
 ghost use Rattle.exact.specs.Products.{dotted};
-ghost use Rattle.exact.specs.Words.{reading, held, carryOf, borrowOf};
+ghost use Rattle.exact.specs.Words.{reading, held};
 
 // A number by its sign, its significand and its shift: ±significand·2^shift, in units of 2^-1074.
 struct Parts {
@@ -125,52 +125,62 @@ fn term_of(x: f64, y: f64) -> Term
     shifted(product, shift % 64, b.negative, place)
 }
 
-// The carry of a word to which a word, which gave `part`, and a carry were added: a sum that wrapped is below its summand.
-fn carry_of(old: u64, part: u64, new: u64) -> u64
-    ensures { λ r. ⌜ r ≡ carryOf old part new ⌝ }
-{
-    if part < old {
-        return 1;
-    }
-    if new < part { 1 } else { 0 }
-}
-
-// The borrow of a word from which a word, which left `part`, and a borrow were taken: a difference that wrapped is above what was there.
-fn borrow_of(old: u64, part: u64, new: u64) -> u64
-    ensures { λ r. ⌜ r ≡ borrowOf old part new ⌝ }
-{
-    if part > old {
-        return 1;
-    }
-    if new > part { 1 } else { 0 }
-}
-
 // A word of a sum after a step, and the carry or the borrow that goes to the next word.
 struct Step {
     word: u64,
     carry: u64,
 }
 
-// One word of a sum: a word and the carry are added to it, or a word and the borrow taken away, with wrap.
+// A word to which a word and a carry are added with wrap. A sum that wrapped is below its summand: that is its carry.
+fn add_word(old: u64, word: u64, carry: u64) -> Step
+    requires { ⌜ carry ≤ 1 ⌝ }
+    ensures value { λ r. ⌜ old + (word + carry) ≡ r .word + 2 ^ 64 * r .carry ⌝ }
+    ensures carry { λ r. ⌜ r .carry ≤ 1 ⌝ }
+{
+    let part = std::num::wrapping_add_u64(old, word);
+    let new = std::num::wrapping_add_u64(part, carry);
+    if part < old {
+        return Step {
+            word: new,
+            carry: 1,
+        };
+    }
+    Step {
+        word: new,
+        carry: if new < part { 1 } else { 0 },
+    }
+}
+
+// A word from which a word and a borrow are taken with wrap. A difference that wrapped is above what was there: that is its borrow.
+fn sub_word(old: u64, word: u64, borrow: u64) -> Step
+    requires { ⌜ borrow ≤ 1 ⌝ }
+    ensures value { λ r. ⌜ r .word + (word + borrow) ≡ old + 2 ^ 64 * r .carry ⌝ }
+    ensures carry { λ r. ⌜ r .carry ≤ 1 ⌝ }
+{
+    let part = std::num::wrapping_sub_u64(old, word);
+    let new = std::num::wrapping_sub_u64(part, borrow);
+    if part > old {
+        return Step {
+            word: new,
+            carry: 1,
+        };
+    }
+    Step {
+        word: new,
+        carry: if new > part { 1 } else { 0 },
+    }
+}
+
+// One word of a sum: a word and the carry are added to it, or taken away where they are negative.
 fn step_word(old: u64, word: u64, carry: u64, negative: bool) -> Step
     requires { ⌜ carry ≤ 1 ⌝ }
     ensures value { λ r. ⌜ pos old +ℤ signed negative (word + carry) ≡ pos (r .word) +ℤ signed negative (2 ^ 64 * r .carry) ⌝ }
     ensures carry { λ r. ⌜ r .carry ≤ 1 ⌝ }
 {
     if negative {
-        let part = std::num::wrapping_sub_u64(old, word);
-        let new = std::num::wrapping_sub_u64(part, carry);
-        return Step {
-            word: new,
-            carry: borrow_of(old, part, new),
-        };
+        return sub_word(old, word, carry);
     }
-    let part = std::num::wrapping_add_u64(old, word);
-    let new = std::num::wrapping_add_u64(part, carry);
-    Step {
-        word: new,
-        carry: carry_of(old, part, new),
-    }
+    add_word(old, word, carry)
 }
 
 // sum ± 2^(64·from): the carry, or the borrow where it is negative, is passed up as far as it goes.

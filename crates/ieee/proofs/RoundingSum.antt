@@ -210,7 +210,7 @@ neg-finite nan v = v
 neg-finite (inf t) v = v
 neg-finite (fin t n d) v = tt
 
-neg-value : (y : Float) → valueOf (neg y) ≡ negℤ (valueOf y)
+pub neg-value : (y : Float) → valueOf (neg y) ≡ negℤ (valueOf y)
 unfolding neg
 neg-value nan = refl
 neg-value (inf t) = sym (signed-neg t 0)
