@@ -2,10 +2,15 @@
 use Prim.Native.Nat.{ℕ, _≤_, _<_}
 use mathlib.Core.Path.{_≡_, refl, sym, subst}
 use mathlib.Core.Logic.{_≢_, _⊎_, inl, inr, _↔_}
+use mathlib.Core.List.{List}
 use mathlib.Core.Bool.{Bool, true, false, not, _&&_, _||_}
 use lib.Arith.{le→nltb}
 use lib.Dec.{T, eqb, leb, ltb, eqb→eq, leb→le, le→leb, ltb→lt, lt→ltb, nltb→le, T-not, not-T}
+use lib.Ieee.{Float}
+use lib.Ieee.Scale.{finite}
 use lib.Ieee.Fits.{and-i, and-l, and-r, eq→eqb}
+use Rattle.ieee.specs.Finite.{allFinite, NotFinite, SomeNotFinite}
+use Rattle.ieee.proofs.FiniteLists.{not-finite, not-all-finite}
 
 pub record Tells (b : Bool) (A : Type 0) : Type 0 where
   pub then : T b → A
@@ -94,3 +99,10 @@ at-most m n = record { then = leb→le m n; back = le→leb m n }
 
 pub not-below : (m n : ℕ) → Tells (not (ltb m n)) (n ≤ m)
 not-below m n = record { then = nltb→le m n; back = le→nltb m n }
+
+-- ---- floats: "not finite"
+pub not-finite-is : (x : Float) → Tells (not (finite x)) (NotFinite x)
+not-finite-is x = told (not (finite x)) (not-finite x)
+
+pub some-not-finite : (xs : List Float) → Tells (not (allFinite xs)) (SomeNotFinite xs)
+some-not-finite xs = told (not (allFinite xs)) (not-all-finite xs)

@@ -10,16 +10,13 @@ use lib.ListN.{length}
 use lib.Ieee.{Float}
 use lib.Ieee.Scale.{finite}
 use Rattle.error.specs.Tests.{test, firstOf}
-use Rattle.error.proofs.Tells.{Tells, told, affirm, refute, opposite, both, either, equal, different, below, at-most}
+use Rattle.error.proofs.Tells.{Tells, told, affirm, refute, opposite, both, either, equal, different, below, at-most, not-finite-is, some-not-finite}
 use Rattle.ieee.specs.Finite.{allFinite, NotFinite, SomeNotFinite}
-use Rattle.ieee.proofs.FiniteLists.{not-finite, not-all-finite}
-use Rattle.variogram.specs.declared.VariogramModel.{VariogramModel}
-use Rattle.variogram.specs.declared.VariogramModel.the-variants.{Spherical, Exponential, Gaussian, Linear}
 use Rattle.interpolator.specs.declared.KrigingType.{KrigingType}
 use Rattle.interpolator.specs.declared.KrigingType.the-variants.{Ordinary, Universal}
 use Rattle.interpolator.specs.Call.{Query, Areas, wells, nodes, size}
 use Rattle.interpolator.specs.Limits.{mostWells, mostNodes}
-use Rattle.variogram.specs.Model.{notOffered}
+use Rattle.variogram.proofs.Model.{not-offered}
 use Rattle.interpolator.specs.Refusals.{isUniversal, wrongDimension, wrongPoints, wrongTargets, tooMany, notFinite, wrongModel, shortWork, shortAnswer, refusal}
 use Rattle.interpolator.specs.Conditions.{WrongDimension, WrongPoints, WrongTargets, TooMany, NumberNotFinite, WrongModel, ShortWork, ShortAnswer, Ruling, by-13, by-1, by-2, by-9, by-11, by-12, by-17, by-18, none}
 
@@ -27,25 +24,6 @@ use Rattle.interpolator.specs.Conditions.{WrongDimension, WrongPoints, W
 universal : (t : KrigingType) → Tells (isUniversal t) (t ≡ Universal)
 universal Ordinary = record { then = λ h. absurd h; back = λ x. subst (λ (t : KrigingType). T (isUniversal t)) (sym x) tt }
 universal Universal = record { then = λ h. refl; back = λ x. tt }
-
-outside : (m : VariogramModel) → Tells (notOffered m) ((m ≡ Exponential) ⊎ (m ≡ Gaussian))
-outside m = record { then = there m; back = from }
-  where
-    there : (m : VariogramModel) → T (notOffered m) → (m ≡ Exponential) ⊎ (m ≡ Gaussian)
-    there Spherical h = absurd h
-    there Exponential h = inl refl
-    there Gaussian h = inr refl
-    there Linear h = absurd h
-
-    from : (m ≡ Exponential) ⊎ (m ≡ Gaussian) → T (notOffered m)
-    from (inl x) = rw x tt
-    from (inr x) = rw x tt
-
-not-finite-is : (x : Float) → Tells (not (finite x)) (NotFinite x)
-not-finite-is x = told (not (finite x)) (not-finite x)
-
-some-not-finite : (xs : List Float) → Tells (not (allFinite xs)) (SomeNotFinite xs)
-some-not-finite xs = told (not (allFinite xs)) (not-all-finite xs)
 
 pub tells-13 : (q : Query) → Tells (wrongDimension q) (WrongDimension q)
 tells-13 q = either (opposite (both (at-most 1 (q .dimension)) (at-most (q .dimension) 3))) (both (equal (q .dimension) 1) (universal (q .krigingType)))
@@ -67,7 +45,7 @@ tells-11 q =
     (either (some-not-finite (q .values)) (either (some-not-finite (q .points)) (some-not-finite (q .targets))))))
 
 pub tells-12 : (q : Query) → Tells (wrongModel q) (WrongModel q)
-tells-12 q = outside (q .variogram .model)
+tells-12 q = told (wrongModel q) (not-offered (q .variogram .model))
 
 pub tells-17 : (q : Query) (a : Areas) → Tells (shortWork q a) (ShortWork q a)
 tells-17 q a = below (length (a .work)) (2 * size q * size q)

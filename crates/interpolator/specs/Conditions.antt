@@ -4,7 +4,7 @@ use mathlib.Core.Path.{_≡_}
 use mathlib.Core.Logic.{_≢_, _⊎_}
 use lib.ListN.{length}
 use Rattle.ieee.specs.Finite.{NotFinite, SomeNotFinite}
-use Rattle.variogram.specs.declared.VariogramModel.the-variants.{Exponential, Gaussian}
+use Rattle.variogram.specs.Model.{NotOffered}
 use Rattle.interpolator.specs.declared.KrigingType.the-variants.{Universal}
 use Rattle.interpolator.specs.Call.{Query, Areas, wells, nodes, size}
 
@@ -36,7 +36,7 @@ NumberNotFinite q =
 
 -- 12: "Exponential or Gaussian"
 abbrev pub WrongModel : Query → Type 0
-WrongModel q = (q .variogram .model ≡ Exponential) ⊎ (q .variogram .model ≡ Gaussian)
+WrongModel q = NotOffered (q .variogram .model)
 
 -- 17: "work area under 2·s·s numbers"
 abbrev pub ShortWork : Query → Areas → Type 0

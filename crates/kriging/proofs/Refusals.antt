@@ -12,7 +12,8 @@ use Rattle.kriging.specs.Lowest.{Condition, Lowest}
 use Rattle.kriging.specs.Lowest.{coordinates, odd-nodes, no-basis, code, regularization, externals-length, few-wells, node-externals-length, too-many, tolerance, numbers, model, work-short, answer-short}
 use Rattle.error.proofs.Tells.{both, equal, different, below}
 use Rattle.error.proofs.Rising.{rising, Holding, given-holds, none-lower}
-use Rattle.kriging.proofs.RefusalsTests.{some-bad-code, bad-amount, not-offered, too-many-is, number-not-finite, answer-short-is}
+use Rattle.variogram.proofs.Model.{not-offered}
+use Rattle.kriging.proofs.RefusalsTests.{some-bad-code, bad-amount, too-many-is, number-not-finite, answer-short-is}
 
 module _ (s : Survey) (a : Areas) where
   in-order : T (rising 0 (tests s a))
@@ -35,7 +36,7 @@ module _ (s : Survey) (a : Areas) where
   condition-of k (inr (inr (inr (inr (inr (inr (inr (inr (inl h))))))))) = subst (Condition s a) (h .0) (too-many (too-many-is s .then (h .1)))
   condition-of k (inr (inr (inr (inr (inr (inr (inr (inr (inr (inl h)))))))))) = subst (Condition s a) (h .0) (tolerance (bad-amount (s .tolerance) .then (h .1)))
   condition-of k (inr (inr (inr (inr (inr (inr (inr (inr (inr (inr (inl h))))))))))) = subst (Condition s a) (h .0) (numbers (number-not-finite s .then (h .1)))
-  condition-of k (inr (inr (inr (inr (inr (inr (inr (inr (inr (inr (inr (inl h)))))))))))) = subst (Condition s a) (h .0) (model (not-offered (s .options .variogram .model) .then (h .1)))
+  condition-of k (inr (inr (inr (inr (inr (inr (inr (inr (inr (inr (inr (inl h)))))))))))) = subst (Condition s a) (h .0) (model (not-offered (s .options .variogram .model) .0 (h .1)))
   condition-of k (inr (inr (inr (inr (inr (inr (inr (inr (inr (inr (inr (inr (inl h))))))))))))) = subst (Condition s a) (h .0) (work-short (below (length (a .work)) (2 * size s * size s) .then (h .1)))
   condition-of k (inr (inr (inr (inr (inr (inr (inr (inr (inr (inr (inr (inr (inr (inl h)))))))))))))) = subst (Condition s a) (h .0) (answer-short (answer-short-is s a .then (h .1)))
 
@@ -54,7 +55,7 @@ module _ (s : Survey) (a : Areas) where
   holding-of (too-many h) = inr (inr (inr (inr (inr (inr (inr (inr (inl (refl, too-many-is s .back h)))))))))
   holding-of (tolerance h) = inr (inr (inr (inr (inr (inr (inr (inr (inr (inl (refl, bad-amount (s .tolerance) .back h))))))))))
   holding-of (numbers h) = inr (inr (inr (inr (inr (inr (inr (inr (inr (inr (inl (refl, number-not-finite s .back h)))))))))))
-  holding-of (model h) = inr (inr (inr (inr (inr (inr (inr (inr (inr (inr (inr (inl (refl, not-offered (s .options .variogram .model) .back h))))))))))))
+  holding-of (model h) = inr (inr (inr (inr (inr (inr (inr (inr (inr (inr (inr (inl (refl, not-offered (s .options .variogram .model) .1 h))))))))))))
   holding-of (work-short h) = inr (inr (inr (inr (inr (inr (inr (inr (inr (inr (inr (inr (inl (refl, below (length (a .work)) (2 * size s * size s) .back h)))))))))))))
   holding-of (answer-short h) = inr (inr (inr (inr (inr (inr (inr (inr (inr (inr (inr (inr (inr (inl (refl, answer-short-is s a .back h))))))))))))))
 

@@ -10,26 +10,16 @@ use lib.Dec.{T, ltb}
 use lib.ListN.{length, getD}
 use lib.Ieee.{Float, binary64, lt, ofBits}
 use lib.Ieee.Scale.{finite}
-use Rattle.error.proofs.Tells.{Tells, told, told-as, both, either, is-true, below}
+use Rattle.error.proofs.Tells.{Tells, told-as, both, either, is-true, below, not-finite-is, some-not-finite}
 use Rattle.ieee.specs.Finite.{allFinite, NotFinite, SomeNotFinite}
-use Rattle.ieee.proofs.FiniteLists.{not-finite as not-finite-told, not-all-finite}
-use Rattle.variogram.specs.declared.VariogramModel.{VariogramModel}
-use Rattle.variogram.specs.declared.VariogramModel.the-variants.{Spherical, Exponential, Gaussian, Linear}
 use Rattle.kriging.specs.Survey.{Survey, Areas, wells, nodeCount, columns, externals}
 use Rattle.kriging.specs.Limits.{mostWells, mostColumns, mostNodes}
 use Rattle.kriging.specs.Refusals.{any, badCode, badAmount, anyNotFinite, shortAnswer}
-use Rattle.variogram.specs.Model.{notOffered}
-use Rattle.kriging.specs.Lowest.{BadCode, too-low, too-high, SomeBadCode, BadAmount, negative, not-finite, TooMany, wells-over, columns-over, nodes-over, NotOffered, exponential, gaussian}
+use Rattle.kriging.specs.Lowest.{BadCode, too-low, too-high, SomeBadCode, BadAmount, negative, not-finite, TooMany, wells-over, columns-over, nodes-over}
 use Rattle.kriging.specs.Lowest.{NumberNotFinite, nugget, sill, range, value, coordinate, external, node, node-external}
 use Rattle.kriging.specs.Lowest.{AnswerShort, figures, variances, verdicts, weights, coefficients}
 
 -- ---- floats
-not-finite-is : (x : Float) → Tells (not (finite x)) (NotFinite x)
-not-finite-is x = told (not (finite x)) (not-finite-told x)
-
-some-not-finite : (xs : List Float) → Tells (not (allFinite xs)) (SomeNotFinite xs)
-some-not-finite xs = told (not (allFinite xs)) (not-all-finite xs)
-
 pub bad-amount : (x : Float) → Tells (badAmount x) (BadAmount x)
 bad-amount x = told-as (either (not-finite-is x) (is-true (lt x (ofBits binary64 0)))) there from
   where
@@ -64,20 +54,6 @@ some-bad-code (c ∷ cs) = told-as (either (bad-code c) (some-bad-code cs)) ther
     from : (i : ℕ) → i < length (c ∷ cs) → BadCode (getD (c ∷ cs) i 0) → BadCode c ⊎ SomeBadCode cs
     from zero l h = inl h
     from (suc i) l h = inr record { at = i; inside = le-of-suc-le-suc l; is = h }
-
--- ---- the model
-pub not-offered : (m : VariogramModel) → Tells (notOffered m) (NotOffered m)
-not-offered m = record { then = there m; back = from }
-  where
-    there : (m : VariogramModel) → T (notOffered m) → NotOffered m
-    there Spherical t = absurd t
-    there Exponential t = exponential
-    there Gaussian t = gaussian
-    there Linear t = absurd t
-
-    from : {m : VariogramModel} → NotOffered m → T (notOffered m)
-    from exponential = tt
-    from gaussian = tt
 
 -- ---- limits
 pub too-many-is : (s : Survey) → Tells (ltb mostWells (wells s) || ltb mostColumns (columns s) || ltb mostNodes (nodeCount s)) (TooMany s)

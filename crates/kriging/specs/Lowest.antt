@@ -7,8 +7,7 @@ use mathlib.Core.List.{List}
 use lib.ListN.{length, getD}
 use lib.Ieee.{Float, binary64, lt, ofBits}
 use Rattle.ieee.specs.Finite.{NotFinite, SomeNotFinite}
-use Rattle.variogram.specs.declared.VariogramModel.{VariogramModel}
-use Rattle.variogram.specs.declared.VariogramModel.the-variants.{Exponential, Gaussian}
+use Rattle.variogram.specs.Model.{NotOffered}
 use Rattle.kriging.specs.Survey.{Survey, Areas, wells, nodeCount, columns, externals, size}
 
 -- "a code outside 1..4"
@@ -42,11 +41,6 @@ pub data NumberNotFinite (s : Survey) : Type 0 where
   external : SomeNotFinite (s .external) → NumberNotFinite s
   node : SomeNotFinite (s .nodes) → NumberNotFinite s
   node-external : 0 < externals s → SomeNotFinite (s .nodeExternal) → NumberNotFinite s
-
--- "Exponential or Gaussian"
-pub data NotOffered : VariogramModel → Type 0 where
-  exponential : NotOffered Exponential
-  gaussian : NotOffered Gaussian
 
 -- "an answer area too short: m figures and variances; in a fit also m verdicts, n·m weights (node after node), p coefficients"
 pub data AnswerShort (s : Survey) (a : Areas) : Type 0 where

@@ -5,11 +5,8 @@ use mathlib.Core.Logic.{_↔_}
 use mathlib.Core.Bool.{Bool, true, false, not}
 use mathlib.Core.List.{List, [], _∷_}
 use lib.ListN.{length}
-use lib.Ieee.{Float}
 use Rattle.error.specs.Tests.{test, firstOf}
-use Rattle.error.proofs.Tells.{Tells, told, affirm, refute, opposite, both, either, different, below, at-most}
-use Rattle.ieee.specs.Finite.{allFinite, SomeNotFinite}
-use Rattle.ieee.proofs.FiniteLists.{not-all-finite}
+use Rattle.error.proofs.Tells.{Tells, affirm, refute, opposite, both, either, different, below, at-most, some-not-finite}
 use Rattle.semivariogram.specs.Call.{Samples, Areas, samples}
 use Rattle.semivariogram.specs.Limits.{mostSamples, mostBins}
 use Rattle.semivariogram.specs.Refusals.{wrongDimension, wrongPoints, tooFew, wrongBins, tooMany, notFinite, shortAnswer, refusal}
@@ -30,9 +27,6 @@ tells-15 q = opposite (both (at-most 1 (q .bins)) (at-most (q .bins) mostBins))
 
 pub tells-9 : (q : Samples) → Tells (tooMany q) (TooMany q)
 tells-9 q = below mostSamples (samples q)
-
-some-not-finite : (xs : List Float) → Tells (not (allFinite xs)) (SomeNotFinite xs)
-some-not-finite xs = told (not (allFinite xs)) (not-all-finite xs)
 
 pub tells-11 : (q : Samples) → Tells (notFinite q) (NumberNotFinite q)
 tells-11 q = either (some-not-finite (q .values)) (some-not-finite (q .points))

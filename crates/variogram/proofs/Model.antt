@@ -1,11 +1,13 @@
 -- Laws of the variogram: what it is below 2^-52, past it by its model, and sounding F. Assumes nothing.
 use mathlib.Core.Path.{_≡_, refl}
 use mathlib.Core.Bool.{true, false}
+use mathlib.Core.Logic.{_↔_}
+use lib.Dec.{T}
 use lib.Ieee.{Float, binary64, add, sub, mul, div, lt, le, ofBits, round}
 use Rattle.variogram.specs.declared.Variogram.{Variogram}
 use Rattle.variogram.specs.declared.VariogramModel.{VariogramModel}
-use Rattle.variogram.specs.declared.VariogramModel.the-variants.{Spherical, Linear}
-use Rattle.variogram.specs.Model.{variogram, epsilon, spheric, spherical, linear, ofModel, semivariance}
+use Rattle.variogram.specs.declared.VariogramModel.the-variants.{Spherical, Exponential, Gaussian, Linear}
+use Rattle.variogram.specs.Model.{variogram, epsilon, spheric, spherical, linear, ofModel, semivariance, notOffered, NotOffered, exponential, gaussian}
 
 -- the variogram of a distance below 2^-52 is +0, whatever the model and its numbers
 pub same-spot : (v : Variogram) (h : Float) → lt h epsilon ≡ true → semivariance v h ≡ ofBits binary64 0
@@ -31,3 +33,17 @@ pub sounding-F : (semivariance (variogram Spherical (ofBits binary64 0) (ofBits 
     × (semivariance (variogram Linear (ofBits binary64 0x3ff0_0000_0000_0000) (ofBits binary64 0x4010_0000_0000_0000) (ofBits binary64 0x4000_0000_0000_0000)) (ofBits binary64 0x4000_0000_0000_0000) ≡ ofBits binary64 0x4014_0000_0000_0000)
 unfolding semivariance spherical linear add sub mul div lt le ofBits round
 sounding-F = (refl, refl)
+
+-- ---- the models that are not offered
+pub not-offered : (m : VariogramModel) → T (notOffered m) ↔ NotOffered m
+not-offered m = (there m, from)
+  where
+    there : (m : VariogramModel) → T (notOffered m) → NotOffered m
+    there Spherical t = absurd t
+    there Exponential t = exponential
+    there Gaussian t = gaussian
+    there Linear t = absurd t
+
+    from : {m : VariogramModel} → NotOffered m → T (notOffered m)
+    from exponential = tt
+    from gaussian = tt

@@ -45,9 +45,13 @@ unfoldable pub semivariance : Variogram → Float → Float
 unfolding spherical linear
 semivariance v h = cond (lt h epsilon) (ofBits binary64 0) (ofModel (v .model) (v .nugget) (v .sill) (v .range) h)
 
--- "12 Exponential or Gaussian": what a call that takes a model refuses
+-- "12 Exponential or Gaussian": what a call that takes a model refuses, as a test and as the paper says it
 abbrev pub notOffered : VariogramModel → Bool
 notOffered Spherical = false
 notOffered Exponential = true
 notOffered Gaussian = true
 notOffered Linear = false
+
+pub data NotOffered : VariogramModel → Type 0 where
+  exponential : NotOffered Exponential
+  gaussian : NotOffered Gaussian
