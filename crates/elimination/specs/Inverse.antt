@@ -5,7 +5,7 @@ use mathlib.Core.List.{List}
 use lib.Dec.{eqb, ltb}
 use lib.Ieee.{Float, binary64, mul, ofBits}
 use Rattle.area.specs.Area.{filled}
-use Rattle.ieee.specs.Sums.{runningSum}
+use Rattle.ieee.specs.Sums.{addEach, runningSum}
 use Rattle.elimination.specs.Elimination.{at}
 
 abbrev pub zeroFloat : Float
@@ -29,5 +29,5 @@ inverseAt s work i j = at (2 * s) work i (s + j)
 
 -- "z = inverse times b, summed from 0 by rising column": entry i
 unfoldable pub timesInverse : ℕ → List Float → (ℕ → Float) → ℕ → Float
-unfolding runningSum
+unfolding addEach
 timesInverse s work b i = runningSum s (λ j. mul binary64 (inverseAt s work i j) (b j))

@@ -2,10 +2,14 @@
 use Prim.Native.Nat.{ℕ, zero, suc}
 use lib.Ieee.{Float, binary64, add, sub, ofBits}
 
--- "summed from 0": f 0, f 1, .., f (k - 1) added in turn
-unfoldable pub runningSum : ℕ → (ℕ → Float) → Float
-runningSum zero f = ofBits binary64 0
-runningSum (suc k) f = add binary64 (runningSum k f) (f k)
+-- f 0, f 1, .., f (k - 1) added to x in turn
+unfoldable pub addEach : Float → ℕ → (ℕ → Float) → Float
+addEach x zero f = x
+addEach x (suc k) f = add binary64 (addEach x k f) (f k)
+
+-- "summed from 0"
+abbrev pub runningSum : ℕ → (ℕ → Float) → Float
+runningSum k f = addEach (ofBits binary64 0) k f
 
 -- "minus each .. in turn": f 0, f 1, .., f (k - 1) taken from x
 unfoldable pub lessEach : Float → ℕ → (ℕ → Float) → Float

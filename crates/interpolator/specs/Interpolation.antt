@@ -6,7 +6,7 @@ use lib.ListN.{getD}
 use lib.Ieee.{Float, nan, binary64, mul}
 use Rattle.area.specs.Area.{written}
 use Rattle.ieee.specs.Floats.{maxOf}
-use Rattle.ieee.specs.Sums.{runningSum, lessEach}
+use Rattle.ieee.specs.Sums.{addEach, runningSum, lessEach}
 use Rattle.elimination.specs.declared.Elimination.{Elimination}
 use Rattle.elimination.specs.declared.Elimination.the-variants.{Done, Stopped, TooShort}
 use Rattle.elimination.specs.Elimination.{eliminated}
@@ -26,7 +26,7 @@ solution q work t i = timesInverse (size q) work (rightSide q t) i
 
 -- "Figure: Σ z_i·value_i"
 unfoldable pub figure : Query → List Float → ℕ → Float
-unfolding runningSum solution
+unfolding addEach solution
 figure q work t = runningSum (wells q) (λ i. mul binary64 (solution q work t i) (getD (q .values) i nan))
 
 -- "minus zero, anything below zero and NaN become +0"

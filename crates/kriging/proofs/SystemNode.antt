@@ -6,11 +6,11 @@ use lib.ListN.{getD}
 use lib.Ieee.{Float, nan, binary64, mul, ofBits}
 use Rattle.ieee.specs.Floats.{maxOf}
 use Rattle.kriging.specs.Survey.{Survey, wells, columns, size, valueAt}
-use Rattle.ieee.specs.Sums.{runningSum}
+use Rattle.ieee.specs.Sums.{addEach, runningSum}
 use Rattle.elimination.specs.Inverse.{inverseAt}
 use Rattle.kriging.specs.Node.{solution, figureOf, varianceOf}
 use Rattle.kriging.specs.Fit.{Node, nodeOf}
-use Rattle.kriging.specs.System.{nodePlace, Index, Well, Drift, Within, rightOf, addedTo, varianceSum, rowOf}
+use Rattle.kriging.specs.System.{nodePlace, Index, Well, Drift, Within, rightOf, varianceSum, rowOf}
 use Rattle.kriging.proofs.System.{row-below, right-is, variance-is}
 use Rattle.kriging.proofs.SystemTable.{table-at, sum-on}
 
@@ -22,8 +22,8 @@ module _ (s : Survey) (work : List Float) (q : ℕ) where
   -- "z = inverse times b, summed from 0 by rising column", b the right-hand side of the system
   pub node-unknown : (u : Index) → Within s u
       → unknownOf s (nodeOf s work q) u
-      ≡ addedTo
-      (addedTo (ofBits binary64 0) (wells s) (λ j. mul binary64 (inverseAt (size s) work (rowOf s u) (rowOf s (Well j))) (rightOf s (nodePlace s q) (Well j))))
+      ≡ addEach
+      (addEach (ofBits binary64 0) (wells s) (λ j. mul binary64 (inverseAt (size s) work (rowOf s u) (rowOf s (Well j))) (rightOf s (nodePlace s q) (Well j))))
       (columns s)
       (λ l. mul binary64 (inverseAt (size s) work (rowOf s u) (rowOf s (Drift l))) (rightOf s (nodePlace s q) (Drift l)))
   unfolding nodeOf solution

@@ -9,9 +9,8 @@ use mathlib.Core.List.{List, [], _∷_, _++_}
 use lib.ListN.{length, getD, length-append, List·getD-append}
 use lib.Seq.{getD-append-add, getD-at}
 use lib.Ieee.{Float, binary64, add, ofBits}
-use Rattle.ieee.specs.Sums.{runningSum}
+use Rattle.ieee.specs.Sums.{addEach, runningSum}
 use Rattle.kriging.specs.Node.{table}
-use Rattle.kriging.specs.System.{addedTo}
 
 pub table-length : {A : Type 0} (k : ℕ) (f : ℕ → A) → length (table k f) ≡ k
 table-length zero f = refl
@@ -41,8 +40,8 @@ same-table {A} (suc k) f g h =
 
 -- a running sum goes on from where its first k terms ended
 pub sum-on : (k : ℕ) (f g h : ℕ → Float) (n : ℕ) → ((i : ℕ) → i < k → f i ≡ g i) → ((l : ℕ) → l < n → f (k + l) ≡ h l)
-    → runningSum (k + n) f ≡ addedTo (addedTo (ofBits binary64 0) k g) n h
-unfolding runningSum addedTo
+    → runningSum (k + n) f ≡ addEach (addEach (ofBits binary64 0) k g) n h
+unfolding addEach
 sum-on zero f g h zero p q = refl
 sum-on (suc k) f g h zero p q =
     ap (λ (n : ℕ). runningSum n f) (add-zero (suc k))
@@ -55,7 +54,7 @@ sum-on k f g h (suc n) p q =
 
 -- sums of the same terms are the same
 pub same-sum : (k : ℕ) (f g : ℕ → Float) → ((i : ℕ) → i < k → f i ≡ g i) → runningSum k f ≡ runningSum k g
-unfolding runningSum
+unfolding addEach
 same-sum zero f g h = refl
 same-sum (suc k) f g h = ap₂ (λ (x y : Float). add binary64 x y) (same-sum k f g (λ i b. h i (omega arith))) (h k (omega arith))
 

@@ -4,7 +4,7 @@ use mathlib.Core.List.{List, [], _∷_, _++_}
 use lib.ListN.{getD}
 use lib.Ieee.{Float, nan, binary64, mul, ofBits}
 use Rattle.ieee.specs.Floats.{maxOf}
-use Rattle.ieee.specs.Sums.{runningSum}
+use Rattle.ieee.specs.Sums.{addEach, runningSum}
 use Rattle.elimination.specs.Inverse.{timesInverse}
 use Rattle.variogram.specs.Model.{semivariance}
 use Rattle.variogram.specs.Distance.{distance2d}
@@ -30,10 +30,10 @@ solution size work b = table size (timesInverse size work (λ j. getD b j nan))
 
 -- "Figure: Σ z_i·value_i"
 unfoldable pub figureOf : Survey → List Float → Float
-unfolding runningSum
+unfolding addEach
 figureOf s z = runningSum (wells s) (λ i. mul binary64 (getD z i nan) (valueAt s i))
 
 -- "Variance: Σ z·b over all s entries; minus zero, anything below zero and NaN become +0"
 unfoldable pub varianceOf : ℕ → List Float → List Float → Float
-unfolding runningSum
+unfolding addEach
 varianceOf size z b = maxOf (runningSum size (λ i. mul binary64 (getD z i nan) (getD b i nan))) (ofBits binary64 0)

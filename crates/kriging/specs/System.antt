@@ -9,6 +9,7 @@ use mathlib.Core.List.{List, [], _∷_, _++_, map}
 use lib.Dec.{eqb}
 use lib.ListN.{getD}
 use lib.Ieee.{Float, nan, binary64, add, mul, ofBits}
+use Rattle.ieee.specs.Sums.{addEach}
 use Rattle.variogram.specs.Model.{semivariance}
 use Rattle.variogram.specs.Distance.{distance2d}
 use Rattle.kriging.specs.Survey.{Survey, wells, columns, wellX, wellY, wellExternal, nodeX, nodeY, nodeExternalAt}
@@ -94,17 +95,12 @@ unfolding variogramOf driftAt
 rightOf s node (Well i) = variogramOf s (wellPlace s i) node
 rightOf s node (Drift l) = driftAt s l node
 
--- f 0, f 1, .., f (k - 1) added to a number in turn, each addition rounded
-unfoldable pub addedTo : Float → ℕ → (ℕ → Float) → Float
-addedTo start zero f = start
-addedTo start (suc k) f = add binary64 (addedTo start k f) (f k)
-
 -- Σ_i λ_i γ(x_i, x_0) + Σ_l μ_l f_l(x_0), from the unknowns
 unfoldable pub varianceSum : Survey → Place → (Index → Float) → Float
-unfolding rightOf addedTo
+unfolding rightOf addEach
 varianceSum s node unknown =
-    addedTo
-    (addedTo (ofBits binary64 0) (wells s) (λ i. mul binary64 (unknown (Well i)) (rightOf s node (Well i))))
+    addEach
+    (addEach (ofBits binary64 0) (wells s) (λ i. mul binary64 (unknown (Well i)) (rightOf s node (Well i))))
     (columns s)
     (λ l. mul binary64 (unknown (Drift l)) (rightOf s node (Drift l)))
 

@@ -9,6 +9,7 @@ use lib.Dec.{T, ltb}
 use lib.Ieee.{Float, inf, fin, binary64, prec, emax, low, up, down, round, units, odd, sum, add, sub, neg, mul, ofBits}
 use lib.Ieee.Fits.{round-is}
 use lib.Ieee.Scale.{finite}
+use Rattle.ieee.specs.Sums.{addEach}
 use Rattle.ieee.specs.Root.{wholeRoot, sqrtOf, rootOf}
 use Rattle.ieee.specs.Values.{multiple}
 use Rattle.variogram.specs.Distance.{square, squares, axisFrom, offered, distance}
@@ -68,7 +69,7 @@ add-clear x y (number m e) infinite = infinite
 add-clear x y (number m e) (number n d) = round-signed false (m * up e * down d + n * up d * down e) (down e * down d)
 
 squares-clear : (a b : ℕ → Float) (k : ℕ) → ((i : ℕ) → i < k → T (finite (a i))) → ((i : ℕ) → i < k → T (finite (b i))) → Signed false (squares a b k)
-unfolding squares ofBits
+unfolding addEach ofBits
 squares-clear a b zero f g = number _ _
 squares-clear a b (suc k) f g =
     let d = difference (a k) (b k) (f k (omega arith)) (g k (omega arith)) in

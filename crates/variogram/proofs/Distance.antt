@@ -8,6 +8,7 @@ use mathlib.Core.List.{List}
 use lib.Dec.{leb}
 use lib.ListN.{length, List·getD-eq-default}
 use lib.Ieee.{Float, nan, binary64, sub, mul, neg}
+use Rattle.ieee.specs.Sums.{addEach}
 use borrow.Author.Tests.{le-leb, lt-leb, leb-true, leb-false}
 use Rattle.ieee.specs.Root.{sqrtOf}
 use Rattle.ieee.proofs.RoundingSum.{add-nan}
@@ -32,7 +33,7 @@ at-most i d h = mul-le-mul-left i h
 
 -- ---- the distance back
 pub squares-opposite : (a b : ℕ → Float) (k : ℕ) → squares a b k ≡ squares b a k
-unfolding squares
+unfolding addEach
 squares-opposite a b zero = refl
 squares-opposite a b (suc k) = rw (squares-opposite a b k, square-opposite (a k) (b k))
 
@@ -49,7 +50,7 @@ distance-back xs i ys j d = rw (squares-opposite (axisFrom xs (i * d)) (axisFrom
 -- ---- over two axes the two distances agree
 pub distance-plane : (xs : List Float) (i : ℕ) (ys : List Float) (j : ℕ)
     → distance xs i ys j 2 ≡ distance2d (axisFrom xs (i * 2) 0) (axisFrom xs (i * 2) 1) (axisFrom ys (j * 2) 0) (axisFrom ys (j * 2) 1)
-unfolding distance distance2d squaredDistance2d squares
+unfolding distance distance2d squaredDistance2d addEach
 distance-plane xs i ys j = rw (plus-square (sub binary64 (axisFrom xs (i * 2) 0) (axisFrom ys (j * 2) 0)))
 
 -- ---- a point past the end of its list
@@ -64,7 +65,7 @@ square-nan x = rw (sub-nan x)
 
 -- Where the last axis of one of the points is a NaN, so is the sum.
 last-nan : (a b : ℕ → Float) (k : ℕ) → b k ≡ nan → squares a b (suc k) ≡ nan
-unfolding squares
+unfolding addEach
 last-nan a b k h = rw (h, square-nan (a k), add-nan (squares a b k))
 
 root-nan : sqrtOf nan ≡ nan

@@ -7,6 +7,7 @@ use mathlib.Core.List.{List}
 use lib.Dec.{T}
 use lib.Ieee.{Float, nan, inf, fin, binary64, sub, mul, lt, ofBits}
 use lib.Ieee.Scale.{finite}
+use Rattle.ieee.specs.Sums.{addEach}
 use Rattle.ieee.specs.Root.{sqrtOf}
 use Rattle.ieee.proofs.Zero.{sub-self}
 use Rattle.variogram.specs.declared.Variogram.{Variogram}
@@ -33,7 +34,7 @@ distance2d-itself x y f g = rw (square-itself x f, plus-square (sub binary64 y y
 
 -- in the older calls
 squares-itself : (a : ℕ → Float) (d : ℕ) → ((k : ℕ) → k < d → T (finite (a k))) → squares a a d ≡ ofBits binary64 0
-unfolding squares
+unfolding addEach
 squares-itself a zero f = refl
 squares-itself a (suc d) f =
     rw (squares-itself a d (λ k h. f k (omega arith)), plus-square (sub binary64 (a d) (a d))) (square-itself (a d) (f d (omega arith)))

@@ -3,6 +3,7 @@ use Prim.Native.Nat.{_-_, _≤_}
 use mathlib.Core.Path.{_≡_, refl, _∙_}
 use native.Mathlib.Omega.{arith}
 use native.Mathlib.Numerals.{add-one}
+use Rattle.ieee.specs.Sums.{addEach}
 use Rattle.variogram.specs.Distance.{squares, axisFrom}
 use Rattle.variogram.proofs.sum_of_squares.Statement.{statement}
 use Rattle.variogram.proofs.sum_of_squares.Tie as tie
@@ -14,7 +15,7 @@ abbrev μ-loop : tie.MeasureT-loop
 μ-loop p1 a p2 b d dist-sq₀ k₀ dist-sq k = d - k
 
 loop-holds : tie.Need-loop-holds Inv-loop μ-loop
-unfolding squares
+unfolding addEach
 loop-holds c = (omega arith, refl)
 
 add-diff : tie.Need-add-diff Inv-loop μ-loop
@@ -42,7 +43,7 @@ loop-less : tie.Need-loop-less Inv-loop μ-loop
 loop-less c = omega arith
 
 loop-again : tie.Need-loop-again Inv-loop μ-loop
-unfolding squares
+unfolding addEach
 loop-again c = let at = c .before .before .before in (omega arith, rw (add-one, at .loop .inv .1))
 
 returns : tie.Need-returns Inv-loop μ-loop
