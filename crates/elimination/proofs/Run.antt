@@ -11,7 +11,8 @@ use lib.Ieee.{Float, nan, lt}
 use Rattle.area.specs.Area.{written}
 use Rattle.area.proofs.Places.{as-it-was}
 use Rattle.elimination.specs.declared.Elimination.the-variants.{Done, Stopped, TooShort}
-use Rattle.elimination.specs.Elimination.{at, magnitude, epsilon, hold, small, swapped, step, ended, run, eliminated}
+use Rattle.ieee.specs.Floats.{epsilon}
+use Rattle.elimination.specs.Elimination.{at, magnitude, hold, small, swapped, step, ended, run, eliminated}
 
 -- a row changes places with itself: nothing changes, so the code may leave it out
 pub swap-self : (w i : ℕ) (xs : List Float) → swapped w i i xs ≡ xs

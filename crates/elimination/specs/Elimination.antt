@@ -8,7 +8,7 @@ use lib.Dec.{eqb, ltb}
 use lib.ListN.{length, getD}
 use lib.Ieee.{Float, nan, binary64, ofBits, lt, eq, sub, mul, div}
 use Rattle.area.specs.Area.{written}
-use Rattle.ieee.specs.Floats.{absOf}
+use Rattle.ieee.specs.Floats.{absOf, epsilon}
 use Rattle.elimination.specs.declared.Elimination.{Elimination}
 use Rattle.elimination.specs.declared.Elimination.the-variants.{Done, Stopped, TooShort}
 
@@ -31,10 +31,6 @@ held width i (suc m) xs =
 unfoldable pub hold : ℕ → ℕ → List Float → ℕ
 unfolding held
 hold s i xs = held (2 * s) i (s - (i + 1)) xs
-
--- 2^-52
-abbrev pub epsilon : Float
-epsilon = ofBits binary64 0x3cb0_0000_0000_0000
 
 -- "Held magnitude below 2^-52", at which step i stops: not where it equals 2^-52, and not where it is a NaN
 unfoldable pub small : ℕ → ℕ → List Float → Bool

@@ -1,7 +1,7 @@
 -- What the Rust's `abs`, `max`, `min` and `floor` on f64 are, as far as its calls need them, at every value. Assumes nothing.
 use Prim.Native.Nat.{_+_, _-_, _*_, _/_}
 use mathlib.Core.Bool.{true, false, cond}
-use lib.Ieee.{Float, nan, inf, fin, lt, up, down, binary64, round}
+use lib.Ieee.{Float, nan, inf, fin, lt, up, down, binary64, ofBits, round}
 
 -- the magnitude: the sign is cleared, a zero's and an infinity's too; a NaN stays one
 abbrev pub absOf : Float → Float
@@ -16,6 +16,14 @@ maxOf x y = cond (lt y x) x y
 -- x where it is less than y, else y: so y where one of them is a NaN, and y where both are zeros
 abbrev pub minOf : Float → Float → Float
 minOf x y = cond (lt x y) x y
+
+-- "minus zero, anything below zero and NaN become +0"
+abbrev pub notBelowZero : Float → Float
+notBelowZero x = maxOf x (ofBits binary64 0)
+
+-- 2^-52
+abbrev pub epsilon : Float
+epsilon = ofBits binary64 0x3cb0_0000_0000_0000
 
 -- the greatest whole number that is not above x, with x's sign, a zero's too: below zero its magnitude is the least whole number that is not below that of x.
 -- Infinities and a NaN stay

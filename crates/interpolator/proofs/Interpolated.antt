@@ -9,7 +9,7 @@ use mathlib.Core.Bool.{true, false}
 use mathlib.Core.List.{List}
 use lib.ListN.{length, getD}
 use lib.Ieee.{Float, nan, binary64, ofBits, lt}
-use Rattle.ieee.specs.Floats.{absOf}
+use Rattle.ieee.specs.Floats.{absOf, epsilon}
 use Rattle.area.specs.Area.{written, Kept}
 use Rattle.area.proofs.Places.{at-place}
 use Rattle.area.proofs.Kept.{kept-same, kept-then, kept-written}
@@ -140,7 +140,7 @@ added-some : (t : KrigingType) → 0 < added t
 added-some Ordinary = omega arith
 added-some Universal = omega arith
 
-below-epsilon : lt (absOf zeroFloat) (ofBits binary64 0x3cb0_0000_0000_0000) ≡ true
+below-epsilon : lt (absOf zeroFloat) epsilon ≡ true
 unfolding lt ofBits
 below-epsilon = refl
 
@@ -150,7 +150,7 @@ unfolding small stepped
 zero-column s xs p l z = record {
   before = record { whole = l; steps = omega arith; none = λ k b. absurd (not-suc-le-zero b) };
   reached = p;
-  below = ap (λ (x : Float). lt (absOf x) (ofBits binary64 0x3cb0_0000_0000_0000)) (z (hold s 0 xs) (hold-below s 0 xs p)) ∙ below-epsilon;
+  below = ap (λ (x : Float). lt (absOf x) epsilon) (z (hold s 0 xs) (hold-below s 0 xs p)) ∙ below-epsilon;
 }
 
 -- "n = 0 gives 19", of Ordinary and of Universal, and the work area holds the matrix beside the identity

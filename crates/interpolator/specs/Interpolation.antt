@@ -5,12 +5,12 @@ use mathlib.Core.List.{List}
 use lib.ListN.{getD}
 use lib.Ieee.{Float, nan, binary64, mul}
 use Rattle.area.specs.Area.{written}
-use Rattle.ieee.specs.Floats.{maxOf}
+use Rattle.ieee.specs.Floats.{notBelowZero}
 use Rattle.ieee.specs.Sums.{addEach, runningSum, lessEach}
 use Rattle.elimination.specs.declared.Elimination.{Elimination}
 use Rattle.elimination.specs.declared.Elimination.the-variants.{Done, Stopped, TooShort}
 use Rattle.elimination.specs.Elimination.{eliminated}
-use Rattle.elimination.specs.Inverse.{zeroFloat, timesInverse}
+use Rattle.elimination.specs.Inverse.{timesInverse}
 use Rattle.interpolator.specs.Call.{Query, Areas, Outcome, wells, nodes, size}
 use Rattle.interpolator.specs.System.{column, assembled}
 use Rattle.interpolator.specs.Refusals.{refusal}
@@ -28,10 +28,6 @@ solution q work t i = timesInverse (size q) work (rightSide q t) i
 unfoldable pub figure : Query → List Float → ℕ → Float
 unfolding addEach solution
 figure q work t = runningSum (wells q) (λ i. mul binary64 (solution q work t i) (getD (q .values) i nan))
-
--- "minus zero, anything below zero and NaN become +0"
-abbrev pub notBelowZero : Float → Float
-notBelowZero x = maxOf x zeroFloat
 
 -- "Variance: sill minus each z·b in turn, then as above"
 unfoldable pub variance : Query → List Float → ℕ → Float

@@ -2,8 +2,8 @@
 use Prim.Native.Nat.{ℕ, zero, suc}
 use mathlib.Core.List.{List, [], _∷_, _++_}
 use lib.ListN.{getD}
-use lib.Ieee.{Float, nan, binary64, mul, ofBits}
-use Rattle.ieee.specs.Floats.{maxOf}
+use lib.Ieee.{Float, nan, binary64, mul}
+use Rattle.ieee.specs.Floats.{notBelowZero}
 use Rattle.ieee.specs.Sums.{addEach, runningSum}
 use Rattle.elimination.specs.Inverse.{timesInverse}
 use Rattle.variogram.specs.Model.{semivariance}
@@ -36,4 +36,4 @@ figureOf s z = runningSum (wells s) (λ i. mul binary64 (getD z i nan) (valueAt 
 -- "Variance: Σ z·b over all s entries; minus zero, anything below zero and NaN become +0"
 unfoldable pub varianceOf : ℕ → List Float → List Float → Float
 unfolding addEach
-varianceOf size z b = maxOf (runningSum size (λ i. mul binary64 (getD z i nan) (getD b i nan))) (ofBits binary64 0)
+varianceOf size z b = notBelowZero (runningSum size (λ i. mul binary64 (getD z i nan) (getD b i nan)))

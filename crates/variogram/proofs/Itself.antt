@@ -11,7 +11,8 @@ use Rattle.ieee.specs.Sums.{addEach}
 use Rattle.ieee.specs.Root.{sqrtOf}
 use Rattle.ieee.proofs.Zero.{sub-self}
 use Rattle.variogram.specs.declared.Variogram.{Variogram}
-use Rattle.variogram.specs.Model.{epsilon, semivariance}
+use Rattle.ieee.specs.Floats.{epsilon}
+use Rattle.variogram.specs.Model.{semivariance}
 use Rattle.variogram.specs.Distance.{square, squaredDistance2d, distance2d, squares, axisFrom, offered, distance}
 use Rattle.variogram.proofs.Model.{same-spot}
 use Rattle.variogram.proofs.Squares.{plus-square}

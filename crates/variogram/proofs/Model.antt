@@ -4,10 +4,11 @@ use mathlib.Core.Bool.{true, false}
 use mathlib.Core.Logic.{_↔_}
 use lib.Dec.{T}
 use lib.Ieee.{Float, binary64, add, sub, mul, div, lt, le, ofBits, round}
+use Rattle.ieee.specs.Floats.{epsilon}
 use Rattle.variogram.specs.declared.Variogram.{Variogram}
 use Rattle.variogram.specs.declared.VariogramModel.{VariogramModel}
 use Rattle.variogram.specs.declared.VariogramModel.the-variants.{Spherical, Exponential, Gaussian, Linear}
-use Rattle.variogram.specs.Model.{variogram, epsilon, spheric, spherical, linear, ofModel, semivariance, notOffered, NotOffered, exponential, gaussian}
+use Rattle.variogram.specs.Model.{variogram, spheric, spherical, linear, ofModel, semivariance, notOffered, NotOffered, exponential, gaussian}
 
 -- the variogram of a distance below 2^-52 is +0, whatever the model and its numbers
 pub same-spot : (v : Variogram) (h : Float) → lt h epsilon ≡ true → semivariance v h ≡ ofBits binary64 0

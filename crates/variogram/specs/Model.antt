@@ -1,6 +1,7 @@
 -- The variogram at a distance: paper 01, "Variogram", each operation rounded once and in the order in which it stands there. Assumes nothing.
 use mathlib.Core.Bool.{Bool, true, false, cond}
 use lib.Ieee.{Float, nan, binary64, add, sub, mul, div, lt, le, ofBits}
+use Rattle.ieee.specs.Floats.{epsilon}
 use Rattle.variogram.specs.declared.Variogram.{Variogram}
 use Rattle.variogram.specs.declared.VariogramModel.{VariogramModel}
 use Rattle.variogram.specs.declared.VariogramModel.the-variants.{Spherical, Exponential, Gaussian, Linear}
@@ -8,10 +9,6 @@ use Rattle.variogram.specs.declared.VariogramModel.the-variants.{Spheric
 -- a variogram of a model, "nugget, sill, range": the one way in which one is made
 abbrev pub variogram : VariogramModel → Float → Float → Float → Variogram
 variogram m nugget sill range = record { nugget = nugget; sill = sill; range = range; model = m }
-
--- 2^-52
-abbrev pub epsilon : Float
-epsilon = ofBits binary64 0x3cb0_0000_0000_0000
 
 -- "`powi(3)` as a·(a·a)"
 abbrev pub cube : Float → Float
