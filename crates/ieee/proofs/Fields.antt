@@ -1,11 +1,11 @@
 -- A finite f64 by its bit fields: the multiple of 2^-1074 that it is, its sign, and that these two tell it from every other f64. Assumes nothing.
 use Prim.Native.Nat.{ℕ, zero, suc, _+_, _*_, _/_, _%_, _^_}
 use native.Mathlib.Nat.{mul-div-cancel, mul-one}
-use mathlib.Core.Path.{_≡_, ap, sym, _∙_, subst}
-use mathlib.Core.Bool.{Bool, true, false, cond}
+use mathlib.Core.Path.{_≡_, refl, ap, sym, _∙_, subst}
+use mathlib.Core.Bool.{Bool, true, false, cond, false≢true}
 use lib.IntN.{ℤ}
 use lib.Dec.{T, eqb, leb}
-use lib.Ieee.{Float, nan, inf, fin, binary64, fits, down, ofBits, toBits, ofFields, odd}
+use lib.Ieee.{Float, nan, inf, fin, binary64, fits, down, ofBits, toBits, ofFields, odd, isNan}
 use lib.Ieee.Fits.{down-pos}
 use lib.Ieee.Bits.{ofBits-toBits}
 use lib.Ieee.Exact.{HasValue, odd-sign}
@@ -73,3 +73,10 @@ same-value (fin a m d) (fin b n e) f g h k s v =
     sym (ofBits-toBits binary64 (fin a m d) f)
     ∙ ap (λ (p : ℕ). ofBits binary64 p) (pattern-same a m n d e v ∙ ap (λ (t : Bool). toBits binary64 (fin t n e)) s)
     ∙ ofBits-toBits binary64 (fin b n e) g
+
+-- ---- the one NaN
+pub is-nan : (x : Float) → isNan x ≡ true → x ≡ nan
+unfolding isNan
+is-nan nan h = refl
+is-nan (inf s) h = absurd (false≢true h)
+is-nan (fin s m e) h = absurd (false≢true h)

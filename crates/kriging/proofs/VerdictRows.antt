@@ -6,28 +6,16 @@ use native.Mathlib.Omega.{arith}
 use mathlib.Core.Path.{_≡_, refl, sym, ap, _∙_, subst}
 use mathlib.Core.Logic.{_⊎_, inl, inr, ⊎-elim}
 use mathlib.Core.Bool.{Bool, true, false, _&&_, cond}
-use lib.Dec.{T, leb, leb→le, le→leb}
+use lib.Dec.{T, leb, leb→le}
+use borrow.Author.Tests.{le-leb, lt-leb}
+use lib.Ieee.Bits.{is-true}
 use lib.Ieee.{Float}
 use lib.Ieee.Scale.{finite}
+use Rattle.ieee.proofs.Zero.{holds}
 use Rattle.kriging.specs.Audit.{Audited, weighted, within, rowMet, all, allFinite, firstMissed}
 use Rattle.kriging.specs.Trend.{AllFinite, SomeNotFinite, aWeight, anEntry, aNodeEntry, theFigure, Close, Met}
 
--- ---- a test and the fact
-
-pub yes-of : {b : Bool} → b ≡ true → T b
-yes-of e = subst T (sym e) tt
-
-pub of-yes : (b : Bool) → T b → b ≡ true
-of-yes true t = refl
-of-yes false t = absurd t
-
-pub no-of : {b : Bool} → b ≡ false → ¬ T b
-no-of e t = subst T e t
-
-pub of-no : (b : Bool) → ¬ T b → b ≡ false
-of-no true n = absurd (n tt)
-of-no false n = refl
-
+-- ---- a test comes out one way or the other
 pub which : (b : Bool) → (b ≡ true) ⊎ (b ≡ false)
 which true = inl refl
 which false = inr refl
@@ -116,24 +104,21 @@ first-missed (suc k) j met = ⊎-elim (λ e. on e (first-missed k (j + 1) met)) 
 
 yes-close : (a : Audited) (x : ℕ → Float) (target : Float) → Close a x target → within a (weighted a x) target ≡ true
 unfolding within weighted
-yes-close a x target h = of-yes (within a (weighted a x) target) (h .le)
+yes-close a x target h = is-true (within a (weighted a x) target) (h .le)
 
 close-yes : (a : Audited) (x : ℕ → Float) (target : Float) → within a (weighted a x) target ≡ true → Close a x target
 unfolding within weighted
-close-yes a x target h = record { le = yes-of h }
+close-yes a x target h = record { le = holds (within a (weighted a x) target) h }
 
 column-row : (a : Audited) (c : ℕ) → c < a .p → rowMet a (suc c) ≡ within a (weighted a (λ i. a .drift i c)) (a .nodeDrift c)
 unfolding rowMet
 column-row a c l =
     let e : suc c - 1 ≡ c = omega arith in
-    rw (of-yes (leb (suc c) (a .p)) (le→leb (suc c) (a .p) l), e)
+    rw (le-leb (suc c) (a .p) l, e)
 
 figure-row : (a : Audited) → rowMet a (suc (a .p)) ≡ within a (weighted a (a .value)) (a .figure)
 unfolding rowMet
-figure-row a = rw (of-no (leb (suc (a .p)) (a .p)) (λ t. clash (leb→le (suc (a .p)) (a .p) t)))
-  where
-    clash : suc (a .p) ≤ a .p → ⊥
-    clash l = omega arith
+figure-row a = rw (lt-leb (suc (a .p)) (a .p) (omega arith))
 
 pub met-yes : (a : Audited) (j : ℕ) → rowMet a j ≡ true → Met a j
 met-yes a j h = record {

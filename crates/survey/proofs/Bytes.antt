@@ -3,13 +3,14 @@ use Prim.Native.Nat.{ℕ, zero, suc, _+_, _*_, _/_, _%_, _^_, _<_}
 use native.Mathlib.Nat.{div-lt-iff-lt-mul, pow-suc, mod-lt}
 use native.Mathlib.Omega.{arith}
 use mathlib.Core.Path.{_≡_, refl, ap, ap₂, sym, _∙_, subst}
-use mathlib.Core.Bool.{Bool, true, _&&_, false≢true}
+use mathlib.Core.Bool.{Bool, true, _&&_}
 use mathlib.Core.List.{List, [], _∷_, _++_}
 use lib.Dec.{T, ltb, lt→ltb, lit<}
 use lib.ListN.{length, take, drop}
-use lib.Ieee.{Float, nan, inf, fin, binary64, fits, toBits, ofBits, isNan, nanBits}
+use lib.Ieee.{Float, nan, binary64, fits, toBits, ofBits, nanBits}
 use lib.Ieee.Bits.{ofBits-toBits, toBits-lt, nanBits-is}
 use lib.Ieee.Fits.{and-i, and-l, and-r}
+use Rattle.ieee.proofs.Fields.{is-nan}
 use Rattle.survey.specs.Bytes.{littleEndian, numberIn, f64Bytes, f64sIn}
 
 -- every number of the list is an f64, as every number is that the language hands over
@@ -60,13 +61,8 @@ length-f64sIn (suc count) bytes = ap suc (length-f64sIn count (drop 8 bytes))
 
 -- "all NaNs counting as one": every NaN pattern is read as the one NaN
 pub nan-pattern : (bytes : List ℕ) → nanBits binary64 (numberIn (take 8 bytes)) ≡ true → f64sIn 1 bytes ≡ nan ∷ []
-unfolding f64sIn isNan
+unfolding f64sIn
 nan-pattern bytes h = ap {B = List Float} (λ x. x ∷ []) (is-nan (ofBits binary64 (numberIn (take 8 bytes))) (sym (nanBits-is binary64 (numberIn (take 8 bytes))) ∙ h))
-  where
-    is-nan : (x : Float) → isNan x ≡ true → x ≡ nan
-    is-nan nan e = refl
-    is-nan (inf s) e = absurd (false≢true e)
-    is-nan (fin s m e) f = absurd (false≢true f)
 
 -- ---- a byte is below 256
 abbrev pub allBytes : List ℕ → Bool

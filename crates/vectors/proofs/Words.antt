@@ -13,6 +13,7 @@ use lib.Pow.{pow-add}
 use lib.Ieee.{Float, nan, inf, fin, binary64, ofBits, nanBits, isNan, eq, ne}
 use lib.Ieee.Bits.{nanBits-is, nanBits-above}
 use lib.Ieee.Compare.{differs-from-itself}
+use Rattle.ieee.proofs.Fields.{is-nan}
 use Rattle.vectors.specs.Words.{littleEndian}
 
 -- a byte past the end
@@ -35,14 +36,8 @@ room-more k w b h g =
 
 -- ---- patterns
 -- a pattern above infinity's, its sign aside, is a NaN's
-nan-only : (x : Float) → isNan x ≡ true → x ≡ nan
-unfolding isNan
-nan-only nan h = refl
-nan-only (inf s) h = cc
-nan-only (fin s m e) h = cc
-
 pub nan-pattern : (n : ℕ) → 0x7ff0_0000_0000_0000 < n % 2 ^ 63 → ofBits binary64 n ≡ nan
-nan-pattern n h = nan-only (ofBits binary64 n) (sym (nanBits-is binary64 n) ∙ nanBits-above binary64 n ∙ lt-ltb 0x7ff0_0000_0000_0000 (n % 2 ^ 63) h)
+nan-pattern n h = is-nan (ofBits binary64 n) (sym (nanBits-is binary64 n) ∙ nanBits-above binary64 n ∙ lt-ltb 0x7ff0_0000_0000_0000 (n % 2 ^ 63) h)
 
 pub no-nan-pattern : (n : ℕ) → n % 2 ^ 63 ≤ 0x7ff0_0000_0000_0000 → T (not (nanBits binary64 n))
 no-nan-pattern n h = rw (nanBits-above binary64 n, le-ltb 0x7ff0_0000_0000_0000 (n % 2 ^ 63) h) tt
