@@ -8,7 +8,7 @@ use mathlib.Core.Logic.{_≢_, _↔_, _⊎_, inl, inr}
 use mathlib.Core.Bool.{true, false}
 use mathlib.Core.List.{List}
 use lib.ListN.{length, getD}
-use lib.Ieee.{Float, nan, binary64, ofBits, lt}
+use lib.Ieee.{Float, nan, ofBits, lt}
 use Rattle.ieee.specs.Floats.{absOf, epsilon}
 use Rattle.area.specs.Area.{written, Kept}
 use Rattle.area.proofs.Places.{at-place}

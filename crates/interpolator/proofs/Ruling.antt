@@ -2,16 +2,13 @@
 use Prim.Native.Nat.{ℕ, _*_, _%_}
 use native.Mathlib.Omega.{arith}
 use mathlib.Core.Path.{_≡_, refl, sym, subst}
-use mathlib.Core.Logic.{_≢_, _↔_, _⊎_, inl, inr}
-use mathlib.Core.Bool.{Bool, true, false, not}
-use mathlib.Core.List.{List, [], _∷_}
+use mathlib.Core.Logic.{_≢_, _↔_}
+use mathlib.Core.Bool.{Bool, true, false}
+use mathlib.Core.List.{[], _∷_}
 use lib.Dec.{T}
 use lib.ListN.{length}
-use lib.Ieee.{Float}
-use lib.Ieee.Scale.{finite}
 use Rattle.error.specs.Tests.{test, firstOf}
 use Rattle.error.proofs.Tells.{Tells, told, affirm, refute, opposite, both, either, equal, different, below, at-most, not-finite-is, some-not-finite}
-use Rattle.ieee.specs.Finite.{allFinite, NotFinite, SomeNotFinite}
 use Rattle.interpolator.specs.declared.KrigingType.{KrigingType}
 use Rattle.interpolator.specs.declared.KrigingType.the-variants.{Ordinary, Universal}
 use Rattle.interpolator.specs.Call.{Query, Areas, wells, nodes, size}

@@ -4,14 +4,13 @@ use native.Mathlib.Nat.{not-suc-le-zero, le-of-suc-le-suc}
 use native.Mathlib.Omega.{arith}
 use mathlib.Core.Path.{_≡_}
 use mathlib.Core.Logic.{_⊎_, inl, inr}
-use mathlib.Core.Bool.{true, not, _||_}
+use mathlib.Core.Bool.{true, _||_}
 use mathlib.Core.List.{List, [], _∷_}
-use lib.Dec.{T, ltb}
+use lib.Dec.{ltb}
 use lib.ListN.{length, getD}
 use lib.Ieee.{Float, binary64, lt, ofBits}
-use lib.Ieee.Scale.{finite}
 use Rattle.error.proofs.Tells.{Tells, told-as, both, either, is-true, below, not-finite-is, some-not-finite}
-use Rattle.ieee.specs.Finite.{allFinite, NotFinite, SomeNotFinite}
+use Rattle.ieee.specs.Finite.{NotFinite, SomeNotFinite}
 use Rattle.kriging.specs.Survey.{Survey, Areas, wells, nodeCount, columns, externals}
 use Rattle.kriging.specs.Limits.{mostWells, mostColumns, mostNodes}
 use Rattle.kriging.specs.Refusals.{any, badCode, badAmount, anyNotFinite, shortAnswer}

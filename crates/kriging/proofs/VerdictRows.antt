@@ -6,7 +6,7 @@ use native.Mathlib.Omega.{arith}
 use mathlib.Core.Path.{_≡_, refl, sym, ap, _∙_, subst}
 use mathlib.Core.Logic.{_⊎_, inl, inr, ⊎-elim}
 use mathlib.Core.Bool.{Bool, true, false, _&&_, cond}
-use lib.Dec.{T, leb, leb→le}
+use lib.Dec.{T}
 use borrow.Author.Tests.{le-leb, lt-leb}
 use lib.Ieee.Bits.{is-true}
 use lib.Ieee.{Float}

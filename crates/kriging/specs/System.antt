@@ -3,7 +3,7 @@
 --     Σ_j λ_j f_l(x_j) = f_l(x_0) for each l,
 --     and the variance is Σ_i λ_i γ(x_i, x_0) + Σ_l μ_l f_l(x_0).
 -- Paper 01 adds r to the diagonal. Where these stand in the matrix is said last and apart, by `rowOf`. Assumes nothing.
-use Prim.Native.Nat.{ℕ, zero, suc, _+_, _<_}
+use Prim.Native.Nat.{ℕ, suc, _+_, _<_}
 use mathlib.Core.Bool.{cond}
 use mathlib.Core.List.{List, [], _∷_, _++_, map}
 use lib.Dec.{eqb}

@@ -1,9 +1,9 @@
 -- Which number a call gets: the first in the paper's order whose condition holds, and 0 exactly where none does. Assumes nothing.
 use Prim.Native.Nat.{ℕ, _*_}
-use mathlib.Core.Path.{_≡_, refl, subst}
+use mathlib.Core.Path.{_≡_, subst}
 use mathlib.Core.Logic.{_↔_}
-use mathlib.Core.Bool.{Bool, true, false, not}
-use mathlib.Core.List.{List, [], _∷_}
+use mathlib.Core.Bool.{Bool, true, false}
+use mathlib.Core.List.{[], _∷_}
 use lib.ListN.{length}
 use Rattle.error.specs.Tests.{test, firstOf}
 use Rattle.error.proofs.Tells.{Tells, affirm, refute, opposite, both, either, different, below, at-most, some-not-finite}

@@ -1,6 +1,6 @@
 -- Words of 64 bits, as a record has them, and the tally of what was replayed. Assumes nothing.
 use Prim.Native.Nat.{ℕ, zero, suc, _+_, _*_, _%_, _^_}
-use mathlib.Core.Bool.{Bool, true, false, cond}
+use mathlib.Core.Bool.{Bool, true, cond}
 use mathlib.Core.List.{List}
 use lib.ListN.{getD}
 use Rattle.vectors.specs.declared.Tally.{Tally}

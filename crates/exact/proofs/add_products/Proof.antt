@@ -1,17 +1,16 @@
 -- `exact::add_products` meets its contract. The invariant: the words hold the sum and the first i products, and at is the place in f of the next.
 -- The measure is what is left of z. Assumes nothing.
-use Prim.Native.Nat.{ℕ, _+_, _-_, _*_, _^_, _≤_, _<_}
+use Prim.Native.Nat.{ℕ, _+_, _-_, _*_, _≤_}
 use mathlib.Core.Path.{_≡_, sym, ap, _∙_, subst}
 use native.Mathlib.Omega.{arith}
-use lib.ListN.{length, getD, set, length-set}
-use mathlib.Core.List.{List}
-use lib.Ieee.{Float, nan}
+use lib.ListN.{length, getD}
+use lib.Ieee.{nan}
 use mathlib.Core.Logic.{inl, inr, ⊎-elim}
 use lib.IntN.{ℤ, _+ℤ_, _*ℤ_, +ℤ-idr}
 use Rattle.exact.specs.Units.{units}
 use Rattle.exact.specs.Products.{dotted}
 use Rattle.exact.specs.Whole.{sumℤ}
-use Rattle.exact.specs.Words.{number, reading, held}
+use Rattle.exact.specs.Words.{reading, held}
 use Rattle.exact.proofs.Words.{Words, are-words, their-length}
 use Rattle.exact.proofs.Held.{held-reading, held-words, length-held}
 use Rattle.exact.proofs.Products.{productAt, product-added, one-more, column-ends}

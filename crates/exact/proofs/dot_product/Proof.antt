@@ -3,7 +3,7 @@ use mathlib.Core.Path.{ap, _∙_}
 use mathlib.Core.List.{List}
 use Prim.Native.Nat.{ℕ}
 use borrow.Author.Needs.{needs}
-use lib.IntN.{ℤ, pos, _+ℤ_, +ℤ-idl}
+use lib.IntN.{pos, _+ℤ_, +ℤ-idl}
 use Rattle.exact.specs.Words.{reading, held}
 use Rattle.exact.specs.Products.{dotted}
 use Rattle.exact.proofs.Held.{held-zero, held-add}

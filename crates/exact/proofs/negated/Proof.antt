@@ -8,7 +8,7 @@ use mathlib.Core.Logic.{inr}
 use native.Mathlib.Nat.{zero-add}
 use native.Mathlib.Omega.{arith}
 use native.Mathlib.Numerals.{add-one}
-use lib.ListN.{length, getD, set, take, replicate, length-set}
+use lib.ListN.{length, getD, take, replicate, length-set}
 use lib.Seq.{take-all}
 use lib.IntN.{pos, negℤ, _-ℤ_, +ℤ-idl}
 use Rattle.exact.specs.Words.{number, reading, held}

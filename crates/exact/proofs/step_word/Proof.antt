@@ -1,5 +1,5 @@
 -- `exact::step_word` meets its contract: a word added or taken away, by the sign. Assumes nothing.
-use Prim.Native.Nat.{ℕ, _+_, _*_, _^_}
+use Prim.Native.Nat.{_+_, _*_, _^_}
 use mathlib.Core.Path.{_≡_, sym, subst}
 use mathlib.Core.Bool.{Bool, true, false}
 use lib.IntN.{pos, _+ℤ_}
