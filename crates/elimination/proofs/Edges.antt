@@ -5,7 +5,7 @@ use mathlib.Core.List.{[], _∷_}
 use lib.IntN.{pos, negsuc}
 use lib.Ieee.{Float, nan, fin, ofBits, lt, eq, sub, mul, div}
 use Rattle.elimination.specs.declared.Elimination.the-variants.{Done, Stopped}
-use Rattle.elimination.specs.Elimination.{hold, ended, eliminated}
+use Rattle.elimination.specs.Elimination.{hold, outcomeOf, eliminated}
 
 -- plus and minus zero, one and a half; 2^-52 and 2^-53
 abbrev o : Float
@@ -27,11 +27,11 @@ abbrev -half : Float
 -half = fin true 1 (negsuc 0)
 
 -- "refusing where the pivot equals 2^-52" is a mistake: the elimination goes on
-at-the-edge : eliminated true 1 (fin false 1 (negsuc 51) ∷ I ∷ []) ≡ ended Done (I ∷ fin false 1 (pos 52) ∷ [])
+at-the-edge : eliminated true 1 (fin false 1 (negsuc 51) ∷ I ∷ []) ≡ outcomeOf Done (I ∷ fin false 1 (pos 52) ∷ [])
 unfolding eliminated lt eq sub mul div ofBits
 at-the-edge = refl
 
-below-the-edge : eliminated true 1 (fin false 1 (negsuc 52) ∷ I ∷ []) ≡ ended (Stopped 0) (fin false 1 (negsuc 52) ∷ I ∷ [])
+below-the-edge : eliminated true 1 (fin false 1 (negsuc 52) ∷ I ∷ []) ≡ outcomeOf (Stopped 0) (fin false 1 (negsuc 52) ∷ I ∷ [])
 unfolding eliminated lt eq sub mul div ofBits
 below-the-edge = refl
 
@@ -53,11 +53,11 @@ unfolding hold lt
 greater-taken = refl
 
 -- "one elimination for both calls" is a mistake: the zero below the first pivot keeps its sign where its row is skipped, and loses it where it is not
-zero-skipped : eliminated true 2 (I ∷ o ∷ I ∷ o ∷ -o ∷ I ∷ o ∷ I ∷ []) ≡ ended Done (I ∷ o ∷ I ∷ o ∷ -o ∷ I ∷ o ∷ I ∷ [])
+zero-skipped : eliminated true 2 (I ∷ o ∷ I ∷ o ∷ -o ∷ I ∷ o ∷ I ∷ []) ≡ outcomeOf Done (I ∷ o ∷ I ∷ o ∷ -o ∷ I ∷ o ∷ I ∷ [])
 unfolding eliminated lt eq sub mul div ofBits
 zero-skipped = refl
 
-zero-cleared : eliminated false 2 (I ∷ o ∷ I ∷ o ∷ -o ∷ I ∷ o ∷ I ∷ []) ≡ ended Done (I ∷ o ∷ I ∷ o ∷ o ∷ I ∷ o ∷ I ∷ [])
+zero-cleared : eliminated false 2 (I ∷ o ∷ I ∷ o ∷ -o ∷ I ∷ o ∷ I ∷ []) ≡ outcomeOf Done (I ∷ o ∷ I ∷ o ∷ o ∷ I ∷ o ∷ I ∷ [])
 unfolding eliminated lt eq sub mul div ofBits
 zero-cleared = refl
 
@@ -66,7 +66,7 @@ three : eliminated true 3
     (o ∷ I ∷ I ∷ I ∷ o ∷ o
     ∷ I ∷ o ∷ I ∷ o ∷ I ∷ o
     ∷ I ∷ I ∷ o ∷ o ∷ o ∷ I ∷ [])
-    ≡ ended Done
+    ≡ outcomeOf Done
     (I ∷ o ∷ o ∷ -half ∷ half ∷ half
     ∷ o ∷ I ∷ o ∷ half ∷ -half ∷ half
     ∷ -o ∷ -o ∷ I ∷ half ∷ half ∷ -half ∷ [])

@@ -7,7 +7,7 @@ use lib.Ieee.{Float}
 use Rattle.area.specs.Area.{Kept}
 use Rattle.area.proofs.Kept.{kept-same, kept-then, kept-written, kept-either}
 use Rattle.area.proofs.Rows.{row-end}
-use Rattle.elimination.specs.Elimination.{at, hold, swapped, divided, reduced, spared, cleared, step}
+use Rattle.elimination.specs.Elimination.{at, hold, swapped, divided, reduced, spared, cleared, step, stepped}
 use Rattle.elimination.proofs.Hold.{hold-below}
 
 -- stages of a matrix with s rows of w
@@ -42,3 +42,9 @@ kept-step skip s i xs h =
     kept-then
     (kept-swapped (2 * s) s i (hold s i xs) xs h (hold-below s i xs h))
     (kept-then (kept-divided (2 * s) s i _ h) (kept-cleared (2 * s) s skip i s _ (omega arith)))
+
+-- the first n steps
+pub kept-stepped : (skip : Bool) (s n : ℕ) (xs : List Float) → n ≤ s → Kept (s * (2 * s)) xs (stepped skip s n xs)
+unfolding stepped
+kept-stepped skip s zero xs h = kept-same (s * (2 * s)) xs
+kept-stepped skip s (suc n) xs h = kept-then (kept-stepped skip s n xs (omega arith)) (kept-step skip s n (stepped skip s n xs) h)

@@ -13,7 +13,8 @@ use borrow.Author.Tests.{lt-ltb, le-ltb, eq-eqb, ne-eqb}
 use Rattle.area.specs.Area.{written, Kept}
 use Rattle.area.proofs.Places.{at-place}
 use Rattle.area.proofs.Filled.{entry as filled-entry, one-fill, kept-filled}
-use Rattle.elimination.specs.Inverse.{zeroFloat, oneFloat, besideIdentity, laid}
+use Rattle.ieee.specs.Floats.{zeroFloat, oneFloat}
+use Rattle.elimination.specs.Inverse.{besideIdentity, laid}
 
 module _ (s : ℕ) (entry : ℕ → ℕ → Float) (work : List Float) where
   -- what lies past the matrix is as it was

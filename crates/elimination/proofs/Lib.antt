@@ -8,3 +8,5 @@ pub mod Edges
 pub mod Untouched
 pub mod Entries
 pub mod Laid
+pub mod Call
+pub mod Agree

@@ -15,7 +15,7 @@ use lib.ListN.{length}
 use lib.Ieee.{Float}
 use Rattle.elimination.specs.declared.Elimination.{Elimination}
 use Rattle.elimination.specs.declared.Elimination.the-variants.{Done, Stopped, TooShort}
-use Rattle.elimination.specs.Elimination.{small, step, Outcome, ended, run, eliminated, stepped, Through, StopsAt}
+use Rattle.elimination.specs.Elimination.{small, step, Outcome, outcomeOf, run, eliminated, stepped, Through, StopsAt}
 use Rattle.elimination.proofs.Run.{refuses, begins, stops, goes-on, ends}
 
 -- a step that goes through takes the run one step on
@@ -29,13 +29,13 @@ on skip s (suc n) xs t =
     ∙ goes-on skip s n ys h (t .none n (omega arith))
     ∙ ap (λ (m : ℕ). run skip s (s - m) m (step skip s n ys)) (add-one n)
 
-pub stopped : (skip : Bool) (s i : ℕ) (xs : List Float) → StopsAt skip s i xs → eliminated skip s xs ≡ ended (Stopped i) (stepped skip s i xs)
+pub stopped : (skip : Bool) (s i : ℕ) (xs : List Float) → StopsAt skip s i xs → eliminated skip s xs ≡ outcomeOf (Stopped i) (stepped skip s i xs)
 stopped skip s i xs t = on skip s i xs (t .before) ∙ stops skip s i (stepped skip s i xs) (t .reached) (t .below)
 
-pub finished : (skip : Bool) (s : ℕ) (xs : List Float) → Through skip s s xs → eliminated skip s xs ≡ ended Done (stepped skip s s xs)
+pub finished : (skip : Bool) (s : ℕ) (xs : List Float) → Through skip s s xs → eliminated skip s xs ≡ outcomeOf Done (stepped skip s s xs)
 finished skip s xs t = on skip s s xs t ∙ ends skip s s (stepped skip s s xs) refl
 
-pub refused : (skip : Bool) (s : ℕ) (xs : List Float) → length xs < 2 * s * s → eliminated skip s xs ≡ ended TooShort xs
+pub refused : (skip : Bool) (s : ℕ) (xs : List Float) → length xs < 2 * s * s → eliminated skip s xs ≡ outcomeOf TooShort xs
 refused skip s xs h = refuses skip s xs (lt-ltb (length xs) (2 * s * s) h)
 
 -- either n steps go through, or one below n is the first that stops
@@ -61,7 +61,7 @@ ways skip s (suc n) xs h = further (ways skip s n xs (omega arith))
     further (through t) = one-more skip s n xs h (small s n (stepped skip s n xs)) refl t
     further (stop i t) = stop i t
 
-answer-of : {o : Outcome} {a : Elimination} {xs : List Float} → o ≡ ended a xs → o .answer ≡ a
+answer-of : {o : Outcome} {a : Elimination} {xs : List Float} → o ≡ outcomeOf a xs → o .answer ≡ a
 answer-of e = ap (λ (o : Outcome). o .answer) e
 
 -- an answer is one of the three, and names one step

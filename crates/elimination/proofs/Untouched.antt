@@ -11,7 +11,7 @@ use lib.Ieee.{Float, nan}
 use Rattle.area.specs.Area.{Kept}
 use Rattle.area.proofs.Kept.{kept-same, kept-then, kept-place}
 use Rattle.elimination.specs.declared.Elimination.the-variants.{Stopped, TooShort}
-use Rattle.elimination.specs.Elimination.{small, step, Outcome, ended, run, eliminated}
+use Rattle.elimination.specs.Elimination.{small, step, Outcome, outcomeOf, run, eliminated}
 use Rattle.elimination.proofs.Keeps.{kept-step}
 
 -- whichever way a test goes, of two outcomes
@@ -26,7 +26,7 @@ kept-run skip s zero i xs h = kept-same (s * (2 * s)) xs
 kept-run skip s (suc n) i xs h =
     let ys : List Float = step skip s i xs in
     let k : Kept (s * (2 * s)) xs ys = kept-step skip s i xs (omega arith) in
-    area-of (small s i xs) (ended (Stopped i) xs) (run skip s n (i + 1) ys) (kept-same (s * (2 * s)) xs)
+    area-of (small s i xs) (outcomeOf (Stopped i) xs) (run skip s n (i + 1) ys) (kept-same (s * (2 * s)) xs)
     (kept-then k (kept-run skip s n (i + 1) ys (omega arith)))
 
 -- the whole elimination, for every s and every area
@@ -34,7 +34,7 @@ pub kept-eliminated : (skip : Bool) (s : ℕ) (xs : List Float) → Kept (2 * s 
 unfolding eliminated
 kept-eliminated skip s xs =
     let e : s * (2 * s) ≡ 2 * s * s = omega arith in
-    area-of (ltb (length xs) (2 * s * s)) (ended TooShort xs) (run skip s s 0 xs) (kept-same (2 * s * s) xs)
+    area-of (ltb (length xs) (2 * s * s)) (outcomeOf TooShort xs) (run skip s s 0 xs) (kept-same (2 * s * s) xs)
     (rw e at (kept-run skip s s 0 xs (omega arith)))
 
 -- place by place

@@ -6,9 +6,9 @@ use mathlib.Core.Bool.{Bool, true, false, _&&_, cond}
 use mathlib.Core.List.{List}
 use lib.Dec.{eqb, ltb}
 use lib.ListN.{length, getD}
-use lib.Ieee.{Float, nan, binary64, ofBits, lt, eq, sub, mul, div}
+use lib.Ieee.{Float, nan, binary64, lt, eq, sub, mul, div}
 use Rattle.area.specs.Area.{written}
-use Rattle.ieee.specs.Floats.{absOf, epsilon}
+use Rattle.ieee.specs.Floats.{zeroFloat, absOf, epsilon}
 use Rattle.elimination.specs.declared.Elimination.{Elimination}
 use Rattle.elimination.specs.declared.Elimination.the-variants.{Done, Stopped, TooShort}
 
@@ -51,7 +51,7 @@ reduced width i k factor xs = written (k * width) width (λ j. sub binary64 (at 
 
 -- whether row k is left as it is: row i itself and, where `skip` is true, a row whose factor is zero, of either sign
 unfoldable pub spared : Bool → ℕ → ℕ → ℕ → List Float → Bool
-spared skip width i k xs = cond (eqb k i) true (skip && eq (at width xs k i) (ofBits binary64 0))
+spared skip width i k xs = cond (eqb k i) true (skip && eq (at width xs k i) zeroFloat)
 
 -- "then from every other row with factor ≠ 0 subtract factor times row i", of the first n rows; a row's factor is its entry in column i
 unfoldable pub cleared : Bool → ℕ → ℕ → ℕ → List Float → List Float
@@ -72,23 +72,23 @@ pub record Outcome : Type 0 where
   pub answer : Elimination
   pub area : List Float
 
-abbrev pub ended : Elimination → List Float → Outcome
-ended a xs = record { answer = a; area = xs }
+abbrev pub outcomeOf : Elimination → List Float → Outcome
+outcomeOf a xs = record { answer = a; area = xs }
 
 -- n steps from step i on; a step whose held magnitude is small stops the run before its swap
 unfoldable pub run : Bool → ℕ → ℕ → ℕ → List Float → Outcome
 unfolding small step
-run skip s zero i xs = ended Done xs
+run skip s zero i xs = outcomeOf Done xs
 run skip s (suc n) i xs =
     let rest = run skip s n (i + 1) (step skip s i xs) in
-    cond (small s i xs) (ended (Stopped i) xs) rest
+    cond (small s i xs) (outcomeOf (Stopped i) xs) rest
 
 -- the whole elimination, s steps; an area of fewer than 2·s·s numbers is left as it is
 unfoldable pub eliminated : Bool → ℕ → List Float → Outcome
 unfolding run
 eliminated skip s xs =
     let all = run skip s s 0 xs in
-    cond (ltb (length xs) (2 * s * s)) (ended TooShort xs) all
+    cond (ltb (length xs) (2 * s * s)) (outcomeOf TooShort xs) all
 
 -- the area once the steps below n are done
 unfoldable pub stepped : Bool → ℕ → ℕ → List Float → List Float

@@ -3,16 +3,11 @@ use Prim.Native.Nat.{ℕ, _+_, _*_}
 use mathlib.Core.Bool.{cond}
 use mathlib.Core.List.{List}
 use lib.Dec.{eqb, ltb}
-use lib.Ieee.{Float, binary64, mul, ofBits}
+use lib.Ieee.{Float, binary64, mul}
 use Rattle.area.specs.Area.{filled}
+use Rattle.ieee.specs.Floats.{zeroFloat, oneFloat}
 use Rattle.ieee.specs.Sums.{addEach, runningSum}
 use Rattle.elimination.specs.Elimination.{at}
-
-abbrev pub zeroFloat : Float
-zeroFloat = ofBits binary64 0
-
-abbrev pub oneFloat : Float
-oneFloat = ofBits binary64 0x3ff0_0000_0000_0000
 
 -- "The matrix beside the identity, s rows of 2s": a matrix by its entries
 unfoldable pub besideIdentity : ℕ → (ℕ → ℕ → Float) → ℕ → ℕ → Float

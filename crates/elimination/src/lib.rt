@@ -5,7 +5,7 @@ ghost use mathlib.Core.Bool.{true, false};
 ghost use Prim.Native.Nat.{_+_, _*_, _≤_, _<_};
 ghost use lib.ListN.{length};
 ghost use lib.Dec.{ltb};
-ghost use Rattle.elimination.specs.Elimination.{hold, swapped, divided, reduced, cleared, ended, eliminated};
+ghost use Rattle.elimination.specs.Elimination.{hold, swapped, divided, reduced, cleared, outcomeOf, eliminated};
 
 // How an elimination ends.
 pub enum Elimination {
@@ -22,20 +22,20 @@ const EPSILON: f64 = 2.220446049250313e-16;
 
 // The fit's elimination: a row whose factor is zero, of either sign, is skipped.
 pub fn gauss_jordan_invert_uked(work: &mut [f64], size: usize) -> Elimination
-    ensures { λ r. ⌜ ended r (now (work .exit)) ≡ eliminated true size (now (work .entry)) ⌝ }
+    ensures { λ r. ⌜ outcomeOf r (now (work .exit)) ≡ eliminated true size (now (work .entry)) ⌝ }
 {
     eliminate(work, size, true)
 }
 
 // The interpolator's elimination: every other row is cleared, whatever its factor.
 pub fn matrix_inverse(work: &mut [f64], size: usize) -> Elimination
-    ensures { λ r. ⌜ ended r (now (work .exit)) ≡ eliminated false size (now (work .entry)) ⌝ }
+    ensures { λ r. ⌜ outcomeOf r (now (work .exit)) ≡ eliminated false size (now (work .entry)) ⌝ }
 {
     eliminate(work, size, false)
 }
 
 fn eliminate(work: &mut [f64], size: usize, skip: bool) -> Elimination
-    ensures { λ r. ⌜ ended r (now (work .exit)) ≡ eliminated skip size (now (work .entry)) ⌝ }
+    ensures { λ r. ⌜ outcomeOf r (now (work .exit)) ≡ eliminated skip size (now (work .entry)) ⌝ }
 {
     if too_short(work.len(), size) {
         return Elimination::TooShort;

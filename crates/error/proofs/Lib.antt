@@ -1,3 +1,2 @@
-pub mod Tests
-pub mod Rising
 pub mod Tells
+pub mod Rules

@@ -1,5 +1,8 @@
 -- A test tells a condition: it comes out true exactly where the condition holds. Tests joined by and, or, not; tests of numbers. Assumes nothing.
-use Prim.Native.Nat.{ℕ, _≤_, _<_}
+use Prim.Native.Nat.{ℕ, zero, suc, _≤_, _<_}
+use native.Mathlib.Nat.{not-suc-le-zero}
+use native.Mathlib.Decide.{decLt}
+use native.Mathlib.Omega.{arith}
 use mathlib.Core.Path.{_≡_, refl, sym, subst}
 use mathlib.Core.Logic.{_≢_, _⊎_, inl, inr, _↔_}
 use mathlib.Core.List.{List}
@@ -9,6 +12,7 @@ use lib.Dec.{T, eqb, leb, ltb, eqb→eq, leb→le, le→leb, ltb→lt, lt→ltb,
 use lib.Ieee.{Float}
 use lib.Ieee.Scale.{finite}
 use lib.Ieee.Fits.{and-i, and-l, and-r, eq→eqb}
+use Rattle.error.specs.Tests.{all}
 use Rattle.ieee.specs.Finite.{allFinite, NotFinite, SomeNotFinite}
 use Rattle.ieee.proofs.FiniteLists.{not-finite, not-all-finite}
 
@@ -76,6 +80,27 @@ only-where t u =
     told-as (opposite (both t (opposite u)))
     (λ h x. stable u (λ n. h (x, n)))
     (λ f x. x .1 (f (x .0)))
+
+-- a test made of each number below k, and whether one of them fails it
+pub each : (k : ℕ) (f : ℕ → Bool) (P : ℕ → Type 0) → ((i : ℕ) → i < k → Tells (f i) (P i)) → Tells (all k f) ((i : ℕ) → i < k → P i)
+unfolding all
+each zero f P h = record { then = λ t i l. absurd (not-suc-le-zero l); back = λ x. tt }
+each (suc k) f P h =
+    told-as (both (each k f P (λ i l. h i (omega arith))) (h k (omega arith)))
+    (λ x i l. elim (decLt i k) [ yes m ↦ x .0 i m | no m ↦ let e : k ≡ i = omega arith in subst P e (x .1) ])
+    (λ x. (λ i l. x i (omega arith), x k (omega arith)))
+
+find-failing : (k : ℕ) (f : ℕ → Bool) (P : ℕ → Type 0) → ((i : ℕ) → i < k → Tells (f i) (P i)) → T (not (all k f)) → (i : ℕ) × (i < k) × (¬ P i)
+unfolding all
+find-failing zero f P h t = absurd t
+find-failing (suc k) f P h t = by (all k f) (λ u. find-failing k f P (λ i l. h i (omega arith)) u) t
+  where
+    by : (b : Bool) → (T (not b) → (i : ℕ) × (i < k) × (¬ P i)) → T (not (b && f k)) → (i : ℕ) × (i < suc k) × (¬ P i)
+    by true g u = (k, omega arith, opposite (h k (omega arith)) .then u)
+    by false g u = let r = g tt in (r .0, omega arith, r .2)
+
+pub one-fails : (k : ℕ) (f : ℕ → Bool) (P : ℕ → Type 0) → ((i : ℕ) → i < k → Tells (f i) (P i)) → Tells (not (all k f)) ((i : ℕ) × (i < k) × (¬ P i))
+one-fails k f P h = record { then = find-failing k f P h; back = λ x. opposite (each k f P h) .back (λ g. x .2 (g (x .0) (x .1))) }
 
 -- ---- tests themselves
 pub passes : (b : Bool) → Tells b (T b)

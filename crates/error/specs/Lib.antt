@@ -1,3 +1,5 @@
 pub mod Numbers
 pub mod Kinds
 pub mod Tests
+pub mod Rules
+pub mod Outcome

@@ -1,6 +1,6 @@
 -- "What turns a call away": the tests of a call in the order in which they are made, each with its number. The first that holds gives the number. Assumes nothing.
-use Prim.Native.Nat.{ℕ}
-use mathlib.Core.Bool.{Bool, cond}
+use Prim.Native.Nat.{ℕ, zero, suc}
+use mathlib.Core.Bool.{Bool, true, false, _&&_, _||_, cond}
 use mathlib.Core.List.{List, [], _∷_}
 
 -- a refusal's number, and whether its condition holds
@@ -15,3 +15,13 @@ test n b = record { number = n; holds = b }
 unfoldable pub firstOf : List Test → ℕ
 firstOf [] = 0
 firstOf (t ∷ ts) = let r = firstOf ts in cond (t .holds) (t .number) r
+
+-- f holds of each number below k
+unfoldable pub all : ℕ → (ℕ → Bool) → Bool
+all zero f = true
+all (suc k) f = all k f && f k
+
+-- f holds of some element
+abbrev pub any : {A : Type 0} → (A → Bool) → List A → Bool
+any f [] = false
+any f (x ∷ xs) = f x || any f xs

@@ -22,3 +22,5 @@ pub mod RoundingSum
 pub mod RoundingProduct
 pub mod RoundingUnique
 pub mod FiniteLists
+pub mod Sums
+pub mod Signs

@@ -3,6 +3,13 @@ use Prim.Native.Nat.{_+_, _-_, _*_, _/_}
 use mathlib.Core.Bool.{true, false, cond}
 use lib.Ieee.{Float, nan, inf, fin, lt, up, down, binary64, ofBits, round}
 
+-- +0 and 1
+abbrev pub zeroFloat : Float
+zeroFloat = ofBits binary64 0
+
+abbrev pub oneFloat : Float
+oneFloat = ofBits binary64 0x3ff0_0000_0000_0000
+
 -- the magnitude: the sign is cleared, a zero's and an infinity's too; a NaN stays one
 abbrev pub absOf : Float → Float
 absOf nan = nan
@@ -19,7 +26,7 @@ minOf x y = cond (lt x y) x y
 
 -- "minus zero, anything below zero and NaN become +0"
 abbrev pub notBelowZero : Float → Float
-notBelowZero x = maxOf x (ofBits binary64 0)
+notBelowZero x = maxOf x zeroFloat
 
 -- 2^-52
 abbrev pub epsilon : Float

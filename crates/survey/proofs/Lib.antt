@@ -1,10 +1,1 @@
-pub mod Bytes
-pub mod Filled
-pub mod WellFormed
-pub mod Lists
-pub mod ReadBack
-pub mod Refusals
-pub mod RoundTrip
-pub mod Changes
-pub mod Lengths
-pub mod Sounding
+pub mod Told

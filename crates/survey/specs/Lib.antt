@@ -1,7 +1,5 @@
-pub mod Bytes
+pub mod Options
+pub mod Limits
 pub mod Survey
-pub mod File
-pub mod Areas
-pub mod Reader
-pub mod Writer
-pub mod Answers
+pub mod Rules
+pub mod Refusals

@@ -1,30 +1,25 @@
--- What a survey file holds: paper 01, "Lists" and "Survey file". Lists of any length, any numbers, any codes. Assumes nothing.
+-- A survey: paper 01, "Lists". Every function here speaks of lists of any length. Assumes nothing.
 use Prim.Native.Nat.{ℕ, _+_, _*_, _/_}
 use mathlib.Core.Bool.{cond}
-use mathlib.Core.List.{List, [], _∷_, _++_}
+use mathlib.Core.List.{List, [], _∷_}
 use lib.Dec.{eqb}
-use lib.ListN.{length}
-use lib.Ieee.{Float}
-use Rattle.variogram.specs.declared.VariogramModel.{VariogramModel}
+use lib.ListN.{length, getD}
+use lib.Ieee.{Float, nan}
+use Rattle.survey.specs.declared.UniversalKrigingOptions.{UniversalKrigingOptions}
 
+-- The lists and the numbers of one survey: the values of the wells, their coordinates, the codes of the drift bases, the wells' external values,
+-- the nodes and their external values, the options with the variogram and r, and the tolerance t
 pub record Survey : Type 0 where
-  pub model : VariogramModel
-  pub nugget : Float
-  pub sill : Float
-  pub range : Float
-  pub regularization : Float
-  pub tolerance : Float
   pub values : List Float
-  pub coordinates : List Float
+  pub coords : List Float
+  pub bases : List ℕ
   pub external : List Float
   pub nodes : List Float
   pub nodeExternal : List Float
-  pub codes : List ℕ
+  pub options : UniversalKrigingOptions
+  pub tolerance : Float
 
--- "k the count of code 4"
-abbrev pub externalColumns : List ℕ → ℕ
-externalColumns [] = 0
-externalColumns (code ∷ codes) = cond (eqb code 4) 1 0 + externalColumns codes
+-- ---- counts
 
 -- "n well values"
 abbrev pub wells : Survey → ℕ
@@ -34,37 +29,54 @@ wells s = length (s .values)
 abbrev pub nodeCount : Survey → ℕ
 nodeCount s = length (s .nodes) / 2
 
+-- "basis codes 1 Constant, 2 Linear, 3 Quadratic, 4 External, giving 1, 3, 6, 1 columns"
+abbrev pub codeColumns : ℕ → ℕ
+codeColumns c = cond (eqb c 1) 1 (cond (eqb c 2) 3 (cond (eqb c 3) 6 (cond (eqb c 4) 1 0)))
+
+-- "p is their sum"
+abbrev pub columnSum : List ℕ → ℕ
+columnSum [] = 0
+columnSum (c ∷ cs) = codeColumns c + columnSum cs
+
 abbrev pub columns : Survey → ℕ
-columns s = externalColumns (s .codes)
+columns s = columnSum (s .bases)
 
--- "node externals k·m, node after node, ignored if k = 0"
-abbrev pub nodeExternals : Survey → List Float
-nodeExternals s = cond (eqb (columns s) 0) [] (s .nodeExternal)
+-- "k the count of code 4"
+abbrev pub externalCount : List ℕ → ℕ
+externalCount [] = 0
+externalCount (c ∷ cs) = cond (eqb c 4) 1 0 + externalCount cs
 
--- "nugget, sill, range, r, t, values, coordinates, externals, nodes, node externals"
-unfoldable pub numbers : Survey → List Float
-numbers s =
-    s .nugget ∷ s .sill ∷ s .range ∷ s .regularization ∷ s .tolerance
-    ∷ (s .values ++ (s .coordinates ++ (s .external ++ (s .nodes ++ nodeExternals s))))
+abbrev pub externals : Survey → ℕ
+externals s = externalCount (s .bases)
 
--- how many these are for n wells, m nodes and k external columns
-abbrev pub numberCount : ℕ → ℕ → ℕ → ℕ
-numberCount n m k = 5 + n + 2 * n + k * n + 2 * m + k * m
+-- "Size s = n + p."
+abbrev pub size : Survey → ℕ
+size s = wells s + columns s
 
--- a survey without what is ignored
-abbrev pub withoutIgnored : Survey → Survey
-withoutIgnored s =
-    record {
-      model = s .model;
-      nugget = s .nugget;
-      sill = s .sill;
-      range = s .range;
-      regularization = s .regularization;
-      tolerance = s .tolerance;
-      values = s .values;
-      coordinates = s .coordinates;
-      external = s .external;
-      nodes = s .nodes;
-      nodeExternal = nodeExternals s;
-      codes = s .codes;
-    }
+-- ---- places
+
+-- "coordinates x, y in turn": of well i
+abbrev pub wellX : Survey → ℕ → Float
+wellX s i = getD (s .coords) (2 * i) nan
+
+abbrev pub wellY : Survey → ℕ → Float
+wellY s i = getD (s .coords) (2 * i + 1) nan
+
+-- of node q
+abbrev pub nodeX : Survey → ℕ → Float
+nodeX s q = getD (s .nodes) (2 * q) nan
+
+abbrev pub nodeY : Survey → ℕ → Float
+nodeY s q = getD (s .nodes) (2 * q + 1) nan
+
+-- "External values are k·n numbers, column after column": column c at well i
+abbrev pub wellExternal : Survey → ℕ → ℕ → Float
+wellExternal s i c = getD (s .external) (c * wells s + i) nan
+
+-- "node externals k·m, node after node": column c at node q
+abbrev pub nodeExternalAt : Survey → ℕ → ℕ → Float
+nodeExternalAt s q c = getD (s .nodeExternal) (q * externals s + c) nan
+
+-- the value of well i
+abbrev pub valueAt : Survey → ℕ → Float
+valueAt s i = getD (s .values) i nan

@@ -1,25 +1,60 @@
-// The survey file: what its reader and its writer answer. The reader fills lent areas with the lists.
-use error::Refusal;
+// A survey besides its lists: the options of a fit, and what a call takes at most.
 use variogram::Variogram;
+use variogram::VariogramModel;
+ghost use mathlib.Core.Path.{_≡_};
+ghost use Rattle.survey.specs.Options.{defaultBases, defaultOptions};
+ghost use Rattle.survey.specs.Limits.{base};
 
-// What a survey file says besides its lists: how long they are, and its single numbers.
-pub struct Header {
-    pub wells: usize,
-    pub nodes: usize,
-    pub codes: usize,
+// Options of a fit. Its drift bases, a list of codes, are lent beside them.
+pub struct UniversalKrigingOptions {
+    // Variogram model of the wells and of the nodes.
     pub variogram: Variogram,
+    // Regularisation, added to the diagonal between a well and itself.
     pub regularization: f64,
-    pub tolerance: f64,
 }
 
-// The reader's answer.
-pub enum Read {
-    Done(Header),
-    Refused(Refusal),
+impl UniversalKrigingOptions {
+    // The default drift bases: Constant alone.
+    pub const DRIFT_BASES: [u8; 1] = [1];
+    // The default regularisation.
+    pub const REGULARIZATION: f64 = 1e-10;
+
+    pub fn default() -> Self
+        ensures { λ r. ⌜ r ≡ defaultOptions ⌝ }
+    {
+        Self {
+            variogram: Variogram::new(VariogramModel::Spherical, 0.0, 1.0, 1.0),
+            regularization: Self::REGULARIZATION,
+        }
+    }
+
+    // The drift bases that go with the default options.
+    pub fn drift_bases() -> [u8; 1]
+        ensures { λ r. ⌜ r ≡ defaultBases ⌝ }
+    {
+        Self::DRIFT_BASES
+    }
 }
 
-// The writer's answer: how many bytes it wrote.
-pub enum Written {
-    Done(usize),
-    Refused(Refusal),
+// What a call takes at most.
+pub struct Limits {
+    // Wells, n.
+    pub wells: usize,
+    // Drift columns, p.
+    pub columns: usize,
+    // Nodes, m.
+    pub nodes: usize,
+}
+
+impl Limits {
+    // The limits of every call of the base.
+    pub fn base() -> Self
+        ensures { λ r. ⌜ r ≡ base ⌝ }
+    {
+        Self {
+            wells: 48,
+            columns: 12,
+            nodes: 100,
+        }
+    }
 }

@@ -3,3 +3,4 @@ pub mod Zero
 pub mod Squares
 pub mod Distance
 pub mod Itself
+pub mod Signs

@@ -1,0 +1,50 @@
+-- "What turns a call away", as the papers say it and not as tests: rules in the order in which they count, each a number with its condition. Assumes nothing.
+use Prim.Native.Nat.{ℕ, _<_}
+use mathlib.Core.Path.{_≡_}
+use mathlib.Core.Logic.{_⊎_}
+use mathlib.Core.Bool.{Bool, true, false, not, _&&_, cond}
+use mathlib.Core.List.{List, [], _∷_}
+use lib.Dec.{eqb, ltb}
+
+pub record Rule : Type 1 where
+  pub number : ℕ
+  pub applies : Type 0
+
+abbrev pub rule : ℕ → Type 0 → Rule
+rule k A = record { number = k; applies = A }
+
+-- the number given: that of the first rule that applies, 0 where none does
+abbrev pub Ruled : List Rule → ℕ → Type 0
+Ruled [] k = k ≡ 0
+Ruled (r ∷ rs) k = (r .applies × (k ≡ r .number)) ⊎ ((¬ (r .applies)) × Ruled rs k)
+
+-- no rule applies
+abbrev pub NoneApplies : List Rule → Type 0
+NoneApplies [] = Unit {0}
+NoneApplies (r ∷ rs) = (¬ (r .applies)) × NoneApplies rs
+
+-- the condition of the number k: that of its rule; a number without a rule has none that holds
+abbrev pub Condition : List Rule → ℕ → Type 0
+Condition [] k = ⊥
+Condition (r ∷ rs) k = cond (eqb (r .number) k) (r .applies) (Condition rs k)
+
+-- "The lowest applying number wins": the condition of k holds, and that of no lower number
+pub record Lowest (rs : List Rule) (k : ℕ) : Type 0 where
+  pub applies : Condition rs k
+  pub none-below : (j : ℕ) → j < k → ¬ Condition rs j
+
+-- ---- the numbers of rules, by computation
+-- 0 is no refusal's number
+abbrev pub positive : List Rule → Bool
+positive [] = true
+positive (r ∷ rs) = ltb 0 (r .number) && positive rs
+
+-- the number k is none of theirs
+abbrev pub lacks : ℕ → List Rule → Bool
+lacks k [] = true
+lacks k (r ∷ rs) = not (eqb (r .number) k) && lacks k rs
+
+-- they rise, from above n
+abbrev pub rising : ℕ → List Rule → Bool
+rising n [] = true
+rising n (r ∷ rs) = ltb n (r .number) && rising (r .number) rs

@@ -1,0 +1,97 @@
+-- What turns a survey away, as tests that compute: paper 01, "What turns a call away", 1 to 12, in the parts of `Rules`. Assumes nothing.
+use Prim.Native.Nat.{ℕ, _*_, _%_}
+use mathlib.Core.Bool.{Bool, not, _&&_, _||_}
+use mathlib.Core.List.{List, [], _∷_, _++_}
+use lib.Dec.{ltb, eqb}
+use lib.ListN.{length}
+use lib.Ieee.{Float, lt}
+use lib.Ieee.Scale.{finite}
+use Rattle.error.specs.Tests.{Test, test, any}
+use Rattle.ieee.specs.Floats.{zeroFloat}
+use Rattle.ieee.specs.Finite.{allFinite}
+use Rattle.variogram.specs.declared.Variogram.{Variogram}
+use Rattle.variogram.specs.Model.{notOffered}
+use Rattle.survey.specs.declared.Limits.{Limits}
+use Rattle.survey.specs.Survey.{Survey, wells, columns, externals}
+
+abbrev pub differ : ℕ → ℕ → Bool
+differ a b = not (eqb a b)
+
+-- 1: "coordinates not 2n long"
+abbrev pub wrongCoords : Survey → Bool
+wrongCoords s = differ (length (s .coords)) (2 * wells s)
+
+-- 2: "node list odd"
+abbrev pub oddNodes : Survey → Bool
+oddNodes s = differ (length (s .nodes) % 2) 0
+
+-- 3: "no basis"
+abbrev pub noBasis : Survey → Bool
+noBasis s = eqb (length (s .bases)) 0
+
+-- 4: "a code outside 1..4"
+abbrev pub badCode : ℕ → Bool
+badCode c = ltb c 1 || ltb 4 c
+
+-- 5 and 10: "negative or not finite": -0 is neither
+abbrev pub badAmount : Float → Bool
+badAmount x = lt x zeroFloat || not (finite x)
+
+-- 6: "externals not k·n"
+abbrev pub wrongExternal : Survey → Bool
+wrongExternal s = differ (length (s .external)) (externals s * wells s)
+
+-- 7: "n < p"
+abbrev pub tooFewWells : Survey → Bool
+tooFewWells s = ltb (wells s) (columns s)
+
+-- 8: "k > 0 and node externals not k·m"
+abbrev pub wrongNodeExternal : Survey → ℕ → List Float → Bool
+wrongNodeExternal s m e = ltb 0 (externals s) && differ (length e) (externals s * m)
+
+-- 9: "n > 48, p > 12 or m > 100"
+abbrev pub tooMany : Limits → Survey → ℕ → Bool
+tooMany limits s m = ltb (limits .wells) (wells s) || (ltb (limits .columns) (columns s) || ltb (limits .nodes) m)
+
+-- 11: "nugget, sill, range, .. not finite"
+abbrev pub variogramNotFinite : Variogram → Bool
+variogramNotFinite v = not (finite (v .nugget)) || (not (finite (v .sill)) || not (finite (v .range)))
+
+-- 11: "nugget, sill, range, a value, coordinate, external, node or, if k > 0, node external not finite"
+unfoldable pub numberNotFinite : Survey → List Float → Bool
+unfolding allFinite
+numberNotFinite s e =
+    variogramNotFinite (s .options .variogram)
+    || (not (allFinite (s .values))
+    || (not (allFinite (s .coords))
+    || (not (allFinite (s .external)) || (not (allFinite (s .nodes)) || (ltb 0 (externals s) && not (allFinite e))))))
+
+-- 12: "Exponential or Gaussian"
+abbrev pub wrongModel : Variogram → Bool
+wrongModel v = notOffered (v .model)
+
+-- ---- tests, in the order of the rules
+abbrev pub listTests : Survey → ℕ → List Float → List Test
+listTests s m e =
+    test 1 (wrongCoords s)
+    ∷ test 2 (oddNodes s)
+    ∷ test 3 (noBasis s)
+    ∷ test 4 (any badCode (s .bases))
+    ∷ test 5 (badAmount (s .options .regularization))
+    ∷ test 6 (wrongExternal s)
+    ∷ test 7 (tooFewWells s)
+    ∷ test 8 (wrongNodeExternal s m e)
+    ∷ []
+
+abbrev pub limitTests : Limits → Survey → ℕ → List Test
+limitTests limits s m = test 9 (tooMany limits s m) ∷ []
+
+abbrev pub numberTests : Survey → List Float → List Test
+numberTests s e = test 10 (badAmount (s .tolerance)) ∷ test 11 (numberNotFinite s e) ∷ []
+
+abbrev pub modelTests : Variogram → List Test
+modelTests v = test 12 (wrongModel v) ∷ []
+
+unfoldable pub surveyTests : Limits → Survey → ℕ → List Float → List Test
+unfolding numberNotFinite
+surveyTests limits s m e = listTests s m e ++ (limitTests limits s m ++ (numberTests s e ++ modelTests (s .options .variogram)))

@@ -1,0 +1,106 @@
+-- What turns a survey away, as the paper says it and not as tests: paper 01, "What turns a call away", 1 to 12, each from its own line.
+-- The rules come in parts, which the calls join. How many nodes there are, m, and their externals, e, stand apart from the survey's own lists. Assumes nothing.
+use Prim.Native.Nat.{ℕ, _*_, _%_, _<_}
+use mathlib.Core.Path.{_≡_}
+use mathlib.Core.Logic.{_≢_, _⊎_}
+use mathlib.Core.Bool.{true}
+use mathlib.Core.List.{List, [], _∷_, _++_}
+use lib.ListN.{length, getD}
+use lib.Ieee.{Float, lt}
+use Rattle.error.specs.Rules.{Rule, rule}
+use Rattle.ieee.specs.Floats.{zeroFloat}
+use Rattle.ieee.specs.Finite.{NotFinite, SomeNotFinite}
+use Rattle.variogram.specs.declared.Variogram.{Variogram}
+use Rattle.variogram.specs.Model.{NotOffered}
+use Rattle.survey.specs.declared.Limits.{Limits}
+use Rattle.survey.specs.Survey.{Survey, wells, columns, externals}
+
+-- ---- conditions
+-- 1: "coordinates not 2n long"
+abbrev pub WrongCoords : Survey → Type 0
+WrongCoords s = length (s .coords) ≢ 2 * wells s
+
+-- 2: "node list odd"
+abbrev pub OddNodes : Survey → Type 0
+OddNodes s = length (s .nodes) % 2 ≢ 0
+
+-- 3: "no basis"
+abbrev pub NoBasis : Survey → Type 0
+NoBasis s = length (s .bases) ≡ 0
+
+-- 4: "a code outside 1..4"
+abbrev pub BadCode : ℕ → Type 0
+BadCode c = (c < 1) ⊎ (4 < c)
+
+pub record SomeBadCode (codes : List ℕ) : Type 0 where
+  pub place : ℕ
+  pub inside : place < length codes
+  pub is : BadCode (getD codes place 0)
+
+-- 5 and 10: "negative or not finite"
+abbrev pub BadAmount : Float → Type 0
+BadAmount x = (lt x zeroFloat ≡ true) ⊎ NotFinite x
+
+-- 6: "externals not k·n"
+abbrev pub WrongExternal : Survey → Type 0
+WrongExternal s = length (s .external) ≢ externals s * wells s
+
+-- 7: "n < p"
+abbrev pub TooFewWells : Survey → Type 0
+TooFewWells s = wells s < columns s
+
+-- 8: "k > 0 and node externals not k·m"
+abbrev pub WrongNodeExternal : Survey → ℕ → List Float → Type 0
+WrongNodeExternal s m e = (0 < externals s) × (length e ≢ externals s * m)
+
+-- 9: "n > 48, p > 12 or m > 100"
+abbrev pub TooMany : Limits → Survey → ℕ → Type 0
+TooMany limits s m = (limits .wells < wells s) ⊎ (limits .columns < columns s) ⊎ (limits .nodes < m)
+
+-- 11: "nugget, sill, range, .. not finite"
+abbrev pub VariogramNotFinite : Variogram → Type 0
+VariogramNotFinite v = NotFinite (v .nugget) ⊎ NotFinite (v .sill) ⊎ NotFinite (v .range)
+
+-- 11: "nugget, sill, range, a value, coordinate, external, node or, if k > 0, node external not finite"
+abbrev pub NumberNotFinite : Survey → List Float → Type 0
+NumberNotFinite s e =
+    VariogramNotFinite (s .options .variogram)
+    ⊎ SomeNotFinite (s .values)
+    ⊎ SomeNotFinite (s .coords)
+    ⊎ SomeNotFinite (s .external)
+    ⊎ SomeNotFinite (s .nodes)
+    ⊎ ((0 < externals s) × SomeNotFinite e)
+
+-- 12: "Exponential or Gaussian"
+abbrev pub WrongModel : Variogram → Type 0
+WrongModel v = NotOffered (v .model)
+
+-- ---- rules, in the order in which they count
+-- the lists
+abbrev pub listRules : Survey → ℕ → List Float → List Rule
+listRules s m e =
+    rule 1 (WrongCoords s)
+    ∷ rule 2 (OddNodes s)
+    ∷ rule 3 (NoBasis s)
+    ∷ rule 4 (SomeBadCode (s .bases))
+    ∷ rule 5 (BadAmount (s .options .regularization))
+    ∷ rule 6 (WrongExternal s)
+    ∷ rule 7 (TooFewWells s)
+    ∷ rule 8 (WrongNodeExternal s m e)
+    ∷ []
+
+-- the limits
+abbrev pub limitRules : Limits → Survey → ℕ → List Rule
+limitRules limits s m = rule 9 (TooMany limits s m) ∷ []
+
+-- the numbers
+abbrev pub numberRules : Survey → List Float → List Rule
+numberRules s e = rule 10 (BadAmount (s .tolerance)) ∷ rule 11 (NumberNotFinite s e) ∷ []
+
+-- the model
+abbrev pub modelRules : Variogram → List Rule
+modelRules v = rule 12 (WrongModel v) ∷ []
+
+-- all of them: 1 to 12
+abbrev pub surveyRules : Limits → Survey → ℕ → List Float → List Rule
+surveyRules limits s m e = listRules s m e ++ (limitRules limits s m ++ (numberRules s e ++ modelRules (s .options .variogram)))
