@@ -1,0 +1,3 @@
+pub mod TrendSums
+pub mod VerdictRows
+pub mod Verdict
