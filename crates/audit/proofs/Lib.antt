@@ -1,3 +1,5 @@
+pub mod Finite
+pub mod Rows
 pub mod TrendSums
-pub mod VerdictRows
 pub mod Verdict
+pub mod Same

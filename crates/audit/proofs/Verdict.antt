@@ -1,43 +1,79 @@
 -- The verdict of an audit, each exactly when; and the trend bound of what passed. Assumes nothing.
-use Prim.Native.Nat.{ℕ, suc, _+_, _≤_}
+use Prim.Native.Nat.{ℕ, suc, _+_, _≤_, _<_}
 use native.Mathlib.Decide.{decLt}
 use native.Mathlib.Omega.{arith}
 use mathlib.Core.Path.{_≡_, refl, sym, ap, _∙_, subst}
-use mathlib.Core.Logic.{⊎-elim}
-use mathlib.Core.Bool.{Bool, true, false, cond, true≢false}
+use mathlib.Core.Bool.{Bool, true, false, not, _&&_, cond}
+use borrow.Author.Tests.{ne-eqb}
+use lib.Dec.{T, eqb}
+use lib.Ieee.Scale.{finite}
+use Rattle.error.proofs.Tells.{Tells}
 use Rattle.exact.specs.Units.{units}
-use Rattle.kriging.specs.Audit.{Audited, unit, rowMet, allFinite, firstMissed, verdictOf}
-use Rattle.kriging.specs.Trend.{AllFinite, SomeNotFinite, Met, MetBefore, Verdict, TrendBound}
-use Rattle.kriging.proofs.TrendSums.{within-allowance}
-use Rattle.kriging.proofs.VerdictRows.{finite-or-not, finite-clash, First, none, one, first-missed, met-yes, yes-met}
+use Rattle.audit.specs.Audit.{Weighed, Audited, unit, columnsFinite, columnMet, firstMissed, columnVerdict, figureMet, verdictWith, verdictOf}
+use Rattle.audit.specs.Trend.{AllFinite, SomeNotFinite, Close, Met, MetBefore, Verdict, TrendBound}
+use Rattle.audit.proofs.Finite.{finite-told, not-finite-told, finite-clash}
+use Rattle.audit.proofs.Rows.{First, none, one, first-missed, column-told, figure-told}
+use Rattle.audit.proofs.TrendSums.{within-allowance}
 
 -- the three ways in which an audit ends with the verdict v
-pub data Way (a : Audited) (v : ℕ) : Type 0 where
+data Way (a : Audited) (v : ℕ) : Type 0 where
   bad : SomeNotFinite a → v ≡ 255 → Way a v
-  good : AllFinite a → MetBefore a (a .p + 2) → v ≡ 0 → Way a v
-  miss : AllFinite a → 1 ≤ v → v ≤ a .p + 1 → MetBefore a v → ¬ Met a v → Way a v
+  good : AllFinite a → MetBefore a (a .weighed .p + 2) → v ≡ 0 → Way a v
+  miss : AllFinite a → 1 ≤ v → v ≤ a .weighed .p + 1 → MetBefore a v → ¬ Met a v → Way a v
 
-pub way : (a : Audited) → Way a (verdictOf a)
-unfolding verdictOf
-way a = ⊎-elim passing failing (finite-or-not a)
-  where
-    rows : ℕ
-    rows = firstMissed (a .p + 1) 1 (rowMet a)
+module _ (a : Audited) where
+  -- a row of a column, by its column
+  column-met : (c : ℕ) → c < a .weighed .p → Close (a .weighed) (λ i. a .weighed .drift i c) (a .weighed .nodeDrift c) → Met a (suc c)
+  column-met c l h = record {
+    column = λ d m e. let s : c ≡ d = omega arith in subst (λ (d : ℕ). Close (a .weighed) (λ i. a .weighed .drift i d) (a .weighed .nodeDrift d)) s h;
+    figure = λ e. absurd (let z : c ≡ a .weighed .p = omega arith in omega arith);
+  }
 
-    walk : AllFinite a → (v : ℕ) → First (rowMet a) 1 (1 + (a .p + 1)) v → Way a v
-    walk f v (none z h) = good f (λ j l m. met-yes a j (h j l (omega arith))) z
-    walk f v (one l m n h) = miss f l (omega arith) (λ j b c. met-yes a j (h j b c)) (λ k. true≢false (sym (yes-met a v l (omega arith) k) ∙ n))
+  last-met : Close (a .weighed) (a .value) (a .figure) → Met a (suc (a .weighed .p))
+  last-met h = record { column = λ d m e. absurd (let z : d ≡ a .weighed .p = omega arith in omega arith); figure = λ e. h }
 
-    passing : (allFinite a ≡ true) × AllFinite a → Way a (verdictOf a)
-    passing h = subst (Way a) (sym (ap (λ (b : Bool). cond b rows 255) (h .0))) (walk (h .1) rows (first-missed (a .p + 1) 1 (rowMet a)))
+  met-of : (j : ℕ) → 1 ≤ j → j < 1 + a .weighed .p → columnMet (a .weighed) j ≡ true → Met a j
+  met-of (suc c) l m e = column-met c (omega arith) (column-told (a .weighed) c .then (rw e tt))
 
-    failing : (allFinite a ≡ false) × SomeNotFinite a → Way a (verdictOf a)
-    failing h = bad (h .1) (ap (λ (b : Bool). cond b rows 255) (h .0))
+  missed-of : (j : ℕ) → 1 ≤ j → j < 1 + a .weighed .p → columnMet (a .weighed) j ≡ false → ¬ Met a j
+  missed-of (suc c) l m e h = subst T e (column-told (a .weighed) c .back (h .column c (omega arith) refl))
+
+  -- everything is finite: the rows of the columns, and then the last
+  walk : AllFinite a → (v : ℕ) → First (columnMet (a .weighed)) 1 (1 + a .weighed .p) v → Way a (cond (eqb v 0) (cond (figureMet a) 0 (a .weighed .p + 1)) v)
+  walk f v (one l m n h) =
+      rw (ne-eqb v 0 (omega arith)) (miss f l (omega arith) (λ j b c. met-of j b (omega arith) (h j b c)) (missed-of v l m n))
+  walk f v (none z h) = rw z (by (figureMet a) (figure-told a))
+    where
+      before : (j : ℕ) → 1 ≤ j → j < 1 + a .weighed .p → Met a j
+      before j l m = met-of j l m (h j l m)
+
+      rows : Met a (suc (a .weighed .p)) → MetBefore a (a .weighed .p + 2)
+      rows last j l m = elim (decLt j (1 + a .weighed .p)) [ yes b ↦ before j l b | no b ↦ let e : suc (a .weighed .p) ≡ j = omega arith in subst (Met a) e last ]
+
+      by : (b : Bool) → Tells b (Close (a .weighed) (a .value) (a .figure)) → Way a (cond b 0 (a .weighed .p + 1))
+      by true t = good f (rows (last-met (t .then tt))) refl
+      by false t =
+          let e : suc (a .weighed .p) ≡ a .weighed .p + 1 = omega arith in
+          subst (Way a) e (miss f (omega arith) (omega arith) (λ j l m. before j l (omega arith)) (λ m. t .back (m .figure refl)))
+
+  way : Way a (verdictOf a)
+  unfolding verdictOf verdictWith columnVerdict
+  way = by (columnsFinite (a .weighed)) (finite (a .figure)) (finite-told a) (not-finite-told a)
+    where
+      rows : ℕ
+      rows = firstMissed (a .weighed .p) 1 (columnMet (a .weighed))
+
+      by : (b c : Bool) → Tells (b && c) (AllFinite a) → Tells (not (b && c)) (SomeNotFinite a)
+          → Way a (cond c (cond (eqb (cond b rows 255) 0) (cond (figureMet a) 0 (a .weighed .p + 1)) (cond b rows 255)) 255)
+      by true true t u = walk (t .then tt) rows (first-missed (a .weighed .p) 1 (columnMet (a .weighed)))
+      by true false t u = bad (u .then tt) refl
+      by false true t u = bad (u .then tt) refl
+      by false false t u = bad (u .then tt) refl
 
 -- ---- each exactly when
 
 -- a verdict is 0, 255 or a row exactly when it should be; with at most 253 columns 255 is no row
-pub way-verdict : (a : Audited) → a .p ≤ 253 → (v : ℕ) → Way a v → Verdict a v
+way-verdict : (a : Audited) → a .weighed .p ≤ 253 → (v : ℕ) → Way a v → Verdict a v
 way-verdict a few v (bad s e) = record {
   passed = (λ z. absurd (row-0 z), λ h. absurd (finite-clash (h .0) s));
   missed = λ j l m. (λ z. absurd (row j l m z), λ h. absurd (finite-clash (h .0) s));
@@ -47,7 +83,7 @@ way-verdict a few v (bad s e) = record {
     row-0 : v ≡ 0 → ⊥
     row-0 z = omega arith
 
-    row : (j : ℕ) → 1 ≤ j → j ≤ a .p + 1 → v ≡ j → ⊥
+    row : (j : ℕ) → 1 ≤ j → j ≤ a .weighed .p + 1 → v ≡ j → ⊥
     row j l m z = omega arith
 way-verdict a few v (good f h e) = record {
   passed = (λ z. (f, h), λ k. e);
@@ -79,22 +115,22 @@ way-verdict a few v (miss f l m h n) = record {
           | no after ↦ elim (decLt j v) [ yes late ↦ absurd (k .2 (h j b late)) | no early ↦ omega arith ]
         ]
 
-pub verdict-is : (a : Audited) → a .p ≤ 253 → Verdict a (verdictOf a)
+pub verdict-is : (a : Audited) → a .weighed .p ≤ 253 → Verdict a (verdictOf a)
 verdict-is a few = way-verdict a few (verdictOf a) (way a)
 
 -- ---- the trend bound
 
 -- THE TREND BOUND of what passed: the rows, the exchange of two sums and the triangle inequality
-rows-bound : (a : Audited) → MetBefore a (a .p + 2) → TrendBound a
+rows-bound : (a : Audited) → MetBefore a (a .weighed .p + 2) → TrendBound a
 rows-bound a met = record {
   bound = λ A D positive.
-      within-allowance (a .n) (a .p) (λ i. units (a .weight i)) (λ i j. units (a .drift i j)) (λ j. units (a .nodeDrift j)) (λ i. units (a .value i))
-      (units (a .figure)) unit (units (a .tolerance))
+      within-allowance (a .weighed .n) (a .weighed .p) (λ i. units (a .weighed .weight i)) (λ i j. units (a .weighed .drift i j)) (λ j. units (a .weighed .nodeDrift j)) (λ i. units (a .value i))
+      (units (a .figure)) unit (units (a .weighed .tolerance))
       (λ j l. met (suc j) (omega arith) (omega arith) .column j l refl)
-      (met (suc (a .p)) (omega arith) (omega arith) .figure refl) A D;
+      (met (suc (a .weighed .p)) (omega arith) (omega arith) .figure refl) A D;
 }
 
-pub way-bound : (a : Audited) (v : ℕ) → Way a v → v ≡ 0 → TrendBound a
+way-bound : (a : Audited) (v : ℕ) → Way a v → v ≡ 0 → TrendBound a
 way-bound a v (bad s z) e = absurd (clash z e)
   where
     clash : v ≡ 255 → v ≡ 0 → ⊥

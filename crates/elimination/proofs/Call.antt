@@ -16,8 +16,8 @@ use Rattle.error.proofs.Tells.{below}
 use Rattle.error.proofs.Rules.{Told, no-more, tells, ruled-exactly, none-exactly, never-given}
 use Rattle.elimination.specs.declared.Elimination.{Elimination}
 use Rattle.elimination.specs.declared.Elimination.the-variants.{Done, Stopped, TooShort}
-use Rattle.elimination.specs.Elimination.{eliminated, Outcome as Eliminated}
-use Rattle.elimination.specs.Call.{workTests, workRules, Call, matrix, afterElimination, callWhere, called, workAfter, Stops, Solves, Ends}
+use Rattle.elimination.specs.Elimination.{eliminated, Through, StopsAt, Outcome as Eliminated}
+use Rattle.elimination.specs.Call.{workTests, workRules, Call, matrix, afterElimination, callWhere, called, workAfter, Ends}
 use Rattle.elimination.proofs.Keeps.{kept-stepped}
 use Rattle.elimination.proofs.Laid.{kept-laid}
 use Rattle.elimination.proofs.Stops.{finished, stopped, done-exactly, stops-exactly, refused-exactly}
@@ -30,6 +30,13 @@ pub kept-work : {A : Type 0} (c : Call A) (i : ℕ) → i ≤ c .size → Kept (
 kept-work c i h =
     let e : c .size * (2 * c .size) ≡ 2 * c .size * c .size = omega arith in
     kept-then (kept-laid (c .size) (c .entry) (c .work)) (rw e at (kept-stepped (c .skip) (c .size) i (matrix c) h))
+
+-- step i is the first whose held magnitude is below 2^-52, and every step goes through
+abbrev Stops : {A : Type 0} → Call A → ℕ → Type 0
+Stops c i = StopsAt (c .skip) (c .size) i (matrix c)
+
+abbrev Solves : {A : Type 0} → Call A → Type 0
+Solves c = Through (c .skip) (c .size) (c .size) (matrix c)
 
 module _ {A : Type 0} (c : Call A) where
   -- the definition, case by case
@@ -96,13 +103,13 @@ module _ {A : Type 0} (ts : List Test) (rules : List Rule) (c : Call A) (tests :
           turned-away (suc k) (omega arith) (λ f. never-given rules 19 no-19 (omega arith) (subst (Ruled rules) f r)) r (one-applies c k e)
 
   -- THE THEOREM: each number exactly where its condition holds, and the areas then
-  pub ends : Ends rules c (called c)
+  pub ends : Ends rules (c .skip) (c .size) (matrix c) (c .lent) (c .stopped) (c .answered) (called c)
   ends = record {
     refused = λ k n m. (λ e. refused-there k n m e way, λ r. refused-from k n r way);
-    stopped = (λ e. stopped-there e way, λ h. number-is (where-it-stops c (h .1 .0) (none-given .1 (h .0)) (h .1 .1)));
+    nineteen = (λ e. stopped-there e way, λ h. number-is (where-it-stops c (h .1 .0) (none-given .1 (h .0)) (h .1 .1)));
     accepted = (λ e. accepted-there e way, λ h. number-is (where-it-solves c (none-given .1 (h .0)) (h .1)));
     refused-areas = λ n m. refused-so n m way;
-    stopped-areas = λ i e t. areas-are (where-it-stops c i (none-given .1 (stopped-there e way .0)) t);
+    nineteen-areas = λ i e t. areas-are (where-it-stops c i (none-given .1 (stopped-there e way .0)) t);
     accepted-areas = λ e. let h = accepted-there e way in areas-are (where-it-solves c (none-given .1 (h .0)) (h .1));
   }
     where

@@ -64,25 +64,18 @@ called c = callWhere (c .refusal) c
 abbrev pub workAfter : {A : Type 0} → Call A → ℕ → List Float
 workAfter c i = stepped (c .skip) (c .size) i (matrix c)
 
--- "19 needs the held pivot of a step": step i is the first whose held magnitude is below 2^-52
-abbrev pub Stops : {A : Type 0} → Call A → ℕ → Type 0
-Stops c i = StopsAt (c .skip) (c .size) i (matrix c)
-
--- every step goes through
-abbrev pub Solves : {A : Type 0} → Call A → Type 0
-Solves c = Through (c .skip) (c .size) (c .size) (matrix c)
-
--- a call with these rules before its elimination ended as o: each number exactly when, and what its areas hold then
-pub record Ends {A : Type 0} (rules : List Rule) (c : Call A) (o : Outcome A) : Type 0 where
+-- A call with these rules before the elimination of a matrix beside the identity, xs, of this size, ended as o: each number exactly when, and what its areas hold then.
+-- `lent` are the areas as they were; `stopped` and `answered`, by what the work area holds, those where a step stopped and where all went through.
+pub record Ends {A : Type 0} (rules : List Rule) (skip : Bool) (size : ℕ) (xs : List Float) (lent : A) (stopped answered : List Float → A) (o : Outcome A) : Type 0 where
   -- any number but 0 and 19 is that of the first rule that applies
   pub refused : (k : ℕ) → k ≢ 0 → k ≢ 19 → (o .number ≡ k) ↔ Ruled rules k
-  -- 19: no rule applies, and some step stops
-  pub stopped : (o .number ≡ 19) ↔ (NoneApplies rules × ((i : ℕ) × Stops c i))
+  -- 19: no rule applies, and some step stops: "19 needs the held pivot of a step"
+  pub nineteen : (o .number ≡ 19) ↔ (NoneApplies rules × ((i : ℕ) × StopsAt skip size i xs))
   -- 0: no rule applies, and every step goes through
-  pub accepted : (o .number ≡ 0) ↔ (NoneApplies rules × Solves c)
+  pub accepted : (o .number ≡ 0) ↔ (NoneApplies rules × Through skip size size xs)
   -- "A refusal carries only its number and writes nothing"
-  pub refused-areas : o .number ≢ 0 → o .number ≢ 19 → o .areas ≡ c .lent
+  pub refused-areas : o .number ≢ 0 → o .number ≢ 19 → o .areas ≡ lent
   -- "19 leaves the work area as elimination stopped": the step that stopped left nothing of itself, its swap neither
-  pub stopped-areas : (i : ℕ) → o .number ≡ 19 → Stops c i → o .areas ≡ c .stopped (workAfter c i)
+  pub nineteen-areas : (i : ℕ) → o .number ≡ 19 → StopsAt skip size i xs → o .areas ≡ stopped (stepped skip size i xs)
   -- "On success the work area holds the finished elimination"
-  pub accepted-areas : o .number ≡ 0 → o .areas ≡ c .answered (workAfter c (c .size))
+  pub accepted-areas : o .number ≡ 0 → o .areas ≡ answered (stepped skip size size xs)

@@ -3,7 +3,7 @@ use Prim.Native.Nat.{ℕ, zero, suc, _≤_, _<_}
 use native.Mathlib.Nat.{not-suc-le-zero}
 use native.Mathlib.Decide.{decLt}
 use native.Mathlib.Omega.{arith}
-use mathlib.Core.Path.{_≡_, refl, sym, subst}
+use mathlib.Core.Path.{_≡_, refl, ap₂, sym, subst}
 use mathlib.Core.Logic.{_≢_, _⊎_, inl, inr, _↔_}
 use mathlib.Core.List.{List}
 use mathlib.Core.Bool.{Bool, true, false, not, _&&_, _||_}
@@ -74,6 +74,18 @@ either {a} {b} {A} {B} t u = record { then = there a (t .then); back = from a (t
     from false f (inl x) = absurd (f x)
     from false f (inr y) = u .back y
 
+-- one of two fails
+pub not-both : (a b : Bool) {A B : Type 0} → Tells (not a) A → Tells (not b) B → Tells (not (a && b)) (A ⊎ B)
+not-both a b {A} {B} t u = by a t
+  where
+    by : (c : Bool) → Tells (not c) A → Tells (not (c && b)) (A ⊎ B)
+    by true v = record { then = λ h. inr (u .then h); back = from }
+      where
+        from : A ⊎ B → T (not b)
+        from (inl x) = absurd (v .back x)
+        from (inr y) = u .back y
+    by false v = record { then = λ h. inl (v .then tt); back = λ x. tt }
+
 -- a test that is made only where another holds, and passes
 pub only-where : {a b : Bool} {A B : Type 0} → Tells a A → Tells b B → Tells (not (a && not b)) (A → B)
 only-where t u =
@@ -89,6 +101,12 @@ each (suc k) f P h =
     told-as (both (each k f P (λ i l. h i (omega arith))) (h k (omega arith)))
     (λ x i l. elim (decLt i k) [ yes m ↦ x .0 i m | no m ↦ let e : k ≡ i = omega arith in subst P e (x .1) ])
     (λ x. (λ i l. x i (omega arith), x k (omega arith)))
+
+-- the same tests, together
+pub same-all : (k : ℕ) (f g : ℕ → Bool) → ((i : ℕ) → i < k → f i ≡ g i) → all k f ≡ all k g
+unfolding all
+same-all zero f g h = refl
+same-all (suc k) f g h = ap₂ (λ (b c : Bool). b && c) (same-all k f g (λ i l. h i (omega arith))) (h k (omega arith))
 
 find-failing : (k : ℕ) (f : ℕ → Bool) (P : ℕ → Type 0) → ((i : ℕ) → i < k → Tells (f i) (P i)) → T (not (all k f)) → (i : ℕ) × (i < k) × (¬ P i)
 unfolding all

@@ -6,14 +6,15 @@ use mathlib.Core.Path.{_≡_, refl, ap, ap₂, _∙_, subst}
 use mathlib.Core.Bool.{Bool, true, false, cond}
 use mathlib.Core.List.{List, [], _∷_, _++_}
 use lib.Dec.{eqb}
-use lib.Ieee.{Float}
+use lib.ListN.{getD}
+use lib.Ieee.{Float, nan}
+use Rattle.area.specs.Area.{table}
 use Rattle.variogram.specs.Model.{semivariance}
 use Rattle.variogram.specs.Distance.{distance2d}
-use Rattle.kriging.specs.Survey.{Survey, wells, size, externalCount, wellX, wellY, nodeX, nodeY, nodeExternalAt}
+use Rattle.survey.specs.Survey.{Survey, wells, size, externalCount, wellX, wellY, nodeX, nodeY, nodeExternalAt}
 use Rattle.kriging.specs.Drift.{block, driftRow, nodeRow}
-use Rattle.kriging.specs.Assembly.{assembled}
-use Rattle.kriging.specs.Node.{table, rightHand}
-use Rattle.kriging.specs.Fit.{nodeOf}
+use Rattle.kriging.specs.Assembly.{entry, assembled}
+use Rattle.kriging.specs.Node.{rightHand, solutionOf, nodeWith, nodeOf}
 use Rattle.kriging.specs.Alike.{SameWells, SameNode}
 
 -- ---- a drift row reads the external columns that its codes take, and no other
@@ -72,7 +73,7 @@ module _ (t : Survey) (nodes nodeExternal : List Float) (q r : ℕ) (h : SameNod
       node-row-same
 
   node-same : (work : List Float) → nodeOf (withNodes t nodes nodeExternal) work q ≡ nodeOf t work r
-  unfolding nodeOf
+  unfolding nodeOf nodeWith solutionOf
   node-same work = rw (right-same, node-row-same)
 
 -- what a node gets depends on the node and its external values alone
@@ -91,5 +92,5 @@ pub size-same : (s t : Survey) → SameWells s t → size s ≡ size t
 size-same s t w = ap size (renamed w)
 
 pub assembled-same : (s t : Survey) → SameWells s t → (work : List Float) → assembled s work ≡ assembled t work
-unfolding assembled
+unfolding entry
 assembled-same s t w work = ap (λ (u : Survey). assembled u work) (renamed w)

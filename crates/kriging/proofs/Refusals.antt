@@ -1,114 +1,133 @@
--- "The lowest applying number wins in a fit": before it eliminates, the number given is the lowest whose condition holds, and 0 exactly where none does. Assumes nothing.
-use Prim.Native.Nat.{ℕ, _*_, _%_, _<_, _≤_}
-use native.Mathlib.Decide.{decLt}
+-- What turns a fit away, and how it ends: each number exactly where its condition holds, and the areas then. Assumes nothing.
+use Prim.Native.Nat.{ℕ, _*_, _≤_, _<_}
 use native.Mathlib.Omega.{arith}
-use mathlib.Core.Path.{_≡_, refl, subst}
-use mathlib.Core.Logic.{_≢_, inl, inr, _↔_}
-use lib.Dec.{T, lit≤}
-use lib.ListN.{length}
-use Rattle.kriging.specs.Survey.{Survey, Areas, wells, nodeCount, columns, externals, size}
-use Rattle.kriging.specs.Refusals.{tests, refusal}
-use Rattle.kriging.specs.Lowest.{Condition, Lowest}
-use Rattle.kriging.specs.Lowest.{coordinates, odd-nodes, no-basis, code, regularization, externals-length, few-wells, node-externals-length, too-many, tolerance, numbers, model, work-short, answer-short}
-use Rattle.error.proofs.Tells.{both, equal, different, below}
-use Rattle.error.proofs.Rising.{rising, Holding, given-holds, none-lower}
-use Rattle.variogram.proofs.Model.{not-offered}
-use Rattle.kriging.proofs.RefusalsTests.{some-bad-code, bad-amount, too-many-is, number-not-finite, answer-short-is}
+use mathlib.Core.Path.{_≡_, refl}
+use mathlib.Core.Logic.{_≢_, _⊎_, inl, inr, _↔_}
+use mathlib.Core.Bool.{true}
+use lib.Dec.{T}
+use lib.ListN.{length, getD}
+use lib.Ieee.{nan}
+use lib.Ieee.Scale.{finite}
+use Rattle.area.proofs.Kept.{kept-same}
+use Rattle.area.proofs.Start.{kept-start}
+use Rattle.error.specs.Rules.{NoneApplies, Condition, Lowest}
+use Rattle.error.specs.Outcome.{Outcome}
+use Rattle.error.proofs.Tells.{stable, equal, either, below}
+use Rattle.error.proofs.Rules.{Told, no-more, tells, joined, no-condition, lowest-wins}
+use Rattle.ieee.proofs.FiniteLists.{is-finite}
+use Rattle.elimination.specs.Call.{Ends}
+use Rattle.elimination.proofs.Call.{work-told, kept-work, ends, whichever}
+use Rattle.survey.specs.declared.Limits.{Limits}
+use Rattle.survey.specs.Limits.{base}
+use Rattle.survey.specs.Survey.{Survey, wells, nodeCount, columns, size, valueAt}
+use Rattle.survey.proofs.Told.{survey-told}
+use Rattle.kriging.specs.Areas.{Areas, withWork}
+use Rattle.kriging.specs.Assembly.{assembled}
+use Rattle.kriging.specs.Node.{nodeOf}
+use Rattle.kriging.specs.Refusals.{ShortAnswer, answerTests, answerRules, tests, rules, refusal}
+use Rattle.kriging.specs.Fit.{answered, fitCall, fitted}
+use Rattle.kriging.specs.Untouched.{Untouched}
 
-module _ (s : Survey) (a : Areas) where
-  in-order : T (rising 0 (tests s a))
+answer-told : (s : Survey) (a : Areas) → Told (answerTests s a) (answerRules s a)
+answer-told s a =
+    tells 18
+    (either (below (length (a .predicted)) (nodeCount s))
+    (either (below (length (a .variance)) (nodeCount s))
+    (either (below (length (a .verdicts)) (nodeCount s))
+    (either (below (length (a .weights)) (wells s * nodeCount s)) (below (length (a .coefficients)) (columns s))))))
+    no-more
+
+at-least : {m n : ℕ} → ¬ (n < m) → m ≤ n
+at-least h = omega arith
+
+module _ (limits : Limits) (s : Survey) (a : Areas) where
+  -- each test tells its rule
+  pub told : Told (tests limits s a) (rules limits s a)
   unfolding tests
-  in-order = tt
+  told = joined (survey-told limits s (nodeCount s) (s .nodeExternal)) (joined (work-told (size s) (a .work)) (answer-told s a))
 
-  -- line by line, from the tests to the conditions
-  condition-of : (k : ℕ) → Holding (tests s a) k → Condition s a k
-  unfolding tests
-  condition-of k (inl h) = subst (Condition s a) (h .0) (coordinates (different (length (s .coords)) (2 * wells s) .then (h .1)))
-  condition-of k (inr (inl h)) = subst (Condition s a) (h .0) (odd-nodes (different (length (s .nodes) % 2) 0 .then (h .1)))
-  condition-of k (inr (inr (inl h))) = subst (Condition s a) (h .0) (no-basis (equal (length (s .bases)) 0 .then (h .1)))
-  condition-of k (inr (inr (inr (inl h)))) = subst (Condition s a) (h .0) (code (some-bad-code (s .bases) .then (h .1)))
-  condition-of k (inr (inr (inr (inr (inl h))))) = subst (Condition s a) (h .0) (regularization (bad-amount (s .options .regularization) .then (h .1)))
-  condition-of k (inr (inr (inr (inr (inr (inl h)))))) = subst (Condition s a) (h .0) (externals-length (different (length (s .external)) (externals s * wells s) .then (h .1)))
-  condition-of k (inr (inr (inr (inr (inr (inr (inl h))))))) = subst (Condition s a) (h .0) (few-wells (below (wells s) (columns s) .then (h .1)))
-  condition-of k (inr (inr (inr (inr (inr (inr (inr (inl h)))))))) =
-      let x = both (below 0 (externals s)) (different (length (s .nodeExternal)) (externals s * nodeCount s)) .then (h .1) in
-      subst (Condition s a) (h .0) (node-externals-length (x .0) (x .1))
-  condition-of k (inr (inr (inr (inr (inr (inr (inr (inr (inl h))))))))) = subst (Condition s a) (h .0) (too-many (too-many-is s .then (h .1)))
-  condition-of k (inr (inr (inr (inr (inr (inr (inr (inr (inr (inl h)))))))))) = subst (Condition s a) (h .0) (tolerance (bad-amount (s .tolerance) .then (h .1)))
-  condition-of k (inr (inr (inr (inr (inr (inr (inr (inr (inr (inr (inl h))))))))))) = subst (Condition s a) (h .0) (numbers (number-not-finite s .then (h .1)))
-  condition-of k (inr (inr (inr (inr (inr (inr (inr (inr (inr (inr (inr (inl h)))))))))))) = subst (Condition s a) (h .0) (model (not-offered (s .options .variogram .model) .0 (h .1)))
-  condition-of k (inr (inr (inr (inr (inr (inr (inr (inr (inr (inr (inr (inr (inl h))))))))))))) = subst (Condition s a) (h .0) (work-short (below (length (a .work)) (2 * size s * size s) .then (h .1)))
-  condition-of k (inr (inr (inr (inr (inr (inr (inr (inr (inr (inr (inr (inr (inr (inl h)))))))))))))) = subst (Condition s a) (h .0) (answer-short (answer-short-is s a .then (h .1)))
+  long : NoneApplies (rules limits s a) → 2 * size s * size s ≤ length (a .work)
+  long n = at-least (no-condition (rules limits s a) n 17)
 
-  -- and back
-  holding-of : {k : ℕ} → Condition s a k → Holding (tests s a) k
-  unfolding tests
-  holding-of (coordinates h) = inl (refl, different (length (s .coords)) (2 * wells s) .back h)
-  holding-of (odd-nodes h) = inr (inl (refl, different (length (s .nodes) % 2) 0 .back h))
-  holding-of (no-basis h) = inr (inr (inl (refl, equal (length (s .bases)) 0 .back h)))
-  holding-of (code h) = inr (inr (inr (inl (refl, some-bad-code (s .bases) .back h))))
-  holding-of (regularization h) = inr (inr (inr (inr (inl (refl, bad-amount (s .options .regularization) .back h)))))
-  holding-of (externals-length h) = inr (inr (inr (inr (inr (inl (refl, different (length (s .external)) (externals s * wells s) .back h))))))
-  holding-of (few-wells h) = inr (inr (inr (inr (inr (inr (inl (refl, below (wells s) (columns s) .back h)))))))
-  holding-of (node-externals-length k h) =
-      inr (inr (inr (inr (inr (inr (inr (inl (refl, both (below 0 (externals s)) (different (length (s .nodeExternal)) (externals s * nodeCount s)) .back (k, h)))))))))
-  holding-of (too-many h) = inr (inr (inr (inr (inr (inr (inr (inr (inl (refl, too-many-is s .back h)))))))))
-  holding-of (tolerance h) = inr (inr (inr (inr (inr (inr (inr (inr (inr (inl (refl, bad-amount (s .tolerance) .back h))))))))))
-  holding-of (numbers h) = inr (inr (inr (inr (inr (inr (inr (inr (inr (inr (inl (refl, number-not-finite s .back h)))))))))))
-  holding-of (model h) = inr (inr (inr (inr (inr (inr (inr (inr (inr (inr (inr (inl (refl, not-offered (s .options .variogram .model) .1 h))))))))))))
-  holding-of (work-short h) = inr (inr (inr (inr (inr (inr (inr (inr (inr (inr (inr (inr (inl (refl, below (length (a .work)) (2 * size s * size s) .back h)))))))))))))
-  holding-of (answer-short h) = inr (inr (inr (inr (inr (inr (inr (inr (inr (inr (inr (inr (inr (inl (refl, answer-short-is s a .back h))))))))))))))
+  -- HOW A FIT ENDS: refused before it eliminates, stopped at a step, or gone through
+  pub fit-ends : Ends (rules limits s a) true (size s) (assembled s (a .work)) a (withWork a) (λ work. answered s a work (nodeOf s work)) (fitted limits s a)
+  unfolding fitted refusal
+  fit-ends = ends (tests limits s a) (rules limits s a) (fitCall limits s a) refl told tt tt long
 
-  -- a condition that holds: what is given is not 0, nor above its number
-  at-most : {k : ℕ} → Condition s a k → (refusal s a ≤ k) × (0 < refusal s a)
+  -- "The lowest applying number wins in a fit."
+  pub lowest-in-a-fit : (k : ℕ) → ((refusal limits s a ≡ k) × (k ≢ 0)) ↔ Lowest (rules limits s a) k
   unfolding refusal
-  at-most {k} c = none-lower 0 (tests s a) k in-order (holding-of c)
+  lowest-in-a-fit = lowest-wins told tt
 
-  given : (k : ℕ) → refusal s a ≡ k → k ≢ 0 → Condition s a k
-  unfolding refusal
-  given k e n = condition-of k (given-holds (tests s a) k e n)
+  -- "and all past the named lengths is untouched": however the fit ends
+  pub untouched : Untouched s a (fitted limits s a .areas)
+  unfolding fitted refusal answered
+  untouched =
+      whichever (tests limits s a) (rules limits s a) (fitCall limits s a) refl told tt tt long (Untouched s a)
+      (record {
+        work = kept-same _ _;
+        predicted = kept-same _ _;
+        variance = kept-same _ _;
+        verdicts = kept-same _ _;
+        weights = kept-same _ _;
+        coefficients = kept-same _ _;
+      })
+      (λ i h. record {
+        work = kept-work (fitCall limits s a) i h;
+        predicted = kept-same _ _;
+        variance = kept-same _ _;
+        verdicts = kept-same _ _;
+        weights = kept-same _ _;
+        coefficients = kept-same _ _;
+      })
+      (record {
+        work = kept-work (fitCall limits s a) (size s) (omega arith);
+        predicted = kept-start (nodeCount s) _ (a .predicted);
+        variance = kept-start (nodeCount s) _ (a .variance);
+        verdicts = kept-start (nodeCount s) _ (a .verdicts);
+        weights = kept-start (wells s * nodeCount s) _ (a .weights);
+        coefficients = kept-start (columns s) _ (a .coefficients);
+      })
 
-  -- the number given is the lowest whose condition holds
-  pub lowest-wins : (k : ℕ) → ((refusal s a ≡ k) × (k ≢ 0)) ↔ Lowest s a k
-  lowest-wins k = (there, from)
-    where
-      there : (refusal s a ≡ k) × (k ≢ 0) → Lowest s a k
-      there h =
-          let e = h .0 in
-          record { applies = given k (h .0) (h .1); none-below = λ j below c. let m = at-most c in omega arith }
+-- "n > 48, p > 12 or m > 100", in the base
+pub too-many-in-the-base : (s : Survey) (a : Areas) → Condition (rules base s a) 9 ≡ ((48 < wells s) ⊎ (12 < columns s) ⊎ (100 < nodeCount s))
+too-many-in-the-base s a = refl
 
-      from : Lowest s a k → (refusal s a ≡ k) × (k ≢ 0)
-      from l =
-          let m = at-most (l .applies) in
-          elim (decLt (refusal s a) k) [
-            | yes p ↦ absurd (l .none-below (refusal s a) p (given (refusal s a) refl (omega arith)))
-            | no n ↦ (omega arith, omega arith)
-          ]
+-- ---- what an accepted fit has been tested for
+module _ (limits : Limits) (s : Survey) (a : Areas) (accepted : fitted limits s a .number ≡ 0) where
+  none : (k : ℕ) → ¬ Condition (rules limits s a) k
+  none = no-condition (rules limits s a) (fit-ends limits s a .accepted .0 accepted .0)
 
-  -- 0 exactly where none does
-  pub none-exactly : (refusal s a ≡ 0) ↔ ((j : ℕ) → ¬ Condition s a j)
-  none-exactly = (λ e j c. let m = at-most c in omega arith, from)
-    where
-      from : ((j : ℕ) → ¬ Condition s a j) → refusal s a ≡ 0
-      from n =
-          elim (decLt 0 (refusal s a)) [
-            | yes p ↦ absurd (n (refusal s a) (given (refusal s a) refl (omega arith)))
-            | no m ↦ omega arith
-          ]
+  pub work-long : 2 * size s * size s ≤ length (a .work)
+  work-long = at-least (none 17)
 
--- and no number past 18 has a condition here: 19 is a pivot's
-pub condition-most : (s : Survey) (a : Areas) {k : ℕ} → Condition s a k → k ≤ 18
-condition-most s a (coordinates h) = lit≤ tt
-condition-most s a (odd-nodes h) = lit≤ tt
-condition-most s a (no-basis h) = lit≤ tt
-condition-most s a (code h) = lit≤ tt
-condition-most s a (regularization h) = lit≤ tt
-condition-most s a (externals-length h) = lit≤ tt
-condition-most s a (few-wells h) = lit≤ tt
-condition-most s a (node-externals-length k h) = lit≤ tt
-condition-most s a (too-many h) = lit≤ tt
-condition-most s a (tolerance h) = lit≤ tt
-condition-most s a (numbers h) = lit≤ tt
-condition-most s a (model h) = lit≤ tt
-condition-most s a (work-short h) = lit≤ tt
-condition-most s a (answer-short h) = lit≤ tt
+  pub few-columns : columns s ≤ limits .columns
+  few-columns = at-least (λ l. none 9 (inr (inl l)))
+
+  pub finite-tolerance : T (finite (s .tolerance))
+  finite-tolerance = is-finite (s .tolerance) (λ n. none 10 (inr n))
+
+  pub finite-values : (i : ℕ) → i < wells s → T (finite (valueAt s i))
+  finite-values i l = is-finite (valueAt s i) (λ n. none 11 (inr (inl (record { place = i; inside = l; is = n }))))
+
+  pub finite-coords : (k : ℕ) → k < length (s .coords) → T (finite (getD (s .coords) k nan))
+  finite-coords k l = is-finite (getD (s .coords) k nan) (λ n. none 11 (inr (inr (inl (record { place = k; inside = l; is = n })))))
+
+  pub coords-length : length (s .coords) ≡ 2 * wells s
+  coords-length = stable (equal (length (s .coords)) (2 * wells s)) (none 1)
+
+  -- the answer areas are long enough
+  pub predicted-long : nodeCount s ≤ length (a .predicted)
+  predicted-long = at-least (λ l. none 18 (inl l))
+
+  pub variance-long : nodeCount s ≤ length (a .variance)
+  variance-long = at-least (λ l. none 18 (inr (inl l)))
+
+  pub verdicts-long : nodeCount s ≤ length (a .verdicts)
+  verdicts-long = at-least (λ l. none 18 (inr (inr (inl l))))
+
+  pub weights-long : wells s * nodeCount s ≤ length (a .weights)
+  weights-long = at-least (λ l. none 18 (inr (inr (inr (inl l)))))
+
+  pub coefficients-long : columns s ≤ length (a .coefficients)
+  coefficients-long = at-least (λ l. none 18 (inr (inr (inr (inr l)))))

@@ -11,16 +11,18 @@ use lib.Dec.{ltb}
 use lib.ListN.{length, getD, length-append}
 use lib.Ieee.{Float, nan, binary64, mul}
 use Rattle.variogram.proofs.Distance.{distance2d-back}
-use Rattle.kriging.specs.Survey.{Survey, wells, columns, size, wellX, wellY}
-use Rattle.elimination.specs.Inverse.{zeroFloat, oneFloat}
+use Rattle.survey.specs.Survey.{Survey, wells, columns, size, wellX, wellY}
+use Rattle.ieee.specs.Floats.{zeroFloat, oneFloat}
 use Rattle.elimination.proofs.Laid.{laid-left, laid-one, laid-zero}
 use Rattle.kriging.specs.Drift.{drift, nodeRow}
 use Rattle.kriging.specs.Assembly.{between, entry, assembled}
 use Rattle.ieee.specs.Sums.{runningSum}
-use Rattle.kriging.specs.Node.{rightHand, table}
+use Rattle.area.specs.Area.{table}
+use Rattle.kriging.specs.Node.{rightHand}
 use Rattle.kriging.specs.System.{nodePlace, variogramOf, Index, Well, Drift, Within, coefficientOf, rightOf, varianceSum, rowOf}
 use Rattle.kriging.proofs.SystemDrift.{drift-well, drift-node, node-row-length}
-use Rattle.kriging.proofs.SystemTable.{table-length, joined-at, joined-past, sum-on}
+use Rattle.area.proofs.Tables.{table-length, joined-at, joined-past}
+use Rattle.ieee.proofs.Sums.{sum-on}
 
 -- ---- rows and unknowns
 -- a row of the system is the row of one equation
@@ -57,7 +59,6 @@ module _ (s : Survey) where
 module _ (s : Survey) (work : List Float) (d : Float) (long : 2 * size s * size s ≤ length work) where
   -- in the left half, column j of row i
   left-half : (i j : ℕ) → i < size s → j < size s → getD (assembled s work) (i * (2 * size s) + j) d ≡ entry s i j
-  unfolding assembled
   left-half = laid-left (size s) (entry s) work d long
 
   pub matrix-at : (u v : Index) → Within s u → Within s v → getD (assembled s work) (rowOf s u * (2 * size s) + rowOf s v) d ≡ coefficientOf s u v
@@ -65,11 +66,9 @@ module _ (s : Survey) (work : List Float) (d : Float) (long : 2 * size s * size 
 
   -- in the right half, column j of row i
   pub identity-one : (i : ℕ) → i < size s → getD (assembled s work) (i * (2 * size s) + (size s + i)) d ≡ oneFloat
-  unfolding assembled
   identity-one = laid-one (size s) (entry s) work d long
 
   pub identity-zero : (i j : ℕ) → i < size s → j < size s → i ≢ j → getD (assembled s work) (i * (2 * size s) + (size s + j)) d ≡ zeroFloat
-  unfolding assembled
   identity-zero = laid-zero (size s) (entry s) work d long
 
 -- ---- the right-hand side and the variance of a node

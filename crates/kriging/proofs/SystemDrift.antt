@@ -8,7 +8,7 @@ use mathlib.Core.List.{List, [], _∷_, _++_, map, map-append}
 use lib.Dec.{eqb}
 use lib.ListN.{length, getD, length-append, length-map}
 use lib.Ieee.{Float, nan}
-use Rattle.kriging.specs.Survey.{Survey, codeColumns, columnSum, columns}
+use Rattle.survey.specs.Survey.{Survey, codeColumns, columnSum, columns}
 use Rattle.kriging.specs.Drift.{block, driftRow, wellRow, nodeRow, drift}
 use Rattle.kriging.specs.System.{Place, wellPlace, nodePlace, Monomial, valueOf, basis, monomials, driftAt}
 

@@ -1,44 +1,70 @@
--- What a node gets, in the terms of the kriging system: z is the inverse times the system's right-hand side, the figure is Σ λ_i value_i, and the variance Σ_i λ_i γ(x_i, x_0) + Σ_l μ_l f_l(x_0), clamped. Assumes nothing.
-use Prim.Native.Nat.{ℕ, _+_}
-use mathlib.Core.Path.{_≡_, refl, ap, _∙_}
+-- What a node gets, in the terms of the kriging system: z is the inverse times the system's right-hand side, the figure is Σ λ_i value_i, the variance
+-- Σ_i λ_i γ(x_i, x_0) + Σ_l μ_l f_l(x_0), clamped, and the coefficients are the μ of the last node. Read off the areas of every accepted fit. Assumes nothing.
+use Prim.Native.Nat.{ℕ, _+_, _-_, _*_, _<_}
+use native.Mathlib.Omega.{arith}
+use mathlib.Core.Path.{_≡_, refl, ap, sym, _∙_, subst}
+use mathlib.Core.Bool.{Bool, cond}
 use mathlib.Core.List.{List}
+use borrow.Author.Tests.{eq-eqb, ne-eqb}
 use lib.ListN.{getD}
-use lib.Ieee.{Float, nan, binary64, mul, ofBits}
-use Rattle.ieee.specs.Floats.{maxOf}
-use Rattle.kriging.specs.Survey.{Survey, wells, columns, size, valueAt}
-use Rattle.ieee.specs.Sums.{addEach, runningSum}
-use Rattle.elimination.specs.Inverse.{inverseAt}
-use Rattle.kriging.specs.Node.{solution, figureOf, varianceOf}
-use Rattle.kriging.specs.Fit.{Node, nodeOf}
-use Rattle.kriging.specs.System.{nodePlace, Index, Well, Drift, Within, rightOf, varianceSum, rowOf}
+use lib.Ieee.{Float, nan, binary64, mul}
+use Rattle.area.proofs.Tables.{table-at}
+use Rattle.ieee.specs.Floats.{zeroFloat, notBelowZero}
+use Rattle.ieee.specs.Sums.{runningSum, addEach}
+use Rattle.ieee.proofs.Sums.{same-sum, same-added, sum-on}
+use Rattle.elimination.specs.Inverse.{inverseAt, timesInverse}
+use Rattle.survey.specs.declared.Limits.{Limits}
+use Rattle.survey.specs.Survey.{Survey, wells, nodeCount, columns, size, valueAt}
+use Rattle.kriging.specs.Areas.{Areas}
+use Rattle.kriging.specs.Node.{zOf, figureOf, varianceOf, rightHand, solutionOf, nodeWith, nodeOf}
+use Rattle.kriging.specs.Fit.{coefficient, worked, fitted}
+use Rattle.kriging.specs.System.{Place, nodePlace, Index, Well, Drift, Within, rightOf, varianceSum, rowOf, unknownOf, Kriged}
 use Rattle.kriging.proofs.System.{row-below, right-is, variance-is}
-use Rattle.kriging.proofs.SystemTable.{table-at, sum-on}
-
--- the unknown u that a node is given: λ_i of a well, μ_l of a drift function
-abbrev pub unknownOf : Survey → Node → Index → Float
-unknownOf s node u = getD (node .z) (rowOf s u) nan
+use Rattle.kriging.proofs.Exit.{work-at, figure-at, variance-at, weight-at, coefficient-at}
 
 module _ (s : Survey) (work : List Float) (q : ℕ) where
   -- "z = inverse times b, summed from 0 by rising column", b the right-hand side of the system
-  pub node-unknown : (u : Index) → Within s u
-      → unknownOf s (nodeOf s work q) u
-      ≡ addEach
-      (addEach (ofBits binary64 0) (wells s) (λ j. mul binary64 (inverseAt (size s) work (rowOf s u) (rowOf s (Well j))) (rightOf s (nodePlace s q) (Well j))))
-      (columns s)
-      (λ l. mul binary64 (inverseAt (size s) work (rowOf s u) (rowOf s (Drift l))) (rightOf s (nodePlace s q) (Drift l)))
-  unfolding nodeOf solution
-  node-unknown u h =
+  unknown-is : (u : Index) → Within s u → getD (nodeOf s work q .z) (rowOf s u) nan ≡ unknownOf s work q u
+  unfolding nodeOf nodeWith solutionOf zOf timesInverse unknownOf
+  unknown-is u h =
       table-at (size s) _ (rowOf s u) nan (row-below s u h)
       ∙ sum-on (wells s) _ _ _ (columns s)
       (λ i b. ap (λ (x : Float). mul binary64 (inverseAt (size s) work (rowOf s u) i) x) (right-is s q (Well i) b))
       (λ l b. ap (λ (x : Float). mul binary64 (inverseAt (size s) work (rowOf s u) (wells s + l)) x) (right-is s q (Drift l) b))
 
   -- "Figure: Σ z_i·value_i"
-  pub node-figure : nodeOf s work q .figure ≡ runningSum (wells s) (λ i. mul binary64 (unknownOf s (nodeOf s work q) (Well i)) (valueAt s i))
-  unfolding nodeOf figureOf
-  node-figure = refl
+  figure-is : nodeOf s work q .figure ≡ runningSum (wells s) (λ i. mul binary64 (unknownOf s work q (Well i)) (valueAt s i))
+  unfolding nodeOf nodeWith figureOf
+  figure-is = same-sum (wells s) _ _ (λ i b. ap (λ (x : Float). mul binary64 x (valueAt s i)) (unknown-is (Well i) b))
 
-  -- "minus zero, anything below zero and NaN become +0"
-  pub node-variance : nodeOf s work q .variance ≡ maxOf (varianceSum s (nodePlace s q) (unknownOf s (nodeOf s work q))) (ofBits binary64 0)
-  unfolding nodeOf varianceOf
-  node-variance = ap (λ (x : Float). maxOf x (ofBits binary64 0)) (variance-is s q (nodeOf s work q .z))
+  same-variance : (node : Place) (f g : Index → Float) → ((u : Index) → Within s u → f u ≡ g u) → varianceSum s node f ≡ varianceSum s node g
+  unfolding varianceSum
+  same-variance node f g h =
+      ap (λ (x : Float). addEach x (columns s) (λ l. mul binary64 (f (Drift l)) (rightOf s node (Drift l)))) (same-sum (wells s) _ _ (λ i b. ap (λ (x : Float). mul binary64 x (rightOf s node (Well i))) (h (Well i) b)))
+      ∙ same-added _ (columns s) _ _ (λ l b. ap (λ (x : Float). mul binary64 x (rightOf s node (Drift l))) (h (Drift l) b))
+
+  -- "Variance: Σ z·b over all s entries", clamped
+  node-variance : nodeOf s work q .variance ≡ notBelowZero (varianceSum s (nodePlace s q) (unknownOf s work q))
+  unfolding nodeOf nodeWith solutionOf varianceOf
+  node-variance =
+      ap notBelowZero
+      (variance-is s q (zOf (size s) work (rightHand s q))
+      ∙ same-variance (nodePlace s q) _ (unknownOf s work q) unknown-is)
+
+-- THE SYSTEM, in every accepted fit: what the areas hold at exit is its answer, node by node
+pub kriged : (limits : Limits) (s : Survey) (a : Areas) → fitted limits s a .number ≡ 0 → Kriged s (fitted limits s a .areas)
+kriged limits s a e =
+    let w : fitted limits s a .areas .work ≡ worked s a = work-at limits s a e in
+    record {
+      weight = λ q i l m. rw w (weight-at limits s a e q i nan l m ∙ unknown-is s (worked s a) q (Well i) m);
+      figure = λ q l. rw w (figure-at limits s a e q nan l ∙ figure-is s (worked s a) q);
+      variance = λ q l. rw w (variance-at limits s a e q nan l ∙ node-variance s (worked s a) q);
+      coefficient = λ j l m.
+          rw w
+          (coefficient-at limits s a e j nan m
+          ∙ ap (λ (b : Bool). cond b zeroFloat (getD (nodeOf s (worked s a) (nodeCount s - 1) .z) (wells s + j) nan)) (ne-eqb (nodeCount s) 0 (omega arith))
+          ∙ unknown-is s (worked s a) (nodeCount s - 1) (Drift j) m);
+      no-nodes = λ j z m.
+          coefficient-at limits s a e j nan m
+          ∙ ap (λ (b : Bool). cond b zeroFloat (getD (nodeOf s (worked s a) (nodeCount s - 1) .z) (wells s + j) nan)) (eq-eqb (nodeCount s) 0 z);
+    }

@@ -1,23 +1,42 @@
 -- DEMAND 3 of every fit, read off its areas at exit. Assumes nothing.
-use Prim.Native.Nat.{ℕ}
+use Prim.Native.Nat.{ℕ, _≤_, _<_}
 use native.Mathlib.Nat.{le-trans}
-use lib.Dec.{lit≤}
-use Rattle.kriging.specs.Survey.{Survey, Areas}
-use Rattle.kriging.specs.Audit.{Audited}
-use Rattle.kriging.specs.Fit.{fitted}
+use native.Mathlib.Omega.{arith}
+use mathlib.Core.Path.{_≡_, refl, sym, _∙_, subst}
+use lib.Ieee.{nan}
+use Rattle.survey.specs.declared.Limits.{Limits}
+use Rattle.survey.specs.Survey.{Survey, nodeCount}
+use Rattle.audit.specs.Audit.{Audited, columnVerdict, verdictWith, verdictOf}
+use Rattle.audit.specs.Trend.{Verdict, TrendBound}
+use Rattle.audit.proofs.Same.{same-verdict}
+use Rattle.audit.proofs.Verdict.{verdict-is, trend-bound}
+use Rattle.kriging.specs.Areas.{Areas}
+use Rattle.kriging.specs.Node.{auditOf, solutionOf, nodeWith, nodeOf}
+use Rattle.kriging.specs.Fit.{worked, fitted}
 use Rattle.kriging.specs.Trend.{TrendKept, atExit, verdictAtExit}
-use Rattle.kriging.proofs.Verdict.{way-verdict, way-bound}
-use Rattle.kriging.proofs.AreasAccepted.{few-columns, finite-tolerance, finite-values}
-use Rattle.kriging.proofs.AreasExit.{way-at-exit}
+use Rattle.kriging.proofs.Refusals.{few-columns, finite-tolerance, finite-values}
+use Rattle.kriging.proofs.Exit.{figure-at, verdict-at, weight-at}
 
--- at every survey, whatever its size and model, and whatever areas are lent
-pub trend-kept : (s : Survey) (a : Areas) → TrendKept s (fitted s a)
-trend-kept s a = record {
-  verdict = λ e q l. way-verdict (exit q) (le-trans (few-columns s a e) (lit≤ tt)) (verdictAtExit (fitted s a .areas) q) (way-at-exit s a e q l);
-  trend = λ e q l. way-bound (exit q) (verdictAtExit (fitted s a .areas) q) (way-at-exit s a e q l);
-  values = finite-values s a;
-  tolerance = finite-tolerance s a;
-}
-  where
-    exit : ℕ → Audited
-    exit q = atExit s (fitted s a .areas) q
+module _ (limits : Limits) (s : Survey) (a : Areas) where
+  exit : ℕ → Audited
+  exit q = atExit s (fitted limits s a .areas) q
+
+  -- the verdict that stands there is that of the weights and of the figure that stand there
+  own-verdict : fitted limits s a .number ≡ 0 → (q : ℕ) → q < nodeCount s → verdictOf (exit q) ≡ verdictAtExit (fitted limits s a .areas) q
+  unfolding exit nodeOf nodeWith solutionOf verdictOf
+  own-verdict e q l =
+      let node = nodeOf s (worked s a) q in
+      same-verdict (exit q) (auditOf s q (node .z) (node .figure))
+      (record { n = refl; p = refl; tolerance = refl; weight = λ i m. weight-at limits s a e q i nan l m; drift = λ i j m k. refl; nodeDrift = λ j k. refl })
+      (λ i m. refl) (figure-at limits s a e q nan l)
+      ∙ sym (verdict-at limits s a e q 255 l)
+
+  -- at every survey, whatever its size and model, and whatever areas are lent; p is at most 253 in every limit that a verdict's byte can name
+  pub trend-kept : limits .columns ≤ 253 → TrendKept s (fitted limits s a)
+  unfolding exit
+  trend-kept few = record {
+    verdict = λ e q l. subst (Verdict (exit q)) (own-verdict e q l) (verdict-is (exit q) (le-trans (few-columns limits s a e) few));
+    trend = λ e q l v. trend-bound (exit q) (own-verdict e q l ∙ v);
+    values = finite-values limits s a;
+    tolerance = finite-tolerance limits s a;
+  }

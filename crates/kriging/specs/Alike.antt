@@ -3,7 +3,8 @@ use Prim.Native.Nat.{ℕ, _+_, _*_, _<_}
 use mathlib.Core.Path.{_≡_}
 use lib.ListN.{getD}
 use lib.Ieee.{nan}
-use Rattle.kriging.specs.Survey.{Survey, Areas, wells, externals, nodeX, nodeY, nodeExternalAt}
+use Rattle.survey.specs.Survey.{Survey, wells, externals, nodeX, nodeY, nodeExternalAt}
+use Rattle.kriging.specs.Areas.{Areas}
 
 -- the same in everything but the lists of nodes
 pub record SameWells (s t : Survey) : Type 0 where
@@ -26,3 +27,14 @@ pub record SameAnswer (s t : Survey) (q r : ℕ) (a b : Areas) : Type 0 where
   pub variance : getD (a .variance) q nan ≡ getD (b .variance) r nan
   pub verdict : getD (a .verdicts) q 0 ≡ getD (b .verdicts) r 0
   pub weight : (i : ℕ) → i < wells s → getD (a .weights) (q * wells s + i) nan ≡ getD (b .weights) (r * wells t + i) nan
+
+-- the same in everything but the values, of which there are as many
+pub record SameButValues (s t : Survey) : Type 0 where
+  pub wells : wells s ≡ wells t
+  pub coords : s .coords ≡ t .coords
+  pub bases : s .bases ≡ t .bases
+  pub external : s .external ≡ t .external
+  pub nodes : s .nodes ≡ t .nodes
+  pub nodeExternal : s .nodeExternal ≡ t .nodeExternal
+  pub options : s .options ≡ t .options
+  pub tolerance : s .tolerance ≡ t .tolerance

@@ -6,8 +6,9 @@ use lib.Dec.{eqb, ltb}
 use lib.Ieee.{Float, binary64, add}
 use Rattle.variogram.specs.Model.{semivariance}
 use Rattle.variogram.specs.Distance.{distance2d}
-use Rattle.elimination.specs.Inverse.{zeroFloat, laid}
-use Rattle.kriging.specs.Survey.{Survey, wells, size, wellX, wellY}
+use Rattle.ieee.specs.Floats.{zeroFloat}
+use Rattle.elimination.specs.Inverse.{laid}
+use Rattle.survey.specs.Survey.{Survey, wells, size, wellX, wellY}
 use Rattle.kriging.specs.Drift.{drift}
 
 -- "variogram between different wells, 0 + r on the diagonal"
@@ -28,6 +29,5 @@ entry s i j =
     (cond (ltb j n) (drift s j (i - n)) zeroFloat)
 
 -- "The matrix beside the identity, s rows of 2s", in a work area
-unfoldable pub assembled : Survey → List Float → List Float
-unfolding entry laid
+abbrev pub assembled : Survey → List Float → List Float
 assembled s work = laid (size s) (entry s) work

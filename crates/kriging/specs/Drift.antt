@@ -5,8 +5,8 @@ use mathlib.Core.List.{List, [], _∷_, _++_}
 use lib.Dec.{eqb}
 use lib.ListN.{getD}
 use lib.Ieee.{Float, nan, binary64, mul}
-use Rattle.elimination.specs.Inverse.{oneFloat}
-use Rattle.kriging.specs.Survey.{Survey, wellX, wellY, wellExternal, nodeX, nodeY, nodeExternalAt}
+use Rattle.ieee.specs.Floats.{oneFloat}
+use Rattle.survey.specs.Survey.{Survey, wellX, wellY, wellExternal, nodeX, nodeY, nodeExternalAt}
 
 -- "1; 1, x, y; 1, x, y, x², xy, y²; or the external value": the columns of one code at x, y with the external value e
 abbrev pub block : ℕ → Float → Float → Float → List Float

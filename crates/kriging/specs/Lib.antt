@@ -1,14 +1,10 @@
-pub mod Options
-pub mod Survey
+pub mod Areas
 pub mod Drift
 pub mod Assembly
 pub mod Node
-pub mod Audit
-pub mod Limits
 pub mod Refusals
 pub mod Fit
 pub mod Trend
 pub mod System
-pub mod Lowest
 pub mod Untouched
 pub mod Alike

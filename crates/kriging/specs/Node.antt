@@ -1,20 +1,17 @@
--- One node: paper 01, "Node". Assumes nothing.
-use Prim.Native.Nat.{ℕ, zero, suc}
-use mathlib.Core.List.{List, [], _∷_, _++_}
+-- One node: paper 01, "Node", in two parts: what does not depend on the values of the wells, and what does. Assumes nothing.
+use Prim.Native.Nat.{ℕ}
+use mathlib.Core.List.{List, _++_}
 use lib.ListN.{getD}
 use lib.Ieee.{Float, nan, binary64, mul}
+use Rattle.area.specs.Area.{table}
 use Rattle.ieee.specs.Floats.{notBelowZero}
 use Rattle.ieee.specs.Sums.{addEach, runningSum}
 use Rattle.elimination.specs.Inverse.{timesInverse}
 use Rattle.variogram.specs.Model.{semivariance}
 use Rattle.variogram.specs.Distance.{distance2d}
-use Rattle.kriging.specs.Survey.{Survey, wells, size, wellX, wellY, nodeX, nodeY, valueAt}
-use Rattle.kriging.specs.Drift.{nodeRow}
-
--- the list of f 0, f 1, .., f (k - 1)
-abbrev pub table : {A : Type 0} → ℕ → (ℕ → A) → List A
-table zero f = []
-table (suc k) f = table k f ++ (f k ∷ [])
+use Rattle.survey.specs.Survey.{Survey, wells, columns, size, wellX, wellY, nodeX, nodeY, valueAt}
+use Rattle.audit.specs.Audit.{Weighed, Audited, columnVerdict, verdictWith}
+use Rattle.kriging.specs.Drift.{drift, nodeRow}
 
 -- "b is the variogram to each well, then the node's drift entries f0"
 unfoldable pub rightHand : Survey → ℕ → List Float
@@ -24,16 +21,68 @@ rightHand s q =
     ++ nodeRow s q
 
 -- "z = inverse times b"
-unfoldable pub solution : ℕ → List Float → List Float → List Float
+unfoldable pub zOf : ℕ → List Float → List Float → List Float
 unfolding timesInverse
-solution size work b = table size (timesInverse size work (λ j. getD b j nan))
+zOf size work b = table size (timesInverse size work (λ j. getD b j nan))
+
+-- "Variance: Σ z·b over all s entries; minus zero, anything below zero and NaN become +0"
+unfoldable pub varianceOf : ℕ → List Float → List Float → Float
+unfolding addEach
+varianceOf size z b = notBelowZero (runningSum size (λ i. mul binary64 (getD z i nan) (getD b i nan)))
 
 -- "Figure: Σ z_i·value_i"
 unfoldable pub figureOf : Survey → List Float → Float
 unfolding addEach
 figureOf s z = runningSum (wells s) (λ i. mul binary64 (getD z i nan) (valueAt s i))
 
--- "Variance: Σ z·b over all s entries; minus zero, anything below zero and NaN become +0"
-unfoldable pub varianceOf : ℕ → List Float → List Float → Float
-unfolding addEach
-varianceOf size z b = notBelowZero (runningSum size (λ i. mul binary64 (getD z i nan) (getD b i nan)))
+-- ---- without the values
+
+-- what the audit's rows 1 to p read: "The first n entries of z are the weights"
+abbrev pub weighedOf : Survey → ℕ → List Float → Weighed
+weighedOf s q z = record {
+  n = wells s;
+  p = columns s;
+  weight = λ i. getD z i nan;
+  drift = drift s;
+  nodeDrift = λ j. getD (nodeRow s q) j nan;
+  tolerance = s .tolerance;
+}
+
+-- z, the variance, and the verdict of rows 1 to p
+pub record Solution : Type 0 where
+  pub z : List Float
+  pub variance : Float
+  pub columns : ℕ
+
+-- of node q, from the finished elimination
+unfoldable pub solutionOf : Survey → List Float → ℕ → Solution
+unfolding rightHand zOf varianceOf columnVerdict
+solutionOf s work q =
+    let b = rightHand s q in
+    let z = zOf (size s) work b in
+    record { z = z; variance = varianceOf (size s) z b; columns = columnVerdict (weighedOf s q z) }
+
+-- ---- with the values
+
+-- all that its audit reads
+abbrev pub auditOf : Survey → ℕ → List Float → Float → Audited
+auditOf s q z figure = record { weighed = weighedOf s q z; value = valueAt s; figure = figure }
+
+-- what a node gets: z with its weights, its figure, its variance and its verdict
+pub record Node : Type 0 where
+  pub z : List Float
+  pub figure : Float
+  pub variance : Float
+  pub verdict : ℕ
+
+-- node q, from its solution
+unfoldable pub nodeWith : Survey → ℕ → Solution → Node
+unfolding figureOf verdictWith
+nodeWith s q v =
+    let figure = figureOf s (v .z) in
+    record { z = v .z; figure = figure; variance = v .variance; verdict = verdictWith (v .columns) (auditOf s q (v .z) figure) }
+
+-- node q, from the finished elimination
+unfoldable pub nodeOf : Survey → List Float → ℕ → Node
+unfolding solutionOf nodeWith
+nodeOf s work q = nodeWith s q (solutionOf s work q)

@@ -3,16 +3,20 @@
 --     Σ_j λ_j f_l(x_j) = f_l(x_0) for each l,
 --     and the variance is Σ_i λ_i γ(x_i, x_0) + Σ_l μ_l f_l(x_0).
 -- Paper 01 adds r to the diagonal. Where these stand in the matrix is said last and apart, by `rowOf`. Assumes nothing.
-use Prim.Native.Nat.{ℕ, suc, _+_, _<_}
+use Prim.Native.Nat.{ℕ, suc, _+_, _-_, _*_, _<_}
+use mathlib.Core.Path.{_≡_}
 use mathlib.Core.Bool.{cond}
 use mathlib.Core.List.{List, [], _∷_, _++_, map}
 use lib.Dec.{eqb}
 use lib.ListN.{getD}
-use lib.Ieee.{Float, nan, binary64, add, mul, ofBits}
-use Rattle.ieee.specs.Sums.{addEach}
+use lib.Ieee.{Float, nan, binary64, add, mul}
+use Rattle.ieee.specs.Floats.{zeroFloat, oneFloat, notBelowZero}
+use Rattle.ieee.specs.Sums.{addEach, runningSum}
+use Rattle.elimination.specs.Inverse.{inverseAt}
 use Rattle.variogram.specs.Model.{semivariance}
 use Rattle.variogram.specs.Distance.{distance2d}
-use Rattle.kriging.specs.Survey.{Survey, wells, columns, wellX, wellY, wellExternal, nodeX, nodeY, nodeExternalAt}
+use Rattle.survey.specs.Survey.{Survey, wells, nodeCount, columns, size, wellX, wellY, wellExternal, nodeX, nodeY, nodeExternalAt, valueAt}
+use Rattle.kriging.specs.Areas.{Areas}
 
 -- ---- places: x_i of a well and x_0 of a node
 
@@ -41,7 +45,7 @@ pub data Monomial : Type 0 where
   External : ℕ → Monomial
 
 unfoldable pub valueOf : Monomial → Place → Float
-valueOf One a = ofBits binary64 0x3ff0_0000_0000_0000
+valueOf One a = oneFloat
 valueOf X a = a .x
 valueOf Y a = a .y
 valueOf XX a = mul binary64 (a .x) (a .x)
@@ -84,10 +88,10 @@ Within s (Drift l) = l < columns s
 unfoldable pub coefficientOf : Survey → Index → Index → Float
 unfolding variogramOf driftAt
 coefficientOf s (Well i) (Well j) =
-    cond (eqb i j) (add binary64 (ofBits binary64 0) (s .options .regularization)) (variogramOf s (wellPlace s i) (wellPlace s j))
+    cond (eqb i j) (add binary64 zeroFloat (s .options .regularization)) (variogramOf s (wellPlace s i) (wellPlace s j))
 coefficientOf s (Well i) (Drift l) = driftAt s l (wellPlace s i)
 coefficientOf s (Drift l) (Well j) = driftAt s l (wellPlace s j)
-coefficientOf s (Drift l) (Drift k) = ofBits binary64 0
+coefficientOf s (Drift l) (Drift k) = zeroFloat
 
 -- its right-hand side at the node x_0
 unfoldable pub rightOf : Survey → Place → Index → Float
@@ -100,7 +104,7 @@ unfoldable pub varianceSum : Survey → Place → (Index → Float) → Float
 unfolding rightOf addEach
 varianceSum s node unknown =
     addEach
-    (addEach (ofBits binary64 0) (wells s) (λ i. mul binary64 (unknown (Well i)) (rightOf s node (Well i))))
+    (runningSum (wells s) (λ i. mul binary64 (unknown (Well i)) (rightOf s node (Well i))))
     (columns s)
     (λ l. mul binary64 (unknown (Drift l)) (rightOf s node (Drift l)))
 
@@ -108,3 +112,27 @@ varianceSum s node unknown =
 abbrev pub rowOf : Survey → Index → ℕ
 rowOf s (Well i) = i
 rowOf s (Drift l) = wells s + l
+
+-- ---- the answer
+-- an unknown of node q, from the work area of a finished elimination: the inverse times the right-hand side of that node, "summed from 0 by rising column"
+unfoldable pub unknownOf : Survey → List Float → ℕ → Index → Float
+unfolding rightOf addEach
+unknownOf s work q u =
+    addEach
+    (runningSum (wells s) (λ j. mul binary64 (inverseAt (size s) work (rowOf s u) (rowOf s (Well j))) (rightOf s (nodePlace s q) (Well j))))
+    (columns s)
+    (λ l. mul binary64 (inverseAt (size s) work (rowOf s u) (rowOf s (Drift l))) (rightOf s (nodePlace s q) (Drift l)))
+
+-- what the areas of an accepted fit hold at exit, in these terms
+pub record Kriged (s : Survey) (e : Areas) : Type 0 where
+  -- "The first n entries of z are the weights", the λ of each node
+  pub weight : (q i : ℕ) → q < nodeCount s → i < wells s → getD (e .weights) (q * wells s + i) nan ≡ unknownOf s (e .work) q (Well i)
+  -- Σ_i λ_i value_i
+  pub figure : (q : ℕ) → q < nodeCount s
+      → getD (e .predicted) q nan ≡ runningSum (wells s) (λ i. mul binary64 (unknownOf s (e .work) q (Well i)) (valueAt s i))
+  -- "minus zero, anything below zero and NaN become +0"
+  pub variance : (q : ℕ) → q < nodeCount s → getD (e .variance) q nan ≡ notBelowZero (varianceSum s (nodePlace s q) (unknownOf s (e .work) q))
+  -- the coefficients are the μ of the last node
+  pub coefficient : (j : ℕ) → 0 < nodeCount s → j < columns s → getD (e .coefficients) j nan ≡ unknownOf s (e .work) (nodeCount s - 1) (Drift j)
+  -- "zeros if m = 0"
+  pub no-nodes : (j : ℕ) → nodeCount s ≡ 0 → j < columns s → getD (e .coefficients) j nan ≡ zeroFloat

@@ -1,7 +1,8 @@
 -- "all past the named lengths is untouched": each area of b is as long as that of a, and the same from its named length on. Assumes nothing.
 use Prim.Native.Nat.{_*_}
 use Rattle.area.specs.Area.{Kept}
-use Rattle.kriging.specs.Survey.{Survey, Areas, wells, nodeCount, columns, size}
+use Rattle.survey.specs.Survey.{Survey, wells, nodeCount, columns, size}
+use Rattle.kriging.specs.Areas.{Areas}
 
 pub record Untouched (s : Survey) (a b : Areas) : Type 0 where
   pub work : Kept (2 * size s * size s) (a .work) (b .work)
