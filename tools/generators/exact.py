@@ -82,7 +82,8 @@ def columns(rng):
     for width in range(1, 13):  # as an audit has it: rows of `width`, the first column and the last
         for column in sorted({0, width - 1}):
             yield *pairs(24), column, width
-    for column, width in ((0, 0), (5, 0), (23, 1), (24, 1), (25, 0), (1, 23), (1, 22), (0, 24), (2**64 - 1, 1), (1, 2**64 - 1), (2**64 - 1, 2**64 - 1)):
+    far = 2**64 - 1
+    for column, width in ((0, 0), (5, 0), (23, 1), (24, 1), (25, 0), (1, 23), (1, 22), (0, 24), (far, 1), (1, far), (far, far)):
         yield *pairs(24), column, width
     for _ in range(12):
         n = rng.randrange(1, 64)

@@ -56,6 +56,11 @@ def bin_of(h, width, bins):
     return bins - 1 if quotient >= bins else math.floor(quotient)
 
 
+def width_of(taken, bins):
+    """"Width = greatest distance / bins.\""""
+    return div(max(h for h, _ in taken), float(bins))
+
+
 def kept_bin(i, width, halves):
     """"(i + 0.5)·width, sum/count, and the count"."""
     return (i + 0.5) * width, running_sum(halves) / len(halves), len(halves)
@@ -67,7 +72,7 @@ def calculate(samples, areas):
     if number:
         return number, 0
     taken = list(pairs(samples))
-    width = div(max(h for h, _ in taken), float(samples.bins))
+    width = width_of(taken, samples.bins)
     binned = [[half for h, half in taken if bin_of(h, width, samples.bins) == i] for i in range(samples.bins)]
     kept = [kept_bin(i, width, halves) for i, halves in enumerate(binned) if halves]
     for place, (at, average, count) in enumerate(kept):
