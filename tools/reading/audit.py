@@ -18,7 +18,7 @@ def rows(drift, node_drift, values, figure):
 
 
 def verdict(weights, drift, node_drift, values, figure, t):
-    """"255 if a weight, an F entry, an f0 entry or the figure is not finite; else the first row missed; else 0, passed.\""""
+    """"255 if a weight, an F entry, an f0 entry or the figure is not finite; else the first row missed; else 0, passed"."""
     if not all_finite([*weights, *(x for row in drift for x in row), *node_drift, figure]):
         return NOT_FINITE
     for number, (column, target) in enumerate(rows(drift, node_drift, values, figure), 1):

@@ -5,13 +5,13 @@ SMALLEST_PIVOT = 2.0**-52
 
 
 def beside_identity(matrix):
-    """"The matrix beside the identity, s rows of 2s.\""""
+    """"The matrix beside the identity, s rows of 2s"."""
     size = len(matrix)
     return [[*row, *(1.0 if j == i else 0.0 for j in range(size))] for i, row in enumerate(matrix)]
 
 
 def held_row(rows, i):
-    """"hold row i and go down; a later row is held instead when its column-i magnitude is > the held one.\""""
+    """"hold row i and go down; a later row is held instead when its column-i magnitude is > the held one"."""
     held = i
     for k in range(i + 1, len(rows)):
         if abs(rows[k][i]) > abs(rows[held][i]):
@@ -41,5 +41,5 @@ def eliminate(rows, skip_zero):
 
 
 def inverse(rows):
-    """"The right half is the inverse.\""""
+    """"The right half is the inverse"."""
     return [row[len(rows):] for row in rows]

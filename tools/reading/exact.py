@@ -5,7 +5,7 @@ ONE = 1 << 1074
 
 
 def multiple(pattern):
-    """"A finite f64 with exponent field e and 52-bit fraction f is a whole multiple of 2^-1074: f if e = 0, else (2^52 + f)·2^(e−1), signed.\""""
+    """"A finite f64 with exponent field e and 52-bit fraction f is a whole multiple of 2^-1074: f if e = 0, else (2^52 + f)·2^(e−1), signed"."""
     sign, e, f = pattern >> 63, pattern >> 52 & 2047, pattern & (1 << 52) - 1
     assert e != 2047
     magnitude = f if e == 0 else ((1 << 52) + f) << (e - 1)

@@ -21,7 +21,7 @@ class Areas(NamedTuple):
 
 
 def tests(survey, areas):
-    """"The lowest applying number wins in a fit.\""""
+    """"The lowest applying number wins in a fit"."""
     n, m, p, k, s = survey.n, survey.m, survey.p, survey.k, survey.s
     yield 1, len(survey.coords) != 2 * n
     yield 2, len(survey.nodes) % 2 != 0
@@ -73,25 +73,25 @@ def between_wells(survey, i, j):
 
 
 def assembled(survey):
-    """"Beside and below: F and its transpose [..]. Lower right: zeros.\""""
+    """"Beside and below: F and its transpose [..]. Lower right: zeros"."""
     n, p, columns = survey.n, survey.p, drift(survey)
     upper = [[between_wells(survey, i, j) for j in range(n)] + columns[i] for i in range(n)]
     return upper + [[columns[i][j] for i in range(n)] + [0.0] * p for j in range(p)]
 
 
 def right_hand_side(survey, q):
-    """"b is the variogram to each well, then the node's drift entries f0.\""""
+    """"b is the variogram to each well, then the node's drift entries f0"."""
     to_wells = [survey.variogram.evaluate(distance(survey.well(i), survey.node(q))) for i in range(survey.n)]
     return to_wells + node_drift(survey, q)
 
 
 def solved(matrix_inverse, b):
-    """"z = inverse times b, summed from 0 by rising column.\""""
+    """"z = inverse times b, summed from 0 by rising column"."""
     return [running_sum(x * y for x, y in zip(row, b, strict=True)) for row in matrix_inverse]
 
 
 def weighted(weights, values):
-    """"Figure: Σ z_i·value_i.\""""
+    """"Figure: Σ z_i·value_i"."""
     return running_sum(w * v for w, v in zip(weights, values, strict=True))
 
 

@@ -45,7 +45,7 @@ class Areas(NamedTuple):
 
 
 def tests(query, areas):
-    """"Interpolator: 13, 1, 2, 9, 11, 12, 17, 18, 19.\""""
+    """"Interpolator: 13, 1, 2, 9, 11, 12, 17, 18, 19"."""
     d, n = query.d, query.n
     yield 13, d not in (1, 2, 3) or (d == 1 and query.kind == UNIVERSAL)
     yield 1, len(query.coords) != n * d
@@ -58,12 +58,12 @@ def tests(query, areas):
 
 
 def covariance(query, a, b):
-    """"Entries are sill − variogram, the diagonal too.\""""
+    """"Entries are sill − variogram, the diagonal too"."""
     return query.variogram.sill - query.variogram.evaluate(distance(a, b))
 
 
 def drift_row(query, point):
-    """"Ordinary adds a one [..]; Universal 1, x, y, xy [..] from the first two axes.\""""
+    """"Ordinary adds a one [..]; Universal 1, x, y, xy [..] from the first two axes"."""
     if query.kind == ORDINARY:
         return [1.0]
     x, y = point[:2]
@@ -84,12 +84,12 @@ def right_hand_side(query, q):
 
 
 def variance_of(sill, z, b):
-    """"Variance: sill minus each z·b in turn, then as above.\""""
+    """"Variance: sill minus each z·b in turn, then as above"."""
     return clamped(running_sum((-(x * y) for x, y in zip(z, b, strict=True)), start=sill))
 
 
 def interpolate(query, areas):
-    """A call's number: 0 and the answers in the areas, or a refusal. "Its elimination does not skip a zero factor.\""""
+    """A call's number: 0 and the answers in the areas, or a refusal. "Its elimination does not skip a zero factor"."""
     number = refusals.first(tests(query, areas))
     if number:
         return number

@@ -30,7 +30,7 @@ class Areas(NamedTuple):
 
 
 def tests(samples, areas):
-    """"Semivariogram: 13, 1, 14, 15, 9, 11, 18.\""""
+    """"Semivariogram: 13, 1, 14, 15, 9, 11, 18"."""
     yield 13, samples.d not in (1, 2, 3)
     yield 1, len(samples.coords) != samples.n * samples.d
     yield 14, samples.n < 2
@@ -49,7 +49,7 @@ def pairs(samples):
 
 
 def bin_of(h, width, bins):
-    """"Bin = floor(distance/width), NaN as 0, above the last as the last.\""""
+    """"Bin = floor(distance/width), NaN as 0, above the last as the last"."""
     quotient = div(h, width)
     if quotient != quotient:
         return 0
@@ -57,7 +57,7 @@ def bin_of(h, width, bins):
 
 
 def width_of(taken, bins):
-    """"Width = greatest distance / bins.\""""
+    """"Width = greatest distance / bins"."""
     return div(max(h for h, _ in taken), float(bins))
 
 
@@ -67,7 +67,7 @@ def kept_bin(i, width, halves):
 
 
 def calculate(samples, areas):
-    """A call's number, and how many bins were kept: "Only their places are written; how many is returned.\""""
+    """A call's number, and how many bins were kept: "Only their places are written; how many is returned"."""
     number = refusals.first(tests(samples, areas))
     if number:
         return number, 0

@@ -9,7 +9,7 @@ COLUMNS = {CONSTANT: 1, LINEAR: 3, QUADRATIC: 6, EXTERNAL: 1}
 
 class Survey(NamedTuple):
     """"n well values; coordinates x, y in turn, 2n numbers; basis codes [..]. External values are k·n numbers, column after column. The m nodes
-    are 2m numbers; node externals k·m, node after node, ignored if k = 0. Nugget, sill, range, regularisation r and tolerance t are f64.\""""
+    are 2m numbers; node externals k·m, node after node, ignored if k = 0. Nugget, sill, range, regularisation r and tolerance t are f64"."""
 
     values: list
     coords: list
@@ -41,7 +41,7 @@ class Survey(NamedTuple):
 
     @property
     def s(self):
-        """"Size s = n + p.\""""
+        """"Size s = n + p"."""
         return self.n + self.p
 
     def well(self, i):

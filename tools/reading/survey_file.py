@@ -68,7 +68,7 @@ def writer_tests(survey, area):
 
 
 def write(survey, area):
-    """The writer's number, and how many bytes it wrote: "The writer puts S = 0.\""""
+    """The writer's number, and how many bytes it wrote: "The writer puts S = 0"."""
     number = refusals.first(writer_tests(survey, area))
     if number:
         return number, 0
@@ -83,7 +83,7 @@ def lengths(n, m, k):
 
 
 def malformed(data):
-    """"16: under 14 or over 65,536 bytes, lengths that do not meet exactly, another model or version, trailer zeros not zero.\""""
+    """"16: under 14 or over 65,536 bytes, lengths that do not meet exactly, another model or version, trailer zeros not zero"."""
     if not TRAILER_LENGTH <= len(data) <= MOST_BYTES:
         return True
     start, n, m, c, model, version, zeros = struct.unpack(TRAILER, data[-TRAILER_LENGTH:])

@@ -20,7 +20,7 @@ class Variogram(NamedTuple):
     range: float
 
     def evaluate(self, h):
-        """"0 if h < 2^-52.\""""
+        """"0 if h < 2^-52"."""
         if h < 2.0**-52:
             return 0.0
         return self.spherical(h) if self.model == SPHERICAL else self.linear(h)

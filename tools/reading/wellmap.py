@@ -14,12 +14,12 @@ def own_areas():
 
 
 def shown(x):
-    """"Bits are 16 hexadecimal digits in small letters, any NaN as 7ff8000000000000.\""""
+    """"Bits are 16 hexadecimal digits in small letters, any NaN as 7ff8000000000000"."""
     return word(bits(x))
 
 
 def lines(data):
-    """"node count; node number from 1, figure bits, variance bits, verdict; one coef line a column"; "A refusal prints only `refused N`.\""""
+    """"node count; node number from 1, figure bits, variance bits, verdict; one coef line a column"; "A refusal prints only `refused N`"."""
     if malformed(data):
         return ["refused 16"]
     survey, areas = parsed(data), own_areas()
