@@ -1,35 +1,15 @@
-"""Feeds calls to the oracle and reads its answers: see README.md for the protocol."""
+"""Builds the oracle, feeds calls to it and reads its answers: see README.md for the protocol."""
 import pathlib
-import struct
 import subprocess
 import sys
 
 ROOT = pathlib.Path(__file__).resolve().parents[2]
 PROGRAM = ROOT / "target" / "oracle" / "oracle"
-NAN = 0x7FF8_0000_0000_0000
-MASK = (1 << 64) - 1
 
 
-def bits(x):
-    """The pattern of a float, every NaN as one."""
-    return NAN if x != x else struct.unpack("<Q", struct.pack("<d", x))[0]
-
-
-def value(pattern):
-    return struct.unpack("<d", struct.pack("<Q", pattern))[0]
-
-
-def word(pattern):
-    return f"{pattern:016x}"
-
-
-def words(patterns):
-    return " ".join(word(p) for p in patterns)
-
-
-def listed(patterns):
-    """A list as the protocol has it: its length, then its numbers."""
-    return f"{len(patterns)} {words(patterns)}".strip()
+def build(source):
+    """The oracle, from the path of the original kriging.rs."""
+    subprocess.run([ROOT / "tools" / "oracle" / "build.sh", source], check=True, stdout=subprocess.DEVNULL)
 
 
 def ask(calls):

@@ -1,7 +1,4 @@
-// Answers of Rust's own functions on f64, as records that `vectors_ieee` replays, always the same ones.
-//
-// Usage: rustc -O tools/ieee_vectors.rs -o target/ieee_vectors
-//        python3 tools/oracle/sqrt_vectors.py | target/ieee_vectors > crates/vectors_ieee/stdin
+// crates/vectors_ieee: answers of Rust's own functions on f64, always the same ones, on standard output. ieee.py builds and feeds it.
 //
 // A record is eight little-endian words of 64 bits: what is called, x, y, four zeros, and Rust's answer.
 //

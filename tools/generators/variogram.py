@@ -1,6 +1,4 @@
-"""Variograms and distances of the original, as records that `vectors_variogram` replays, always the same ones.
-
-Usage: python3 tools/oracle/variogram_vectors.py > crates/vectors_variogram/stdin     (after tools/oracle/build.sh)
+"""crates/vectors_variogram: variograms and distances of the original.
 
 A record is eight little-endian words of 64 bits: what is called, six numbers, and the original's answer.
 
@@ -9,10 +7,10 @@ A record is eight little-endian words of 64 bits: what is called, six numbers, a
     20, 21       squared_distance_2d, and its root: ax, ay, bx, by, 0, 0
 """
 import random
-import struct
-import sys
 
-from oracle import NAN, ask, bits, value, word, words
+from tools.generators.records import files as made_files, packed
+from tools.oracle.oracle import ask
+from tools.patterns import NAN, bits, value, words
 
 RANDOM = random.Random(20260819)
 EPSILON = 0x3CB0_0000_0000_0000
@@ -117,12 +115,11 @@ def call(kind, numbers):
     return f"distance2 {words(numbers)}"
 
 
-def main():
-    records = [(kind, [NAN if value(n) != value(n) else n for n in numbers]) for kind, numbers in [*variograms(), *distances()]]
-    for (kind, numbers), answer in zip(records, ask([call(*r) for r in records])):
-        taken = answer.split()[-1 if kind == 21 else 0]
-        six = numbers + [0] * (6 - len(numbers))
-        sys.stdout.buffer.write(struct.pack("<8Q", kind, *six, int(taken, 16)))
+def eight_words(kind, numbers, answer):
+    taken = answer.split()[-1 if kind == 21 else 0]
+    return packed([kind, *numbers, *[0] * (6 - len(numbers)), int(taken, 16)])
 
 
-main()
+def files():
+    calls = [(kind, [NAN if value(n) != value(n) else n for n in numbers]) for kind, numbers in [*variograms(), *distances()]]
+    return made_files([eight_words(*c, answer) for c, answer in zip(calls, ask([call(*c) for c in calls]))])

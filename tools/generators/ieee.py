@@ -1,11 +1,14 @@
-"""Square roots of the original's `f64::sqrt`: prints lines `<pattern in> <pattern out>`, always the same ones.
+"""crates/vectors_ieee: answers of Rust's own functions on f64.
 
-Usage: python3 tools/oracle/sqrt_vectors.py > FILE     (after tools/oracle/build.sh)
+The roots are drawn here: the oracle answers them, whole numbers check them. ieee.rs asks Rust for them once more and adds the other functions.
 """
 import math
 import random
+import subprocess
 
-from oracle import NAN, ask, bits, value, word
+from tools.generators.records import files as made_files
+from tools.oracle.oracle import ROOT, ask
+from tools.patterns import NAN, bits, value, word
 
 RANDOM = random.Random(20260818)
 HIDDEN = 1 << 52
@@ -83,15 +86,20 @@ def nearest_root(pattern):
     return bits(math.ldexp(float(rounded), (power - shift) // 2 + extra))
 
 
-def main():
+def roots():
+    """Lines `<pattern in> <pattern out>`."""
     inputs = []
     for group in (special, subnormals, perfect_squares, midpoints, largest_roots, every_exponent):
         inputs.extend(group())
     inputs = list(dict.fromkeys(inputs))
-    answers = ask([f"sqrt {word(p)}" for p in inputs])
-    for pattern, root in zip(inputs, answers):
+    for pattern, root in zip(inputs, ask([f"sqrt {word(p)}" for p in inputs])):
         assert int(root, 16) == nearest_root(pattern), word(pattern)
-        print(word(pattern), root)
+        yield f"{word(pattern)} {root}\n"
 
 
-main()
+def files():
+    program = ROOT / "target" / "generators" / "ieee"
+    program.parent.mkdir(parents=True, exist_ok=True)
+    subprocess.run(["rustc", "-O", ROOT / "tools" / "generators" / "ieee.rs", "-o", program], check=True)
+    answers = subprocess.run([program], input="".join(roots()).encode(), stdout=subprocess.PIPE, check=True).stdout
+    return made_files([answers[at:at + 64] for at in range(0, len(answers), 64)])

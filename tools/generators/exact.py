@@ -1,31 +1,23 @@
-#!/usr/bin/env python3
-"""Makes crates/vectors_exact/stdin and stdout: sums of products of f64 and, by Python's whole numbers, their 67 words.
+"""crates/vectors_exact: sums of products of f64 and, by Python's whole numbers, their 67 words.
 
 A finite f64 is read by its bits as a whole number of 2^-1074, as paper 01 says it; what is not finite counts as 0.
 The vectors: extreme, subnormal and zero operands of both signs, infinities and NaNs, sums that cancel to 0, to one
 unit and to minus one unit (a borrow or a carry that runs through every word), words that are all ones, and sums of
 random patterns. Then dot products with a column of rows of every width, at and past the end of the list.
 Each sum is also compared with the one before it.
-Run: python3 tools/vectors_exact.py
 """
-import os
 import random
 import struct
 
-ROOT = os.path.join(os.path.dirname(os.path.abspath(__file__)), "..", "crates", "vectors_exact")
+from tools.patterns import bits, value
+from tools.reading.exact import multiple
+from tools.reading.floats import running_sum
+
 MOD = 1 << 4288
 
 
-def units(bits):
-    e, f, s = bits % (1 << 63) >> 52, bits % (1 << 52), bits >> 63
-    if e == 2047:
-        return 0
-    m = f if e == 0 else ((1 << 52) + f) << (e - 1)
-    return -m if s else m
-
-
-def bits(x):
-    return struct.unpack("<Q", struct.pack("<d", x))[0]
+def units(pattern):
+    return 0 if pattern >> 52 & 2047 == 2047 else multiple(pattern)
 
 
 def words(z):
@@ -76,7 +68,7 @@ def vectors(rng):
     for _ in range(40):  # near 1, as an audit's are: the sum less what it should be
         ws = [bits(rng.uniform(-2, 2)) for _ in range(6)]
         fs = [bits(rng.uniform(-1e6, 1e6)) for _ in range(6)]
-        target = bits(sum(struct.unpack("<d", struct.pack("<Q", w))[0] * struct.unpack("<d", struct.pack("<Q", f))[0] for w, f in zip(ws, fs)))
+        target = bits(running_sum(value(w) * value(f) for w, f in zip(ws, fs)))
         yield [(0, w, f) for w, f in zip(ws, fs)] + [(1, target, ONE)]
 
 
@@ -90,36 +82,34 @@ def columns(rng):
     for width in range(1, 13):  # as an audit has it: rows of `width`, the first column and the last
         for column in sorted({0, width - 1}):
             yield *pairs(24), column, width
-    for column, width in ((0, 0), (5, 0), (23, 1), (24, 1), (25, 0), (1, 23), (1, 22), (0, 24), (2**64 - 1, 1), (1, 2**64 - 1), (2**64 - 1, 2**64 - 1)):
+    far = 2**64 - 1
+    for column, width in ((0, 0), (5, 0), (23, 1), (24, 1), (25, 0), (1, 23), (1, 22), (0, 24), (far, 1), (1, far), (far, far)):
         yield *pairs(24), column, width
     for _ in range(12):
         n = rng.randrange(1, 64)
         yield [bits(rng.uniform(-2, 2)) for _ in range(n)], [bits(rng.uniform(-1e6, 1e6)) for _ in range(n)], 0, 1
 
 
-def main():
-    rng = random.Random(67)
-    data, text, before = b"", "", 0
+def summed(rng):
+    """Each vector's bytes and its sum."""
     for vector in vectors(rng):
-        total = 0
-        for kind, x, y in vector:
-            data += struct.pack("<BQQ", kind, x, y)
-            total += (-1) ** kind * units(x) * units(y)
-        data += struct.pack("<BQQ", 2, 0, 0)
+        data = b"".join(struct.pack("<BQQ", kind, x, y) for kind, x, y in vector) + struct.pack("<BQQ", 2, 0, 0)
+        total = sum((-1) ** kind * units(x) * units(y) for kind, x, y in vector)
         assert abs(total) < MOD // 2 and reading(words(total)) == total
-        text += line(before, total)
-        before = total
+        yield data, total
+
+
+def dotted(rng):
+    """Each dot product's bytes and its sum."""
     for z, f, column, width in columns(rng):
-        for x, y in zip(z, f):
-            data += struct.pack("<BQQ", 3, x, y)
-        data += struct.pack("<BQQ", 4, column, width)
-        total = sum(units(x) * units(f[column + i * width]) for i, x in enumerate(z) if column + i * width < len(f))
-        text += line(before, total)
-        before = total
+        data = b"".join(struct.pack("<BQQ", 3, x, y) for x, y in zip(z, f)) + struct.pack("<BQQ", 4, column, width)
+        yield data, sum(units(x) * units(f[column + i * width]) for i, x in enumerate(z) if column + i * width < len(f))
+
+
+def files():
+    rng = random.Random(67)
+    sums = [*summed(rng), *dotted(rng)]
+    data = b"".join(part for part, _ in sums)
+    totals = [0, *(total for _, total in sums)]
     assert len(data) < 65536, len(data)
-    for name, content in (("stdin", data), ("stdout", text.encode())):
-        with open(os.path.join(ROOT, name), "wb") as f:
-            f.write(content)
-
-
-main()
+    return {"stdin": data, "stdout": "".join(map(line, totals, totals[1:])).encode()}

@@ -1,0 +1,118 @@
+"""Paper 01, "Survey file"."""
+import struct
+from typing import NamedTuple
+
+from tools.patterns import NAN, value
+from tools.reading import refusals
+from tools.reading.survey import EXTERNAL, Survey
+from tools.reading.variogram import Variogram
+
+TRAILER = "<IHHHBBH"
+TRAILER_LENGTH = 14
+MOST_BYTES, MOST_COUNT, VERSION = 65536, 65535, 1
+
+
+class Lists(NamedTuple):
+    """The areas that the reader fills."""
+
+    values: list
+    coords: list
+    codes: list
+    external: list
+    nodes: list
+    node_external: list
+
+
+def packed(numbers):
+    """"as little-endian f64", a NaN as the one NaN."""
+    return b"".join(struct.pack("<Q", NAN) if x != x else struct.pack("<d", x) for x in numbers)
+
+
+def unpacked(data):
+    numbers = [value(pattern) for (pattern,) in struct.iter_unpack("<Q", data)]
+    return [value(NAN) if x != x else x for x in numbers]
+
+
+def taken_node_external(survey):
+    """Node externals are "ignored if k = 0"."""
+    return survey.node_external if survey.k > 0 else []
+
+
+def body(survey):
+    """"nugget, sill, range, r, t, values, coordinates, externals, nodes, node externals as little-endian f64, then the codes, one byte each"."""
+    head = [*survey.variogram.numbers(), survey.r, survey.t]
+    lists = [*survey.values, *survey.coords, *survey.external, *survey.nodes, *taken_node_external(survey)]
+    return packed(head + lists) + bytes(survey.codes)
+
+
+def trailer(survey, start=0):
+    """"S (4 bytes), n, m, code count (2 each), model 1 to 4 in the enum's order and version 1 (a byte each), two zero bytes, little-endian"."""
+    return struct.pack(TRAILER, start, survey.n, survey.m, len(survey.codes), survey.variogram.model, VERSION, 0)
+
+
+def file_length(survey):
+    lists = survey.values, survey.coords, survey.external, survey.nodes, taken_node_external(survey)
+    return 8 * (5 + sum(map(len, lists))) + len(survey.codes) + TRAILER_LENGTH
+
+
+def writer_tests(survey, area):
+    """"refuses by 1, 2, 6, 8, 11 (r and t included), 16 (over 65,536 bytes or a count over 65,535), 18, in that order"."""
+    n, m, k = survey.n, survey.m, survey.k
+    yield 1, len(survey.coords) != 2 * n
+    yield 2, len(survey.nodes) % 2 != 0
+    yield 6, len(survey.external) != k * n
+    yield 8, k > 0 and len(survey.node_external) != k * m
+    yield 11, refusals.some_not_finite([*survey.judged(), survey.r, survey.t])
+    yield 16, file_length(survey) > MOST_BYTES or max(n, m, len(survey.codes)) > MOST_COUNT
+    yield 18, len(area) < file_length(survey)
+
+
+def write(survey, area):
+    """The writer's number, and how many bytes it wrote: "The writer puts S = 0"."""
+    number = refusals.first(writer_tests(survey, area))
+    if number:
+        return number, 0
+    data = body(survey) + trailer(survey)
+    area[:len(data)] = data
+    return 0, len(data)
+
+
+def lengths(n, m, k):
+    """The f64 lists of the body after its five numbers: values, coordinates, externals, nodes, node externals."""
+    return [n, 2 * n, k * n, 2 * m, k * m]
+
+
+def malformed(data):
+    """"16: under 14 or over 65,536 bytes, lengths that do not meet exactly, another model or version, trailer zeros not zero"."""
+    if not TRAILER_LENGTH <= len(data) <= MOST_BYTES:
+        return True
+    start, n, m, c, model, version, zeros = struct.unpack(TRAILER, data[-TRAILER_LENGTH:])
+    end = len(data) - TRAILER_LENGTH
+    if c > end:
+        return True
+    k = data[end - c:end].count(EXTERNAL)
+    return start + 8 * (5 + sum(lengths(n, m, k))) + c != end or model not in (1, 2, 3, 4) or version != VERSION or zeros != 0
+
+
+def parsed(data):
+    """The survey in a file that is well formed."""
+    start, n, m, c, model, _, _ = struct.unpack(TRAILER, data[-TRAILER_LENGTH:])
+    end = len(data) - TRAILER_LENGTH
+    codes = list(data[end - c:end])
+    numbers = iter(unpacked(data[start:end - c]))
+    nugget, sill, span, r, t = (next(numbers) for _ in range(5))
+    values, coords, external, nodes, node_external = ([next(numbers) for _ in range(count)] for count in lengths(n, m, codes.count(EXTERNAL)))
+    return Survey(values, coords, codes, external, nodes, node_external, Variogram(model, nugget, sill, span), r, t)
+
+
+def read(data, areas):
+    """The reader's number, and the survey that it read, whose lists the areas then begin with: "each list's length, after 16"."""
+    if malformed(data):
+        return 16, None
+    survey = parsed(data)
+    lists = survey[:6]
+    if refusals.too_short([(area, len(items)) for area, items in zip(areas, lists)]):
+        return 18, None
+    for area, items in zip(areas, lists):
+        area[:len(items)] = items
+    return 0, survey
