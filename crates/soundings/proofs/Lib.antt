@@ -1,1 +1,2 @@
 pub mod Soundings
+pub mod FitCases

@@ -8,8 +8,11 @@ use Rattle.ieee.specs.Root.{sqrtOf}
 use Rattle.variogram.specs.Model.{variogram, semivariance}
 use Rattle.variogram.specs.declared.Variogram.{Variogram}
 use Rattle.variogram.specs.declared.VariogramModel.the-variants.{Spherical, Linear}
-use Rattle.kriging.specs.Survey as fit
-use Rattle.kriging.specs.Fit.{Ended, fitted}
+use Rattle.error.specs.Outcome.{Outcome}
+use Rattle.survey.specs.Limits.{base}
+use Rattle.survey.specs.Survey.{Survey}
+use Rattle.kriging.specs.Areas.{Areas}
+use Rattle.kriging.specs.Fit.{fitted}
 use Rattle.interpolator.specs.declared.KrigingType.the-variants.{Ordinary}
 use Rattle.interpolator.specs.Call as interpolator
 use Rattle.interpolator.specs.Interpolation.{interpolated}
@@ -53,7 +56,7 @@ abbrev pub plain : Variogram
 plain = variogram Spherical n0 n1 n1
 
 -- wells at (x, 0) with their values, a node at (1, 0)
-abbrev pub survey : List Float → List Float → Variogram → Float → Float → fit.Survey
+abbrev pub survey : List Float → List Float → Variogram → Float → Float → Survey
 survey values coords v r t = record {
   values = values;
   coords = coords;
@@ -66,7 +69,7 @@ survey values coords v r t = record {
 }
 
 -- areas of just the lengths that n wells, one column and one node ask for
-abbrev pub areas : ℕ → fit.Areas
+abbrev pub areas : ℕ → Areas
 areas n = record {
   work = replicate (2 * (suc n * suc n)) n0;
   predicted = n0 ∷ [];
@@ -77,16 +80,16 @@ areas n = record {
 }
 
 -- "(0,0) value 5", with another variogram in C
-abbrev pub oneWell : Variogram → Ended
-oneWell v = fitted (survey (n5 ∷ []) (n0 ∷ n0 ∷ []) v n0 n0) (areas 1)
+abbrev pub oneWell : Variogram → Outcome Areas
+oneWell v = fitted base (survey (n5 ∷ []) (n0 ∷ n0 ∷ []) v n0 n0) (areas 1)
 
 -- "(0,0) .. and (2,0) ..": B, and D with its values and t
-abbrev pub twoWells : Float → Float → Float → Ended
-twoWells a b t = fitted (survey (a ∷ b ∷ []) (n0 ∷ n0 ∷ n2 ∷ n0 ∷ []) plain n0 t) (areas 2)
+abbrev pub twoWells : Float → Float → Float → Outcome Areas
+twoWells a b t = fitted base (survey (a ∷ b ∷ []) (n0 ∷ n0 ∷ n2 ∷ n0 ∷ []) plain n0 t) (areas 2)
 
 -- "two wells at (0,0)", with r
-abbrev pub oneSpot : Float → Ended
-oneSpot r = fitted (survey (n2 ∷ n6 ∷ []) (n0 ∷ n0 ∷ n0 ∷ n0 ∷ []) plain r n0) (areas 2)
+abbrev pub oneSpot : Float → Outcome Areas
+oneSpot r = fitted base (survey (n2 ∷ n6 ∷ []) (n0 ∷ n0 ∷ n0 ∷ n0 ∷ []) plain r n0) (areas 2)
 
 -- B's wells for the interpolator
 abbrev pub query : interpolator.Query
@@ -110,7 +113,7 @@ abbrev pub bins : List Float → List Float → List ℕ → semivariogram.Areas
 bins distances semivariances counts = record { distances = distances; semivariances = semivariances; counts = counts }
 
 -- an accepted fit's figure, variance, coefficient and verdict
-pub record Answer (e : Ended) (figure variance coefficient : Float) (verdict : ℕ) : Type 0 where
+pub record Answer (e : Outcome Areas) (figure variance coefficient : Float) (verdict : ℕ) : Type 0 where
   pub accepted : e .number ≡ 0
   pub figures : e .areas .predicted ≡ figure ∷ []
   pub variances : e .areas .variance ≡ variance ∷ []
