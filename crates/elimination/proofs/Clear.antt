@@ -5,8 +5,9 @@ use mathlib.Core.Path.{_≡_, refl, ap, _∙_, sym}
 use mathlib.Core.Logic.{_≢_, _⊎_, inl, inr}
 use mathlib.Core.Bool.{Bool, true, false, not, _&&_, cond}
 use mathlib.Core.List.{List}
-use lib.Ieee.{Float, binary64, ofBits, eq, ne}
+use lib.Ieee.{Float, eq, ne}
 use borrow.Author.Tests.{eq-eqb, ne-eqb, not-true, not-false}
+use Rattle.ieee.specs.Floats.{zeroFloat}
 use Rattle.elimination.specs.Elimination.{at, reduced, spared, cleared}
 
 -- one row more, by whether it is spared
@@ -21,29 +22,29 @@ one-more skip w i k xs zs b h s =
 -- row i itself stays
 pub own-test : (skip : Bool) (w i k : ℕ) (zs : List Float) → k ≡ i → spared skip w i k zs ≡ true
 unfolding spared
-own-test skip w i k zs e = ap (λ (b : Bool). cond b true (skip && eq (at w zs k i) (ofBits binary64 0))) (eq-eqb k i e)
+own-test skip w i k zs e = ap (λ (b : Bool). cond b true (skip && eq (at w zs k i) zeroFloat)) (eq-eqb k i e)
 
 pub own-row : (skip : Bool) (w i k : ℕ) (xs zs : List Float) → zs ≡ cleared skip w i k xs → k ≡ i → zs ≡ cleared skip w i (k + 1) xs
 own-row skip w i k xs zs h e = one-more skip w i k xs zs true h (own-test skip w i k zs e)
 
 -- another row, by the test of its factor
-other-test : (skip : Bool) (w i k : ℕ) (zs : List Float) → k ≢ i → spared skip w i k zs ≡ (skip && eq (at w zs k i) (ofBits binary64 0))
+other-test : (skip : Bool) (w i k : ℕ) (zs : List Float) → k ≢ i → spared skip w i k zs ≡ (skip && eq (at w zs k i) zeroFloat)
 unfolding spared
-other-test skip w i k zs n = ap (λ (b : Bool). cond b true (skip && eq (at w zs k i) (ofBits binary64 0))) (ne-eqb k i n)
+other-test skip w i k zs n = ap (λ (b : Bool). cond b true (skip && eq (at w zs k i) zeroFloat)) (ne-eqb k i n)
 
 -- a row whose factor is zero, where it is skipped, stays
 pub skipped-row : (skip : Bool) (w i k : ℕ) (xs zs : List Float) → zs ≡ cleared skip w i k xs → k ≢ i
-    → not skip ≡ false → ne (at w zs k i) (ofBits binary64 0) ≡ false → zs ≡ cleared skip w i (k + 1) xs
+    → not skip ≡ false → ne (at w zs k i) zeroFloat ≡ false → zs ≡ cleared skip w i (k + 1) xs
 unfolding ne
 skipped-row skip w i k xs zs h n s z =
     one-more skip w i k xs zs true h
     (other-test skip w i k zs n
-    ∙ ap (λ (b : Bool). b && eq (at w zs k i) (ofBits binary64 0)) (not-false skip s)
-    ∙ not-false (eq (at w zs k i) (ofBits binary64 0)) z)
+    ∙ ap (λ (b : Bool). b && eq (at w zs k i) zeroFloat) (not-false skip s)
+    ∙ not-false (eq (at w zs k i) zeroFloat) z)
 
 -- any other is cleared
 pub cleared-row : (skip : Bool) (w i k : ℕ) (xs ys zs : List Float) → zs ≡ cleared skip w i k xs → k ≢ i
-    → (not skip ≡ true) ⊎ (ne (at w zs k i) (ofBits binary64 0) ≡ true) → ys ≡ reduced w i k (at w zs k i) zs → ys ≡ cleared skip w i (k + 1) xs
+    → (not skip ≡ true) ⊎ (ne (at w zs k i) zeroFloat ≡ true) → ys ≡ reduced w i k (at w zs k i) zs → ys ≡ cleared skip w i (k + 1) xs
 unfolding ne
 cleared-row skip w i k xs ys zs h n t r = r ∙ one-more skip w i k xs zs false h (other-test skip w i k zs n ∙ by t)
   where
@@ -51,6 +52,6 @@ cleared-row skip w i k xs ys zs h n t r = r ∙ one-more skip w i k xs zs false 
     never true = refl
     never false = refl
 
-    by : (not skip ≡ true) ⊎ (ne (at w zs k i) (ofBits binary64 0) ≡ true) → (skip && eq (at w zs k i) (ofBits binary64 0)) ≡ false
-    by (inl s) = ap (λ (b : Bool). b && eq (at w zs k i) (ofBits binary64 0)) (not-true skip s)
-    by (inr z) = ap (λ (b : Bool). skip && b) (not-true (eq (at w zs k i) (ofBits binary64 0)) z) ∙ never skip
+    by : (not skip ≡ true) ⊎ (ne (at w zs k i) zeroFloat ≡ true) → (skip && eq (at w zs k i) zeroFloat) ≡ false
+    by (inl s) = ap (λ (b : Bool). b && eq (at w zs k i) zeroFloat) (not-true skip s)
+    by (inr z) = ap (λ (b : Bool). skip && b) (not-true (eq (at w zs k i) zeroFloat) z) ∙ never skip

@@ -9,7 +9,8 @@ use mathlib.Core.Bool.{Bool, true, false, _&&_, cond}
 use mathlib.Core.List.{List}
 use lib.Dec.{eqb}
 use lib.ListN.{length}
-use lib.Ieee.{Float, nan, binary64, ofBits, eq, sub, mul}
+use lib.Ieee.{Float, nan, binary64, eq, sub, mul}
+use Rattle.ieee.specs.Floats.{zeroFloat}
 use Rattle.area.proofs.Places.{at-place, other-place}
 use Rattle.area.proofs.Rows.{apart}
 use Rattle.elimination.specs.Elimination.{at, reduced, spared, cleared}
@@ -56,7 +57,7 @@ below-kept skip w i (suc k) r c xs h b =
 -- the test that spares a row looks at nothing but its factor
 same-factor : (skip : Bool) (w i k : ℕ) (xs ys : List Float) → at w ys k i ≡ at w xs k i → spared skip w i k ys ≡ spared skip w i k xs
 unfolding spared
-same-factor skip w i k xs ys e = ap (λ (x : Float). cond (eqb k i) true (skip && eq x (ofBits binary64 0))) e
+same-factor skip w i k xs ys e = ap (λ (x : Float). cond (eqb k i) true (skip && eq x zeroFloat)) e
 
 -- row k's entry, where ys has what xs has in row k and in row i
 row-value : (w i k c : ℕ) (xs ys : List Float) (b : Bool) → k * w + c < length ys → c < w

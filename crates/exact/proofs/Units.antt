@@ -9,7 +9,7 @@ use lib.IntN.{ℤ, pos, natAbs, negℤ}
 use lib.Ieee.{Float, nan, inf, fin, binary64, toBits, fits, isNan, ofBits, neg, lt, up, down}
 use lib.Ieee.Scale.{finite}
 use Rattle.ieee.specs.Values.{signed, fieldsMultiple, multiple, valueOf}
-use Rattle.ieee.specs.Floats.{absOf}
+use Rattle.ieee.specs.Floats.{zeroFloat, oneFloat, absOf}
 use Rattle.ieee.proofs.RoundingSum.{neg-value}
 use Rattle.ieee.proofs.Fields.{multiple-of-bits, sign-of-bits}
 use Rattle.exact.proofs.Whole.{natAbs-negℤ}
@@ -47,7 +47,7 @@ units-value (inf false) f = refl
 units-value (fin s m e) f = ap₂ (λ (b : Bool) (n : ℕ). signed b n) (sym (sign-of-bits (fin s m e) f tt)) (sym (multiple-of-bits (fin s m e) f tt))
 
 -- ---- some numbers
-pub units-one : units (ofBits binary64 0x3ff0_0000_0000_0000) ≡ pos (2 ^ 1074)
+pub units-one : units oneFloat ≡ pos (2 ^ 1074)
 unfolding units ofBits toBits
 units-one = refl
 
@@ -88,7 +88,7 @@ pub units-abs : (x : Float) → T (fits binary64 x) → units (absOf x) ≡ pos 
 units-abs x f = units-value (absOf x) (fits-abs x f) ∙ value-abs x ∙ ap (λ (z : ℤ). pos (natAbs z)) (sym (units-value x f))
 
 -- an f64 that is not below 0.0 is its own magnitude
-value-not-below : (x : Float) → lt x (ofBits binary64 0) ≡ false → valueOf x ≡ pos (natAbs (valueOf x))
+value-not-below : (x : Float) → lt x zeroFloat ≡ false → valueOf x ≡ pos (natAbs (valueOf x))
 unfolding lt ofBits
 value-not-below nan h = refl
 value-not-below (inf true) h = refl
@@ -100,5 +100,5 @@ value-not-below (fin true m e) h =
     let v : multiple (fin true m e) ≡ 0 = ap (λ (n : ℕ). n * 2 ^ 1074 / down e) z ∙ ap (λ (n : ℕ). n / down e) (zero-mul (2 ^ 1074)) ∙ zero-div (down e) in
     ap (λ (n : ℕ). negℤ (pos n)) v ∙ sym (ap (λ (n : ℕ). pos (natAbs (negℤ (pos n)))) v)
 
-pub units-not-below : (x : Float) → T (fits binary64 x) → lt x (ofBits binary64 0) ≡ false → units x ≡ pos (natAbs (units x))
+pub units-not-below : (x : Float) → T (fits binary64 x) → lt x zeroFloat ≡ false → units x ≡ pos (natAbs (units x))
 units-not-below x f h = units-value x f ∙ value-not-below x h ∙ ap (λ (z : ℤ). pos (natAbs z)) (sym (units-value x f))

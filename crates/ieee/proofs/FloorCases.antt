@@ -14,7 +14,7 @@ use lib.Ieee.Exact.{HasValue, odd-sign}
 use lib.Ieee.Fits.{up-pos, down-pos}
 use lib.Ieee.Nearest.{div-same}
 use lib.Ieee.Scale.{finite, round-same}
-use Rattle.ieee.specs.Floats.{floorOf}
+use Rattle.ieee.specs.Floats.{zeroFloat, floorOf}
 use Rattle.ieee.specs.Values.{multiple, signOf, fieldsMultiple}
 use Rattle.ieee.specs.Whole.{WholeBits}
 use Rattle.ieee.proofs.Fields.{value-finite, fields-value, multiple-of-bits, sign-of-bits}
@@ -31,21 +31,21 @@ finite-number (inf s) h = tt
 finite-number (fin s m e) h = tt
 
 -- ---- what the tests of `floor` say of a finite number
-pub above-sign : (x : Float) → T (finite x) → T (lt (ofBits binary64 0) x) → signOf x ≡ false
+pub above-sign : (x : Float) → T (finite x) → T (lt zeroFloat x) → signOf x ≡ false
 unfolding lt ofBits
 above-sign nan h t = absurd h
 above-sign (inf s) h t = absurd h
 above-sign (fin true m e) h t = absurd t
 above-sign (fin false m e) h t = refl
 
-pub below-sign : (x : Float) → T (finite x) → T (lt x (ofBits binary64 0)) → signOf x ≡ true
+pub below-sign : (x : Float) → T (finite x) → T (lt x zeroFloat) → signOf x ≡ true
 unfolding lt ofBits
 below-sign nan h t = absurd h
 below-sign (inf s) h t = absurd h
 below-sign (fin true m e) h t = refl
 below-sign (fin false m e) h t = let l = ltb→lt (m * up e * 1) (0 * 1 * down e) t in let z = zero-mul (down e) in absurd (omega arith)
 
-below-passes : (m : ℕ) (e : ℤ) → T (lt (fin true (suc m) e) (ofBits binary64 0))
+below-passes : (m : ℕ) (e : ℤ) → T (lt (fin true (suc m) e) zeroFloat)
 unfolding lt ofBits
 below-passes m e = let p : 0 < suc m * up e = mul-pos (zero-lt-suc m) (up-pos e) in lt→ltb 0 (suc m * up e * 1 + 0 * 1 * down e) (omega arith)
 
@@ -54,11 +54,11 @@ unfolding floorOf
 floor-of-zero true = sym (round-zero true 1 (lit< tt))
 floor-of-zero false = sym (round-zero false 1 (lit< tt))
 
-pub floor-zero : (x : Float) → T (fits binary64 x) → T (finite x) → T (not (lt (ofBits binary64 0) x)) → T (not (lt x (ofBits binary64 0))) → x ≡ floorOf x
+pub floor-zero : (x : Float) → T (fits binary64 x) → T (finite x) → T (not (lt zeroFloat x)) → T (not (lt x zeroFloat)) → x ≡ floorOf x
 floor-zero nan f h k l = absurd h
 floor-zero (inf s) f h k l = absurd h
-floor-zero (fin false (suc m) e) f h k l = absurd (T-not (lt (ofBits binary64 0) (fin false (suc m) e)) k (above-passes m e))
-floor-zero (fin true (suc m) e) f h k l = absurd (T-not (lt (fin true (suc m) e) (ofBits binary64 0)) l (below-passes m e))
+floor-zero (fin false (suc m) e) f h k l = absurd (T-not (lt zeroFloat (fin false (suc m) e)) k (above-passes m e))
+floor-zero (fin true (suc m) e) f h k l = absurd (T-not (lt (fin true (suc m) e) zeroFloat) l (below-passes m e))
 floor-zero (fin s zero e) f h k l = subst (λ (j : ℤ). fin s 0 j ≡ floorOf (fin s 0 j)) (sym (zero-exponent s e f)) (floor-of-zero s)
 
 pub floor-elsewhere : (x : Float) → T (not (finite x)) → x ≡ floorOf x

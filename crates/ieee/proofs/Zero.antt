@@ -12,7 +12,7 @@ use lib.Ieee.{Float, nan, inf, fin, lt, eq, neg, ofBits, binary64, fits, up, dow
 use lib.Ieee.Fits.{up-pos, down-pos, and-l}
 use lib.Ieee.Bits.{is-false}
 use lib.Ieee.Scale.{round-same}
-use Rattle.ieee.specs.Floats.{absOf}
+use Rattle.ieee.specs.Floats.{zeroFloat, absOf}
 
 -- a test that came out true, as the logic's tests say it
 pub holds : (b : Bool) → b ≡ true → T b
@@ -22,7 +22,7 @@ holds b h = subst (λ (x : Bool). T x) (sym h) tt
 pub fails : (b : Bool) → b ≡ false → T (not b)
 fails b h = subst (λ (x : Bool). T (not x)) (sym h) tt
 
-pub zero-is : ofBits binary64 0 ≡ fin false 0 (pos 0)
+pub zero-is : zeroFloat ≡ fin false 0 (pos 0)
 unfolding ofBits
 zero-is = refl
 
@@ -42,11 +42,11 @@ zero-digits : (m : ℕ) (e : ℤ) → m * up e * 1 ≡ 0 → m ≡ 0
 zero-digits zero e h = refl
 zero-digits (suc m) e h = let p : 0 < suc m * up e = mul-pos (zero-lt-suc m) (up-pos e) in let q : suc m * up e ≡ 0 = sym (mul-one (suc m * up e)) ∙ h in absurd (omega arith)
 
-pub magnitude-zero : (s : Bool) (m : ℕ) (e : ℤ) → T (eq (fin s m e) (ofBits binary64 0)) → m ≡ 0
+pub magnitude-zero : (s : Bool) (m : ℕ) (e : ℤ) → T (eq (fin s m e) zeroFloat) → m ≡ 0
 unfolding eq ofBits
 magnitude-zero s m e h = zero-digits m e (eqb→eq (m * up e * 1) (0 * 1 * down e) (and-l (eqb (m * up e * 1) (0 * 1 * down e)) (Bool·beq s false || eqb (m * up e * 1) 0) h) ∙ zero-mul (down e))
 
-pub eq-zero : (x : Float) → T (fits binary64 x) → T (eq x (ofBits binary64 0)) → absOf x ≡ fin false 0 (pos 0)
+pub eq-zero : (x : Float) → T (fits binary64 x) → T (eq x zeroFloat) → absOf x ≡ fin false 0 (pos 0)
 unfolding eq ofBits
 eq-zero nan f h = absurd h
 eq-zero (inf s) f h = absurd h
@@ -56,7 +56,7 @@ eq-zero (fin s m e) f h =
     ap (λ (n : ℕ). fin false n e) z ∙ ap (λ (k : ℤ). fin false 0 k) y
 
 -- no float with a clear sign is below zero
-pub negative : (x : Float) → T (lt x (ofBits binary64 0)) → neg x ≡ absOf x
+pub negative : (x : Float) → T (lt x zeroFloat) → neg x ≡ absOf x
 unfolding lt neg ofBits
 negative nan h = refl
 negative (inf true) h = refl
@@ -65,7 +65,7 @@ negative (fin true m e) h = refl
 negative (fin false m e) h = let l : m * up e * 1 < 0 * 1 * down e = ltb→lt (m * up e * 1) (0 * 1 * down e) h in let z : 0 * 1 * down e ≡ 0 = zero-mul (down e) in absurd (omega arith)
 
 -- a sign that is set on a number that is neither below zero nor zero: there is none
-no-such : (m : ℕ) (e : ℤ) → T (not (lt (fin true m e) (ofBits binary64 0))) → T (not (eq (fin true m e) (ofBits binary64 0))) → ⊥
+no-such : (m : ℕ) (e : ℤ) → T (not (lt (fin true m e) zeroFloat)) → T (not (eq (fin true m e) zeroFloat)) → ⊥
 unfolding eq ofBits lt
 no-such m e h g =
     let b0 : 0 * 1 * down e ≡ 0 = zero-mul (down e) in
@@ -74,7 +74,7 @@ no-such m e h g =
     T-not (level true (m * up e * 1) false (0 * 1 * down e)) g
     (subst (λ (n : ℕ). T (level true n false (0 * 1 * down e))) (sym a0) (subst (λ (n : ℕ). T (level true 0 false n)) (sym b0) tt))
 
-pub not-below-zero : (x : Float) → T (not (lt x (ofBits binary64 0))) → T (not (eq x (ofBits binary64 0))) → absOf x ≡ x
+pub not-below-zero : (x : Float) → T (not (lt x zeroFloat)) → T (not (eq x zeroFloat)) → absOf x ≡ x
 unfolding lt ofBits
 not-below-zero nan h g = refl
 not-below-zero (inf false) h g = refl

@@ -4,14 +4,14 @@ use mathlib.Core.Bool.{true, false}
 use mathlib.Core.Logic.{_↔_}
 use lib.Dec.{T}
 use lib.Ieee.{Float, binary64, add, sub, mul, div, lt, le, ofBits, round}
-use Rattle.ieee.specs.Floats.{epsilon}
+use Rattle.ieee.specs.Floats.{zeroFloat, oneFloat, epsilon}
 use Rattle.variogram.specs.declared.Variogram.{Variogram}
 use Rattle.variogram.specs.declared.VariogramModel.{VariogramModel}
 use Rattle.variogram.specs.declared.VariogramModel.the-variants.{Spherical, Exponential, Gaussian, Linear}
 use Rattle.variogram.specs.Model.{variogram, spheric, spherical, linear, ofModel, semivariance, notOffered, NotOffered, exponential, gaussian}
 
 -- the variogram of a distance below 2^-52 is +0, whatever the model and its numbers
-pub same-spot : (v : Variogram) (h : Float) → lt h epsilon ≡ true → semivariance v h ≡ ofBits binary64 0
+pub same-spot : (v : Variogram) (h : Float) → lt h epsilon ≡ true → semivariance v h ≡ zeroFloat
 unfolding semivariance
 same-spot v h near = rw near
 
@@ -30,8 +30,8 @@ unfolding spherical
 spherical-near nugget sill range h near = rw near
 
 -- sounding F: "Spherical 0, 1, 2 at h = 1: 0.6875. Linear 1, 4, 2 at h = 2: 5."
-pub sounding-F : (semivariance (variogram Spherical (ofBits binary64 0) (ofBits binary64 0x3ff0_0000_0000_0000) (ofBits binary64 0x4000_0000_0000_0000)) (ofBits binary64 0x3ff0_0000_0000_0000) ≡ ofBits binary64 0x3fe6_0000_0000_0000)
-    × (semivariance (variogram Linear (ofBits binary64 0x3ff0_0000_0000_0000) (ofBits binary64 0x4010_0000_0000_0000) (ofBits binary64 0x4000_0000_0000_0000)) (ofBits binary64 0x4000_0000_0000_0000) ≡ ofBits binary64 0x4014_0000_0000_0000)
+pub sounding-F : (semivariance (variogram Spherical zeroFloat oneFloat (ofBits binary64 0x4000_0000_0000_0000)) oneFloat ≡ ofBits binary64 0x3fe6_0000_0000_0000)
+    × (semivariance (variogram Linear oneFloat (ofBits binary64 0x4010_0000_0000_0000) (ofBits binary64 0x4000_0000_0000_0000)) (ofBits binary64 0x4000_0000_0000_0000) ≡ ofBits binary64 0x4014_0000_0000_0000)
 unfolding semivariance spherical linear add sub mul div lt le ofBits round
 sounding-F = (refl, refl)
 

@@ -5,10 +5,10 @@ use native.Mathlib.Omega.{arith}
 use mathlib.Core.Path.{_≡_, refl, ap, sym, _∙_}
 use mathlib.Core.Bool.{Bool, true, false, not, cond}
 use lib.Dec.{ltb}
-use lib.Ieee.{Float, nan, inf, fin, binary64, up, down, round, units, odd, sum, add, neg, sub, mul, ofBits}
+use lib.Ieee.{Float, nan, inf, fin, binary64, up, down, round, units, odd, sum, add, neg, sub, mul}
 use lib.Ieee.Fits.{mul-fits}
 use borrow.Author.Tests.{ltb-true, ltb-false}
-use Rattle.ieee.specs.Floats.{absOf}
+use Rattle.ieee.specs.Floats.{zeroFloat, absOf}
 use Rattle.variogram.specs.Distance.{square}
 use Rattle.variogram.proofs.Zero.{plus-zero}
 
@@ -91,5 +91,5 @@ abs-square (fin true m e) = abs-round false (m * up e * (m * up e)) (down e * do
 abs-square (fin false m e) = abs-round false (m * up e * (m * up e)) (down e * down e)
 
 -- a sum of squares may begin at +0
-pub plus-square : (x : Float) → add binary64 (ofBits binary64 0) (square x) ≡ square x
+pub plus-square : (x : Float) → add binary64 zeroFloat (square x) ≡ square x
 plus-square x = plus-zero (square x) (mul-fits binary64 x x) (abs-square x)

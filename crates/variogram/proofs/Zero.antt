@@ -6,10 +6,10 @@ use mathlib.Core.Bool.{true, false}
 use lib.Dec.{T}
 use lib.Ieee.{Float, nan, inf, fin, binary64, fits, up, down, add, ofBits}
 use lib.Ieee.Fits.{down-pos}
-use Rattle.ieee.specs.Floats.{absOf}
+use Rattle.ieee.specs.Floats.{zeroFloat, absOf}
 use Rattle.ieee.proofs.Own.{round-own}
 
-pub plus-zero : (x : Float) → T (fits binary64 x) → absOf x ≡ x → add binary64 (ofBits binary64 0) x ≡ x
+pub plus-zero : (x : Float) → T (fits binary64 x) → absOf x ≡ x → add binary64 zeroFloat x ≡ x
 unfolding add ofBits
 plus-zero nan f h = refl
 plus-zero (inf s) f h = refl

@@ -1,7 +1,7 @@
 -- The variogram at a distance: paper 01, "Variogram", each operation rounded once and in the order in which it stands there. Assumes nothing.
 use mathlib.Core.Bool.{Bool, true, false, cond}
 use lib.Ieee.{Float, nan, binary64, add, sub, mul, div, lt, le, ofBits}
-use Rattle.ieee.specs.Floats.{epsilon}
+use Rattle.ieee.specs.Floats.{zeroFloat, epsilon}
 use Rattle.variogram.specs.declared.Variogram.{Variogram}
 use Rattle.variogram.specs.declared.VariogramModel.{VariogramModel}
 use Rattle.variogram.specs.declared.VariogramModel.the-variants.{Spherical, Exponential, Gaussian, Linear}
@@ -40,7 +40,7 @@ ofModel Linear = linear
 -- "0 if h < 2^-52", of every model
 unfoldable pub semivariance : Variogram → Float → Float
 unfolding spherical linear
-semivariance v h = cond (lt h epsilon) (ofBits binary64 0) (ofModel (v .model) (v .nugget) (v .sill) (v .range) h)
+semivariance v h = cond (lt h epsilon) zeroFloat (ofModel (v .model) (v .nugget) (v .sill) (v .range) h)
 
 -- "12 Exponential or Gaussian": what a call that takes a model refuses, as a test and as the paper says it
 abbrev pub notOffered : VariogramModel → Bool
