@@ -32,7 +32,9 @@ pub record Accepted (q : Query) (a : Areas) : Type 0 where
 pub accepted : (limits : Limits) (q : Query) (a : Areas) → NoneApplies (rules limits q a) → Accepted q a
 accepted limits q a none =
     record {
-      dimension = let d = stable (both (at-most 1 (q .dimension)) (at-most (q .dimension) 3)) (λ x. no-rule 13 (inl x)) in is-offered (q .dimension) (d .0) (d .1);
+      dimension =
+          let d = stable (both (at-most 1 (q .dimension)) (at-most (q .dimension) 3)) (λ x. no-rule 13 (inl x)) in
+          is-offered (q .dimension) (d .0) (d .1);
       points = stable (equal (length (q .points)) (wells q * q .dimension)) (no-rule 1);
       targets =
           let e = stable (equal (length (q .targets) % q .dimension) 0) (no-rule 2) in

@@ -81,7 +81,8 @@ unfolding lt ofBits
 below-epsilon = refl
 
 -- a first column of zeros stops step 0: whichever row is held, its magnitude is 0
-zero-column : (skip : Bool) (s : ℕ) (xs : List Float) → 0 < s → 2 * s * s ≤ length xs → ((r : ℕ) → r < s → at (2 * s) xs r 0 ≡ zeroFloat) → StopsAt skip s 0 xs
+zero-column : (skip : Bool) (s : ℕ) (xs : List Float) → 0 < s → 2 * s * s ≤ length xs
+    → ((r : ℕ) → r < s → at (2 * s) xs r 0 ≡ zeroFloat) → StopsAt skip s 0 xs
 unfolding small stepped
 zero-column skip s xs p l z = record {
   before = record { whole = l; steps = omega arith; none = λ k b. absurd (not-suc-le-zero b) };

@@ -1,4 +1,5 @@
--- The interpolator's matrix is the kriging system's, entry by entry, beside the identity, and its right-hand side is the target's: of every query with a dimension that is offered. Assumes nothing.
+-- The interpolator's matrix is the kriging system's, entry by entry, beside the identity, and its right-hand side is the target's:
+-- of every query with a dimension that is offered. Assumes nothing.
 use Prim.Native.Nat.{ℕ, _+_, _-_, _*_, _<_, _≤_}
 use native.Mathlib.Decide.{decLt}
 use native.Mathlib.Omega.{arith}
@@ -12,7 +13,7 @@ use lib.ListN.{length, getD}
 use lib.Ieee.{Float, nan, binary64, sub}
 use Rattle.ieee.specs.Floats.{zeroFloat, oneFloat}
 use Rattle.variogram.specs.Model.{semivariance}
-use Rattle.variogram.specs.Distance.{axisFrom, offered}
+use Rattle.variogram.specs.Distance.{offered}
 use Rattle.variogram.proofs.Distance.{distance-offered}
 use Rattle.elimination.specs.Elimination.{at}
 use Rattle.elimination.proofs.Laid.{laid-left, laid-one, laid-zero}
@@ -20,7 +21,7 @@ use Rattle.interpolator.specs.declared.KrigingType.{KrigingType}
 use Rattle.interpolator.specs.declared.KrigingType.the-variants.{Ordinary, Universal}
 use Rattle.interpolator.specs.Call.{Query, Areas, wells, added, size}
 use Rattle.interpolator.specs.Assembly.{covariance, trend, trendAt, column, entry, rightSide}
-use Rattle.interpolator.specs.System.{Place, placeOf, pointPlace, targetPlace, covarianceOf, Monomial, valueOf, monomials, drifts, driftAt}
+use Rattle.interpolator.specs.System.{Place, placeOf, pointPlace, targetPlace, covarianceOf, valueOf, monomials, drifts, driftAt}
 use Rattle.interpolator.specs.System.{Index, Point, Drift, Within, coefficientOf, rightOf, rowOf}
 use Rattle.interpolator.specs.Exit.{assembled}
 use Rattle.interpolator.proofs.Matrix.{symmetric}

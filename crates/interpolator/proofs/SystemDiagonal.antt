@@ -33,7 +33,8 @@ less-zero (fin false m e) f =
     rw (zero-mul (down e), le-ltb (m * up e * 1) 0 (omega arith), sub-zero, mul-one (m * up e), mul-one (down e))
     (round-own (fin false m e) false (m * up e) (down e) f (down-pos e) (refl, refl))
 
-own-entry : (q : Query) (i : ℕ) → i < wells q → entry q i i ≡ sub binary64 (q .variogram .sill) (semivariance (q .variogram) (distance (q .points) i (q .points) i (q .dimension)))
+own-entry : (q : Query) (i : ℕ) → i < wells q
+    → entry q i i ≡ sub binary64 (q .variogram .sill) (semivariance (q .variogram) (distance (q .points) i (q .points) i (q .dimension)))
 unfolding entry column covariance
 own-entry q i h = rw (lt-ltb i (wells q) h)
 

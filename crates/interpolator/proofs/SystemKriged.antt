@@ -1,12 +1,12 @@
 -- What each target gets, in the terms of the kriging system, read off the areas of an accepted call at exit. Assumes nothing.
 use Prim.Native.Nat.{ℕ, _+_, _<_}
-use mathlib.Core.Path.{_≡_, refl, ap, subst, sym, _∙_}
+use mathlib.Core.Path.{_≡_, ap, subst, sym, _∙_}
 use mathlib.Core.Bool.{true}
 use mathlib.Core.List.{List}
 use lib.Ieee.{Float, nan, binary64, mul}
 use Rattle.area.proofs.Start.{from-start}
 use Rattle.ieee.specs.Floats.{notBelowZero}
-use Rattle.ieee.specs.Sums.{addEach, runningSum, lessEach}
+use Rattle.ieee.specs.Sums.{runningSum, lessEach}
 use Rattle.ieee.proofs.Sums.{sum-on, less-turn}
 use Rattle.elimination.specs.Inverse.{inverseAt, timesInverse}
 use Rattle.variogram.specs.Distance.{offered}
@@ -14,7 +14,7 @@ use Rattle.survey.specs.declared.Limits.{Limits}
 use Rattle.interpolator.specs.Call.{Query, Areas, wells, nodeCount, size}
 use Rattle.interpolator.specs.Assembly.{rightSide}
 use Rattle.interpolator.specs.Interpolation.{solution, figure, variance, answered, interpolated}
-use Rattle.interpolator.specs.System.{targetPlace, drifts, Index, Point, Drift, Within, rightOf, sumOver, estimateOf, varianceOf, rowOf}
+use Rattle.interpolator.specs.System.{targetPlace, drifts, Index, Point, Drift, rightOf, sumOver, estimateOf, varianceOf, rowOf}
 use Rattle.interpolator.specs.Exit.{workAfter, Kriged}
 use Rattle.interpolator.proofs.Accepted.{Accepted, accepted}
 use Rattle.interpolator.proofs.System.{size-is, right-is}

@@ -32,7 +32,7 @@ unfoldable pub column : Query → List Float → ℕ → ℕ → Float
 unfolding covariance trendAt
 column q ys j i = cond (ltb i (wells q)) (covariance q i ys j) (trendAt q ys j (i - wells q))
 
--- the entry in row i and column j of the matrix: "sill − variogram, the diagonal too", with the trend of the wells beside and below, and zeros in the lower right
+-- the entry in row i and column j of the matrix: "sill − variogram, the diagonal too"; beside and below, the trend of the wells; zeros in the lower right
 unfoldable pub entry : Query → ℕ → ℕ → Float
 unfolding column trendAt
 entry q i j = cond (ltb j (wells q)) (column q (q .points) j i) (cond (ltb i (wells q)) (trendAt q (q .points) i (j - wells q)) zeroFloat)

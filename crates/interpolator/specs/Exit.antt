@@ -4,9 +4,9 @@ use mathlib.Core.Path.{_≡_}
 use mathlib.Core.Logic.{_≢_}
 use mathlib.Core.Bool.{false}
 use mathlib.Core.List.{List}
-use lib.ListN.{getD}
+use lib.ListN.{length, getD}
 use lib.Ieee.{Float, nan, binary64, mul}
-use Rattle.error.specs.Outcome.{Outcome}
+use Rattle.error.specs.Outcome.{Outcome, outcome}
 use Rattle.error.specs.Rules.{NoneApplies}
 use Rattle.area.specs.Area.{Kept}
 use Rattle.ieee.specs.Floats.{notBelowZero}
@@ -14,7 +14,7 @@ use Rattle.elimination.specs.Elimination.{at, stepped, StopsAt}
 use Rattle.elimination.specs.Inverse.{laid, inverseAt}
 use Rattle.elimination.specs.Call.{Ends}
 use Rattle.survey.specs.declared.Limits.{Limits}
-use Rattle.interpolator.specs.Call.{Query, Areas, nodeCount, size}
+use Rattle.interpolator.specs.Call.{Query, Areas, withWork, wells, nodeCount, size}
 use Rattle.interpolator.specs.Rules.{rules}
 use Rattle.interpolator.specs.Assembly.{entry}
 use Rattle.interpolator.specs.Interpolation.{interpolationCall}
@@ -63,9 +63,13 @@ pub record Promise (limits : Limits) (q : Query) (a : Areas) (o : Outcome Areas)
   pub ends : Ends (rules limits q a) (interpolationCall limits q a) o
   -- "A refusal carries only its number and writes nothing"
   pub refused : o .number ≢ 0 → o .number ≢ 19 → o .areas ≡ a
+  -- m targets of d numbers each, since 2 does not apply: "node list .. not a multiple of d"
+  pub targets : NoneApplies (rules limits q a) → length (q .targets) ≡ nodeCount q * q .dimension
   -- a call that is not refused eliminates the kriging system's matrix
   pub matrix : NoneApplies (rules limits q a) → (u v : Index) → Within q u → Within q v
       → at (2 * size q) (assembled q a) (rowOf q u) (rowOf q v) ≡ coefficientOf q u v
+  -- "n = 0 gives 19"
+  pub no-wells : NoneApplies (rules limits q a) → wells q ≡ 0 → o ≡ outcome 19 (withWork a (assembled q a))
   -- "a pivot below 2^-52"
   pub stopped : o .number ≡ 19 → StoppedAreas q a (o .areas)
   -- "On success the work area holds the finished elimination"

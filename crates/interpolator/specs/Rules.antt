@@ -1,5 +1,6 @@
--- What turns a call of the interpolator away before it eliminates, as the paper says it and not as tests: for each number its condition, and the order in which they count. Assumes nothing.
-use Prim.Native.Nat.{ℕ, _*_, _%_, _<_, _≤_}
+-- What turns a call of the interpolator away before it eliminates, as the paper says it and not as tests:
+-- for each number its condition, and the order in which they count. Assumes nothing.
+use Prim.Native.Nat.{_*_, _%_, _<_, _≤_}
 use mathlib.Core.Path.{_≡_}
 use mathlib.Core.Logic.{_≢_, _⊎_}
 use mathlib.Core.List.{List, [], _∷_, _++_}
@@ -36,7 +37,8 @@ NumberNotFinite q = VariogramNotFinite (q .variogram) ⊎ SomeNotFinite (q .valu
 abbrev pub ShortAnswer : Query → Areas → Type 0
 ShortAnswer q a = (length (a .figures) < nodeCount q) ⊎ (length (a .variances) < nodeCount q)
 
--- "Interpolator: 13, 1, 2, 9, 11, 12, 17, 18, 19": all but 19, which is the elimination's. 12 is of every call that takes a model, 17 of every call that eliminates.
+-- "Interpolator: 13, 1, 2, 9, 11, 12, 17, 18, 19": all but 19, which is the elimination's.
+-- 12 is that of every call that takes a model, 17 that of every call that eliminates.
 abbrev pub rules : Limits → Query → Areas → List Rule
 rules limits q a =
     rule 13 (WrongDimension q)

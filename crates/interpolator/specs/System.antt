@@ -1,4 +1,5 @@
--- Ordinary and universal kriging in terms of the covariance, block by block: Chilès and Delfiner, Geostatistics, chapter 3. With C(h) = sill − γ(h), points x_i with values z_i, a target x_0 and drift functions f_l,
+-- Ordinary and universal kriging in terms of the covariance, block by block: Chilès and Delfiner, Geostatistics, chapter 3.
+-- With C(h) = sill − γ(h), points x_i with values z_i, a target x_0 and drift functions f_l,
 --     Σ_j C(x_i, x_j) λ_j + Σ_l μ_l f_l(x_i) = C(x_i, x_0) for each point i,
 --     Σ_j λ_j f_l(x_j) = f_l(x_0) for each l,
 --     the estimate is Σ_i λ_i z_i, and the variance C(0) − Σ_i λ_i C(x_i, x_0) − Σ_l μ_l f_l(x_0), where C(0) is the sill.
