@@ -21,7 +21,7 @@ use Rattle.interpolator.specs.declared.KrigingType.{KrigingType}
 use Rattle.interpolator.specs.declared.KrigingType.the-variants.{Ordinary, Universal}
 use Rattle.interpolator.specs.Call.{Query, Areas, wells, added, size}
 use Rattle.interpolator.specs.Assembly.{covariance, trend, trendAt, column, entry, rightSide}
-use Rattle.interpolator.specs.System.{Place, placeOf, pointPlace, targetPlace, covarianceOf, valueOf, monomials, drifts, driftAt}
+use Rattle.interpolator.specs.System.{Place, placeOf, pointPlace, targetPlace, covarianceOf, valueOf, monomials, columns, driftAt}
 use Rattle.interpolator.specs.System.{Index, Point, Drift, Within, coefficientOf, rightOf, rowOf}
 use Rattle.interpolator.specs.Exit.{assembled}
 use Rattle.interpolator.proofs.Matrix.{symmetric}
@@ -32,7 +32,7 @@ added-is : (t : KrigingType) → added t ≡ length (monomials t)
 added-is Ordinary = refl
 added-is Universal = refl
 
-pub size-is : (q : Query) → size q ≡ wells q + drifts q
+pub size-is : (q : Query) → size q ≡ wells q + columns q
 size-is q = ap (λ (n : ℕ). wells q + n) (added-is (q .krigingType))
 
 -- an equation has a row of the matrix, every row is an equation's, and no row is that of two

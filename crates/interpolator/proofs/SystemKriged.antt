@@ -14,7 +14,7 @@ use Rattle.survey.specs.declared.Limits.{Limits}
 use Rattle.interpolator.specs.Call.{Query, Areas, wells, nodeCount, size}
 use Rattle.interpolator.specs.Assembly.{rightSide}
 use Rattle.interpolator.specs.Interpolation.{solution, figure, variance, answered, interpolated}
-use Rattle.interpolator.specs.System.{targetPlace, drifts, Index, Point, Drift, rightOf, sumOver, estimateOf, varianceOf, rowOf}
+use Rattle.interpolator.specs.System.{targetPlace, columns, Index, Point, Drift, rightOf, sumOver, estimateOf, varianceOf, rowOf}
 use Rattle.interpolator.specs.Exit.{workAfter, Kriged}
 use Rattle.interpolator.proofs.Accepted.{Accepted, accepted}
 use Rattle.interpolator.proofs.System.{size-is, right-is}
@@ -25,7 +25,7 @@ module _ (q : Query) (ok : offered (q .dimension) ≡ true) (work : List Float) 
   of-point : (i : ℕ) → i < wells q → rightSide q t i ≡ rightOf q (targetPlace q t) (Point i)
   of-point i h = right-is q ok t (Point i) h
 
-  of-drift : (l : ℕ) → l < drifts q → rightSide q t (wells q + l) ≡ rightOf q (targetPlace q t) (Drift l)
+  of-drift : (l : ℕ) → l < columns q → rightSide q t (wells q + l) ≡ rightOf q (targetPlace q t) (Drift l)
   of-drift l h = right-is q ok t (Drift l) h
 
   -- z, row by row
@@ -35,7 +35,7 @@ module _ (q : Query) (ok : offered (q .dimension) ≡ true) (work : List Float) 
   unknown-is u =
       let inverse : ℕ → Float = inverseAt (size q) work (rowOf q u) in
       ap (λ (k : ℕ). runningSum k (λ j. mul binary64 (inverse j) (rightSide q t j))) (size-is q)
-      ∙ sum-on (wells q) _ _ _ (drifts q)
+      ∙ sum-on (wells q) _ _ _ (columns q)
       (λ i b. ap (λ (x : Float). mul binary64 (inverse i) x) (of-point i b))
       (λ l b. ap (λ (x : Float). mul binary64 (inverse (wells q + l)) x) (of-drift l b))
 
@@ -45,7 +45,7 @@ module _ (q : Query) (ok : offered (q .dimension) ≡ true) (work : List Float) 
       let z : ℕ → Float = solution q work t in
       ap notBelowZero
       (ap (λ (k : ℕ). lessEach (q .variogram .sill) k (λ j. mul binary64 (z j) (rightSide q t j))) (size-is q)
-      ∙ less-turn (q .variogram .sill) (wells q) _ _ _ (drifts q)
+      ∙ less-turn (q .variogram .sill) (wells q) _ _ _ (columns q)
       (λ i b. ap (λ (x : Float). mul binary64 (z i) x) (of-point i b))
       (λ l b. ap (λ (x : Float). mul binary64 (z (wells q + l)) x) (of-drift l b)))
 

@@ -27,9 +27,11 @@ pub record Place : Type 0 where
 abbrev pub placeOf : List Float → ℕ → ℕ → Place
 placeOf xs d i = record { axis = λ k. getD xs (i * d + k) nan }
 
+-- x_i
 abbrev pub pointPlace : Query → ℕ → Place
 pointPlace q i = placeOf (q .points) (q .dimension) i
 
+-- x_0, of the target t
 abbrev pub targetPlace : Query → ℕ → Place
 targetPlace q t = placeOf (q .targets) (q .dimension) t
 
@@ -40,10 +42,11 @@ covarianceOf q a b = sub binary64 (q .variogram .sill) (semivariance (q .variogr
 
 -- ---- drift functions f_l
 
--- a monomial of the first two coordinates
+-- a function of the place: a monomial of its first two coordinates
 pub data Monomial : Type 0 where
   One X Y XY : Monomial
 
+-- its value at a place
 unfoldable pub valueOf : Monomial → Place → Float
 valueOf One a = oneFloat
 valueOf X a = a .axis 0
@@ -56,8 +59,8 @@ monomials Ordinary = One ∷ []
 monomials Universal = One ∷ X ∷ Y ∷ XY ∷ []
 
 -- p, how many they are
-abbrev pub drifts : Query → ℕ
-drifts q = length (monomials (q .krigingType))
+abbrev pub columns : Query → ℕ
+columns q = length (monomials (q .krigingType))
 
 -- f_l at a place: one function, for points and targets alike
 unfoldable pub driftAt : Query → ℕ → Place → Float
@@ -74,7 +77,7 @@ pub data Index : Type 0 where
 -- n of the one kind and p of the other
 abbrev pub Within : Query → Index → Type 0
 Within q (Point i) = i < wells q
-Within q (Drift l) = l < drifts q
+Within q (Drift l) = l < columns q
 
 -- what equation u multiplies the unknown v by
 unfoldable pub coefficientOf : Query → Index → Index → Float
@@ -93,7 +96,7 @@ rightOf q target (Drift l) = driftAt q l target
 -- a sum over all unknowns, "summed from 0": the points', then the drift functions'
 unfoldable pub sumOver : Query → (Index → Float) → Float
 unfolding addEach
-sumOver q f = addEach (runningSum (wells q) (λ i. f (Point i))) (drifts q) (λ l. f (Drift l))
+sumOver q f = addEach (runningSum (wells q) (λ i. f (Point i))) (columns q) (λ l. f (Drift l))
 
 -- Σ_i λ_i z_i, from the unknowns
 unfoldable pub estimateOf : Query → (Index → Float) → Float
@@ -106,7 +109,7 @@ unfolding lessEach rightOf
 varianceOf q target unknown =
     lessEach
     (lessEach (q .variogram .sill) (wells q) (λ i. mul binary64 (unknown (Point i)) (rightOf q target (Point i))))
-    (drifts q)
+    (columns q)
     (λ l. mul binary64 (unknown (Drift l)) (rightOf q target (Drift l)))
 
 -- ---- where they stand: points first, then drift functions
