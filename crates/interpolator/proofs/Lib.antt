@@ -1,6 +1,9 @@
-pub mod Ruling
+pub mod Told
 pub mod Accepted
 pub mod Matrix
-pub mod Diagonal
-pub mod Interpolated
+pub mod Endings
+pub mod System
+pub mod SystemDiagonal
+pub mod SystemKriged
+pub mod Promise
 pub mod Sounding

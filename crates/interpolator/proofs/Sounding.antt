@@ -4,8 +4,10 @@ use mathlib.Core.Path.{_≡_, refl}
 use mathlib.Core.List.{[], _∷_}
 use lib.ListN.{replicate}
 use lib.Ieee.{Float, binary64, ofBits, add, sub, mul, div, lt, le, eq, round}
+use Rattle.ieee.specs.Floats.{zeroFloat, oneFloat}
 use Rattle.variogram.specs.Model.{variogram}
 use Rattle.variogram.specs.declared.VariogramModel.the-variants.{Spherical}
+use Rattle.survey.specs.Limits.{base}
 use Rattle.interpolator.specs.declared.KrigingType.the-variants.{Ordinary}
 use Rattle.interpolator.specs.Call.{Query, Areas}
 use Rattle.interpolator.specs.Interpolation.{interpolated}
@@ -18,21 +20,21 @@ f = ofBits binary64
 abbrev pub query-B : Query
 query-B = record {
   krigingType = Ordinary;
-  variogram = variogram Spherical (f 0) (f 0x3ff0_0000_0000_0000) (f 0x3ff0_0000_0000_0000);
+  variogram = variogram Spherical zeroFloat oneFloat oneFloat;
   dimension = 2;
   values = f 0x4000_0000_0000_0000 ∷ f 0x4018_0000_0000_0000 ∷ [];
-  points = f 0 ∷ f 0 ∷ f 0x4000_0000_0000_0000 ∷ f 0 ∷ [];
-  targets = f 0x3ff0_0000_0000_0000 ∷ f 0 ∷ [];
+  points = zeroFloat ∷ zeroFloat ∷ f 0x4000_0000_0000_0000 ∷ zeroFloat ∷ [];
+  targets = oneFloat ∷ zeroFloat ∷ [];
 }
 
 -- areas of just the places that the call needs, whatever the answer's hold
 abbrev pub areas-B : Float → Float → Areas
-areas-B x y = record { work = replicate 18 (f 0); figures = x ∷ []; variances = y ∷ [] }
+areas-B x y = record { work = replicate 18 zeroFloat; figures = x ∷ []; variances = y ∷ [] }
 
 -- "Ordinary interpolation: 4, 1.5"
 pub sounding-B : (x y : Float)
-    → (interpolated query-B (areas-B x y) .number ≡ 0)
-    × (interpolated query-B (areas-B x y) .areas .figures ≡ f 0x4010_0000_0000_0000 ∷ [])
-    × (interpolated query-B (areas-B x y) .areas .variances ≡ f 0x3ff8_0000_0000_0000 ∷ [])
+    → (interpolated base query-B (areas-B x y) .number ≡ 0)
+    × (interpolated base query-B (areas-B x y) .areas .figures ≡ f 0x4010_0000_0000_0000 ∷ [])
+    × (interpolated base query-B (areas-B x y) .areas .variances ≡ f 0x3ff8_0000_0000_0000 ∷ [])
 unfolding interpolated add sub mul div lt le eq ofBits round
 sounding-B x y = (refl, refl, refl)

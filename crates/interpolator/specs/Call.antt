@@ -4,6 +4,7 @@ use mathlib.Core.List.{List}
 use lib.ListN.{length}
 use lib.Ieee.{Float}
 use Rattle.error.specs.Numbers.{numberOf}
+use Rattle.error.specs.Outcome.{Outcome, outcome}
 use Rattle.variogram.specs.declared.Variogram.{Variogram}
 use Rattle.interpolator.specs.declared.KrigingType.{KrigingType}
 use Rattle.interpolator.specs.declared.KrigingType.the-variants.{Ordinary, Universal}
@@ -11,6 +12,7 @@ use Rattle.interpolator.specs.declared.KrigingInterpolator.{KrigingInter
 use Rattle.interpolator.specs.declared.Interpolation.{Interpolation}
 use Rattle.interpolator.specs.declared.Interpolation.the-variants.{Done, Refused}
 
+-- an interpolator of a kriging type and a variogram: the one way in which one is made
 abbrev pub interpolator : KrigingType → Variogram → KrigingInterpolator
 interpolator t v = record { «kriging_type» = t; variogram = v }
 
@@ -23,29 +25,36 @@ pub record Query : Type 0 where
   pub points : List Float
   pub targets : List Float
 
+-- ---- areas
 -- what it is lent, at entry or at exit: the work area, and the answer's
 pub record Areas : Type 0 where
   pub work : List Float
   pub figures : List Float
   pub variances : List Float
 
--- how it ends: the answer's number (0, or the refusal's), and the areas at exit
-pub record Outcome : Type 0 where
-  pub number : ℕ
-  pub areas : Areas
+-- the areas with another one for one of them
+abbrev pub withWork : Areas → List Float → Areas
+withWork a work = record { work = work; figures = a .figures; variances = a .variances }
+
+abbrev pub withFigures : Areas → List Float → Areas
+withFigures a figures = record { work = a .work; figures = figures; variances = a .variances }
+
+abbrev pub withVariances : Areas → List Float → Areas
+withVariances a variances = record { work = a .work; figures = a .figures; variances = variances }
 
 -- The number of each answer: "a refusal carries only its number".
-abbrev pub ended : Interpolation → Areas → Outcome
-ended Done a = record { number = 0; areas = a }
-ended (Refused r) a = record { number = numberOf r; areas = a }
+abbrev pub outcomeOf : Interpolation → Areas → Outcome Areas
+outcomeOf Done a = outcome 0 a
+outcomeOf (Refused r) a = outcome (numberOf r) a
 
+-- ---- counts
 -- n, the number of points with a value
 abbrev pub wells : Query → ℕ
 wells q = length (q .values)
 
--- m, the number of targets
-abbrev pub nodes : Query → ℕ
-nodes q = length (q .targets) / q .dimension
+-- m, the number of targets, of d numbers each
+abbrev pub nodeCount : Query → ℕ
+nodeCount q = length (q .targets) / q .dimension
 
 -- "Ordinary adds a one (s = n + 1); Universal 1, x, y, xy (s = n + 4)"
 abbrev pub added : KrigingType → ℕ

@@ -1,7 +1,7 @@
 pub mod Call
-pub mod Limits
-pub mod System
+pub mod Rules
 pub mod Refusals
-pub mod Conditions
+pub mod Assembly
 pub mod Interpolation
-pub mod Endings
+pub mod System
+pub mod Exit

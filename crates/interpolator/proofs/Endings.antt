@@ -1,0 +1,103 @@
+-- How a call of the interpolator ends, and what it leaves in its areas. Assumes nothing.
+use Prim.Native.Nat.{ℕ, _*_, _≤_, _<_}
+use native.Mathlib.Nat.{not-suc-le-zero}
+use native.Mathlib.Omega.{arith}
+use mathlib.Core.Path.{_≡_, refl, ap, _∙_}
+use mathlib.Core.Logic.{_≢_}
+use mathlib.Core.Bool.{Bool, true, false}
+use mathlib.Core.List.{List}
+use lib.ListN.{length}
+use lib.Ieee.{Float, nan, ofBits, lt}
+use Rattle.area.proofs.Kept.{kept-same}
+use Rattle.area.proofs.Start.{kept-start}
+use Rattle.error.specs.Outcome.{outcome}
+use Rattle.error.specs.Rules.{NoneApplies}
+use Rattle.error.proofs.Rules.{none-exactly}
+use Rattle.ieee.specs.Floats.{zeroFloat, absOf, epsilon}
+use Rattle.elimination.specs.Elimination.{at, hold, small, stepped, StopsAt}
+use Rattle.elimination.specs.Call.{Call, Ends}
+use Rattle.elimination.proofs.Hold.{hold-below}
+use Rattle.elimination.proofs.Laid.{kept-laid, laid-left}
+use Rattle.elimination.proofs.Call.{kept-work, where-it-stops, ends, whichever}
+use Rattle.survey.specs.declared.Limits.{Limits}
+use Rattle.interpolator.specs.declared.KrigingType.{KrigingType}
+use Rattle.interpolator.specs.declared.KrigingType.the-variants.{Ordinary, Universal}
+use Rattle.interpolator.specs.Call.{Query, Areas, withWork, wells, nodeCount, added, size}
+use Rattle.interpolator.specs.Rules.{rules}
+use Rattle.interpolator.specs.Refusals.{tests, refusal}
+use Rattle.interpolator.specs.Assembly.{entry}
+use Rattle.interpolator.specs.Interpolation.{answered, interpolationCall, interpolated}
+use Rattle.interpolator.specs.Exit.{assembled, workAfter, StoppedAreas, Untouched}
+use Rattle.interpolator.proofs.Told.{all-told}
+use Rattle.interpolator.proofs.Accepted.{accepted}
+use Rattle.interpolator.proofs.Matrix.{lower-right}
+
+module _ (limits : Limits) (q : Query) (a : Areas) where
+  -- each number exactly where its condition holds, and the areas then
+  pub ended : Ends (rules limits q a) (interpolationCall limits q a) (interpolated limits q a)
+  unfolding interpolated refusal
+  ended =
+      ends (tests limits q a) (rules limits q a) (interpolationCall limits q a) refl (all-told limits q a) tt tt (λ n. accepted limits q a n .work)
+
+  -- "A refusal carries only its number and writes nothing"
+  pub writes-nothing : interpolated limits q a .number ≢ 0 → interpolated limits q a .number ≢ 19 → interpolated limits q a .areas ≡ a
+  writes-nothing = ended .refused-areas
+
+  -- "19 leaves the work area as elimination stopped"
+  pub stopped : interpolated limits q a .number ≡ 19 → StoppedAreas q a (interpolated limits q a .areas)
+  stopped e =
+      let s = ended .stopped .0 e .1 in
+      let so : interpolated limits q a .areas ≡ withWork a (workAfter q a (s .0)) = ended .stopped-areas (s .0) e (s .1) in
+      record {
+        step = s .0;
+        stops = s .1;
+        work = ap (λ (o : Areas). o .work) so;
+        figures = ap (λ (o : Areas). o .figures) so;
+        variances = ap (λ (o : Areas). o .variances) so;
+      }
+
+  -- "On success the work area holds the finished elimination"
+  pub finished : interpolated limits q a .number ≡ 0 → interpolated limits q a .areas .work ≡ workAfter q a (size q)
+  unfolding answered
+  finished e = ap (λ (o : Areas). o .work) (ended .accepted-areas e)
+
+  -- "all past the named lengths is untouched", of every call
+  pub untouched : Untouched q a (interpolated limits q a .areas)
+  unfolding interpolated refusal answered
+  untouched =
+      let c : Call Areas = interpolationCall limits q a in
+      whichever (tests limits q a) (rules limits q a) c refl (all-told limits q a) tt tt (λ n. accepted limits q a n .work) (Untouched q a)
+      (record { work = kept-same _ _; figures = kept-same _ _; variances = kept-same _ _ })
+      (λ i l. record { work = kept-work c i l; figures = kept-same _ _; variances = kept-same _ _ })
+      (record { work = kept-work c (size q) (omega arith); figures = kept-start (nodeCount q) _ _; variances = kept-start (nodeCount q) _ _ })
+
+-- ---- no wells
+added-some : (t : KrigingType) → 0 < added t
+added-some Ordinary = omega arith
+added-some Universal = omega arith
+
+below-epsilon : lt (absOf zeroFloat) epsilon ≡ true
+unfolding lt ofBits
+below-epsilon = refl
+
+-- a first column of zeros stops step 0: whichever row is held, its magnitude is 0
+zero-column : (skip : Bool) (s : ℕ) (xs : List Float) → 0 < s → 2 * s * s ≤ length xs
+    → ((r : ℕ) → r < s → at (2 * s) xs r 0 ≡ zeroFloat) → StopsAt skip s 0 xs
+unfolding small stepped
+zero-column skip s xs p l z = record {
+  before = record { whole = l; steps = omega arith; none = λ k b. absurd (not-suc-le-zero b) };
+  reached = p;
+  below = ap (λ (x : Float). lt (absOf x) epsilon) (z (hold s 0 xs) (hold-below s 0 xs p)) ∙ below-epsilon;
+}
+
+-- "n = 0 gives 19", of Ordinary and of Universal, and the work area holds the matrix beside the identity
+pub no-wells : (limits : Limits) (q : Query) (a : Areas) → NoneApplies (rules limits q a) → wells q ≡ 0
+    → interpolated limits q a ≡ outcome 19 (withWork a (assembled q a))
+unfolding interpolated stepped
+no-wells limits q a n z =
+    let c : Call Areas = interpolationCall limits q a in
+    let long = accepted limits q a n .work in
+    let p : 0 < size q = omega (arith, added-some (q .krigingType)) in
+    where-it-stops c 0 (none-exactly (all-told limits q a) tt .1 n)
+    (zero-column false (size q) (assembled q a) p (omega (arith, kept-laid (size q) (entry q) (a .work) .len))
+    (λ r b. laid-left (size q) (entry q) (a .work) nan long r 0 b p ∙ lower-right q r 0 (omega arith) (omega arith)))
