@@ -3,7 +3,6 @@ use Prim.Native.Nat.{ℕ, _*_, _≤_, _<_}
 use native.Mathlib.Nat.{not-suc-le-zero}
 use native.Mathlib.Omega.{arith}
 use mathlib.Core.Path.{_≡_, refl, ap, _∙_}
-use mathlib.Core.Logic.{_≢_}
 use mathlib.Core.Bool.{Bool, true, false}
 use mathlib.Core.List.{List}
 use lib.ListN.{length}
@@ -27,39 +26,17 @@ use Rattle.interpolator.specs.Rules.{rules}
 use Rattle.interpolator.specs.Refusals.{tests, refusal}
 use Rattle.interpolator.specs.Assembly.{entry}
 use Rattle.interpolator.specs.Interpolation.{answered, interpolationCall, interpolated}
-use Rattle.interpolator.specs.Exit.{assembled, workAfter, StoppedAreas, Untouched}
+use Rattle.interpolator.specs.Exit.{assembled, Untouched}
 use Rattle.interpolator.proofs.Told.{all-told}
 use Rattle.interpolator.proofs.Accepted.{accepted}
 use Rattle.interpolator.proofs.Matrix.{lower-right}
 
 module _ (limits : Limits) (q : Query) (a : Areas) where
   -- each number exactly where its condition holds, and the areas then
-  pub ended : Ends (rules limits q a) (interpolationCall limits q a) (interpolated limits q a)
+  pub ended : Ends (rules limits q a) false (size q) (assembled q a) a (withWork a) (answered q a) (interpolated limits q a)
   unfolding interpolated refusal
   ended =
       ends (tests limits q a) (rules limits q a) (interpolationCall limits q a) refl (all-told limits q a) tt tt (λ n. accepted limits q a n .work)
-
-  -- "A refusal carries only its number and writes nothing"
-  pub writes-nothing : interpolated limits q a .number ≢ 0 → interpolated limits q a .number ≢ 19 → interpolated limits q a .areas ≡ a
-  writes-nothing = ended .refused-areas
-
-  -- "19 leaves the work area as elimination stopped"
-  pub stopped : interpolated limits q a .number ≡ 19 → StoppedAreas q a (interpolated limits q a .areas)
-  stopped e =
-      let s = ended .stopped .0 e .1 in
-      let so : interpolated limits q a .areas ≡ withWork a (workAfter q a (s .0)) = ended .stopped-areas (s .0) e (s .1) in
-      record {
-        step = s .0;
-        stops = s .1;
-        work = ap (λ (o : Areas). o .work) so;
-        figures = ap (λ (o : Areas). o .figures) so;
-        variances = ap (λ (o : Areas). o .variances) so;
-      }
-
-  -- "On success the work area holds the finished elimination"
-  pub finished : interpolated limits q a .number ≡ 0 → interpolated limits q a .areas .work ≡ workAfter q a (size q)
-  unfolding answered
-  finished e = ap (λ (o : Areas). o .work) (ended .accepted-areas e)
 
   -- "all past the named lengths is untouched", of every call
   pub untouched : Untouched q a (interpolated limits q a .areas)

@@ -4,19 +4,16 @@ use Rattle.interpolator.specs.Call.{Query, Areas}
 use Rattle.interpolator.specs.Interpolation.{interpolated}
 use Rattle.interpolator.specs.Exit.{Promise}
 use Rattle.interpolator.proofs.Accepted.{accepted}
-use Rattle.interpolator.proofs.Endings.{ended, writes-nothing, stopped, finished, untouched, no-wells}
+use Rattle.interpolator.proofs.Endings.{ended, untouched, no-wells}
 use Rattle.interpolator.proofs.System.{matrix-at}
 use Rattle.interpolator.proofs.SystemKriged.{kriged}
 
 pub promise : (limits : Limits) (q : Query) (a : Areas) → Promise limits q a (interpolated limits q a)
 promise limits q a = record {
   ends = ended limits q a;
-  refused = writes-nothing limits q a;
   targets = λ none. accepted limits q a none .targets;
   matrix = λ none. let k = accepted limits q a none in matrix-at q (k .dimension) a (k .work);
   no-wells = no-wells limits q a;
-  stopped = stopped limits q a;
-  finished = finished limits q a;
   kriged = kriged limits q a;
   untouched = untouched limits q a;
 }

@@ -1,13 +1,14 @@
 -- What each target gets, in the terms of the kriging system, read off the areas of an accepted call at exit. Assumes nothing.
 use Prim.Native.Nat.{ℕ, _+_, _<_}
 use mathlib.Core.Path.{_≡_, ap, subst, sym, _∙_}
-use mathlib.Core.Bool.{true}
+use mathlib.Core.Bool.{true, false}
 use mathlib.Core.List.{List}
 use lib.Ieee.{Float, nan, binary64, mul}
 use Rattle.area.proofs.Start.{from-start}
 use Rattle.ieee.specs.Floats.{notBelowZero}
 use Rattle.ieee.specs.Sums.{runningSum, lessEach}
 use Rattle.ieee.proofs.Sums.{sum-on, less-turn}
+use Rattle.elimination.specs.Elimination.{stepped}
 use Rattle.elimination.specs.Inverse.{inverseAt, timesInverse}
 use Rattle.variogram.specs.Distance.{offered}
 use Rattle.survey.specs.declared.Limits.{Limits}
@@ -15,7 +16,7 @@ use Rattle.interpolator.specs.Call.{Query, Areas, wells, nodeCount, size
 use Rattle.interpolator.specs.Assembly.{rightSide}
 use Rattle.interpolator.specs.Interpolation.{solution, figure, variance, answered, interpolated}
 use Rattle.interpolator.specs.System.{targetPlace, columns, Index, Point, Drift, rightOf, sumOver, estimateOf, varianceOf, rowOf}
-use Rattle.interpolator.specs.Exit.{workAfter, Kriged}
+use Rattle.interpolator.specs.Exit.{assembled, Kriged}
 use Rattle.interpolator.proofs.Accepted.{Accepted, accepted}
 use Rattle.interpolator.proofs.System.{size-is, right-is}
 use Rattle.interpolator.proofs.Endings.{ended}
@@ -65,4 +66,4 @@ kriged limits q a e t h =
     let done = ended limits q a in
     let k = accepted limits q a (done .accepted .0 e .0) in
     subst (λ (o : Areas). Kriged q o t) (sym (done .accepted-areas e))
-    (answered-kriged q (k .dimension) (workAfter q a (size q)) t a k h)
+    (answered-kriged q (k .dimension) (stepped false (size q) (size q) (assembled q a)) t a k h)

@@ -1,7 +1,6 @@
 -- What holds of a call of the interpolator once it ended: its number, and what it left in each of its areas. Assumes nothing.
 use Prim.Native.Nat.{ℕ, _*_, _<_}
 use mathlib.Core.Path.{_≡_}
-use mathlib.Core.Logic.{_≢_}
 use mathlib.Core.Bool.{false}
 use mathlib.Core.List.{List}
 use lib.ListN.{length, getD}
@@ -10,31 +9,19 @@ use Rattle.error.specs.Outcome.{Outcome, outcome}
 use Rattle.error.specs.Rules.{NoneApplies}
 use Rattle.area.specs.Area.{Kept}
 use Rattle.ieee.specs.Floats.{notBelowZero}
-use Rattle.elimination.specs.Elimination.{at, stepped, StopsAt}
+use Rattle.elimination.specs.Elimination.{at}
 use Rattle.elimination.specs.Inverse.{laid, inverseAt}
 use Rattle.elimination.specs.Call.{Ends}
 use Rattle.survey.specs.declared.Limits.{Limits}
 use Rattle.interpolator.specs.Call.{Query, Areas, withWork, wells, nodeCount, size}
 use Rattle.interpolator.specs.Rules.{rules}
 use Rattle.interpolator.specs.Assembly.{entry}
-use Rattle.interpolator.specs.Interpolation.{interpolationCall}
+use Rattle.interpolator.specs.Interpolation.{answered}
 use Rattle.interpolator.specs.System.{targetPlace, Index, Within, coefficientOf, rightOf, sumOver, estimateOf, varianceOf, rowOf}
 
 -- "The matrix beside the identity, s rows of 2s", in the work area that was lent
 abbrev pub assembled : Query → Areas → List Float
 assembled q a = laid (size q) (entry q) (a .work)
-
--- the first i steps done on it: "Its elimination does not skip a zero factor"
-abbrev pub workAfter : Query → Areas → ℕ → List Float
-workAfter q a i = stepped false (size q) i (assembled q a)
-
--- "19 leaves the work area as elimination stopped": before the step whose held magnitude is below 2^-52. There are no figures and no variances
-pub record StoppedAreas (q : Query) (a exit : Areas) : Type 0 where
-  pub step : ℕ
-  pub stops : StopsAt false (size q) step (assembled q a)
-  pub work : exit .work ≡ workAfter q a step
-  pub figures : exit .figures ≡ a .figures
-  pub variances : exit .variances ≡ a .variances
 
 -- "The right half is the inverse": of the work area at exit, in the row of equation u and the column of v
 abbrev pub inverseOf : Query → Areas → Index → Index → Float
@@ -59,10 +46,8 @@ pub record Untouched (q : Query) (a exit : Areas) : Type 0 where
 
 -- all of it, of a call on the areas a that ended as o
 pub record Promise (limits : Limits) (q : Query) (a : Areas) (o : Outcome Areas) : Type 0 where
-  -- each number exactly where its condition holds
-  pub ends : Ends (rules limits q a) (interpolationCall limits q a) o
-  -- "A refusal carries only its number and writes nothing"
-  pub refused : o .number ≢ 0 → o .number ≢ 19 → o .areas ≡ a
+  -- each number exactly where its condition holds, and the areas then: "Its elimination does not skip a zero factor"
+  pub ends : Ends (rules limits q a) false (size q) (assembled q a) a (withWork a) (answered q a) o
   -- m targets of d numbers each, since 2 does not apply: "node list .. not a multiple of d"
   pub targets : NoneApplies (rules limits q a) → length (q .targets) ≡ nodeCount q * q .dimension
   -- a call that is not refused eliminates the kriging system's matrix
@@ -70,11 +55,7 @@ pub record Promise (limits : Limits) (q : Query) (a : Areas) (o : Outcome Areas)
       → at (2 * size q) (assembled q a) (rowOf q u) (rowOf q v) ≡ coefficientOf q u v
   -- "n = 0 gives 19"
   pub no-wells : NoneApplies (rules limits q a) → wells q ≡ 0 → o ≡ outcome 19 (withWork a (assembled q a))
-  -- "a pivot below 2^-52"
-  pub stopped : o .number ≡ 19 → StoppedAreas q a (o .areas)
-  -- "On success the work area holds the finished elimination"
-  pub finished : o .number ≡ 0 → o .areas .work ≡ workAfter q a (size q)
-  -- and every target has its own figure and variance
+  -- every target has its own figure and variance
   pub kriged : o .number ≡ 0 → (t : ℕ) → t < nodeCount q → Kriged q (o .areas) t
   -- however it ended
   pub untouched : Untouched q a (o .areas)
