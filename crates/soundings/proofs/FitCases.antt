@@ -6,35 +6,35 @@ use Rattle.soundings.specs.FitCases.{FitCases, TwoExternals, NoNode, Lin
 
 two-externals : TwoExternals
 unfolding fitted add sub mul div lt le eq ofInt toUnsigned round ofBits toBits
-two-externals = record { accepted = refl; figures = refl; variances = refl; verdicts = refl; weights = refl; coefficients = refl }
+two-externals = refl
 
 no-node : NoNode
 unfolding fitted add sub mul div lt le eq ofInt toUnsigned round ofBits toBits
-no-node = record { accepted = refl; figures = refl; variances = refl; verdicts = refl; weights = refl; coefficients = refl }
+no-node = refl
 
 linear-drift : LinearDrift
 unfolding fitted add sub mul div lt le eq ofInt toUnsigned round ofBits toBits
-linear-drift = record { accepted = refl; figures = refl; variances = refl; verdicts = refl; weights = refl; coefficients = refl }
+linear-drift = refl
 
 row-1-missed : Row1Missed
 unfolding fitted add sub mul div lt le eq ofInt toUnsigned round ofBits toBits
-row-1-missed = record { accepted = refl; figures = refl; variances = refl; verdicts = refl; weights = refl; coefficients = refl }
+row-1-missed = refl
 
 row-1-met : Row1Met
 unfolding fitted add sub mul div lt le eq ofInt toUnsigned round ofBits toBits
-row-1-met = record { accepted = refl; figures = refl; variances = refl; verdicts = refl; weights = refl; coefficients = refl }
+row-1-met = refl
 
 figure-missed : FigureMissed
 unfolding fitted add sub mul div lt le eq ofInt toUnsigned round ofBits toBits
-figure-missed = record { accepted = refl; figures = refl; variances = refl; verdicts = refl; weights = refl; coefficients = refl }
+figure-missed = refl
 
 weight-infinite : WeightInfinite
 unfolding fitted add sub mul div lt le eq ofInt toUnsigned round ofBits toBits
-weight-infinite = record { accepted = refl; figures = refl; variances = refl; verdicts = refl; weights = refl; coefficients = refl }
+weight-infinite = refl
 
 figure-infinite : FigureInfinite
 unfolding fitted add sub mul div lt le eq ofInt toUnsigned round ofBits toBits
-figure-infinite = record { accepted = refl; figures = refl; variances = refl; verdicts = refl; weights = refl; coefficients = refl }
+figure-infinite = refl
 
 pub fit-cases : FitCases
 fit-cases = record { two-externals = two-externals; no-node = no-node; linear-drift = linear-drift; row-1-missed = row-1-missed; row-1-met = row-1-met; figure-missed = figure-missed; weight-infinite = weight-infinite; figure-infinite = figure-infinite }

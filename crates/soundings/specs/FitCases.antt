@@ -3,12 +3,12 @@
 use Prim.Native.Nat.{ℕ, _*_}
 use mathlib.Core.Path.{_≡_}
 use mathlib.Core.List.{List, [], _∷_, map}
-use lib.ListN.{length, replicate}
+use lib.ListN.{replicate}
 use lib.Ieee.{Float, nan, binary64, ofBits}
 use Rattle.ieee.specs.Floats.{zeroFloat}
 use Rattle.variogram.specs.Model.{variogram}
 use Rattle.variogram.specs.declared.VariogramModel.the-variants.{Spherical}
-use Rattle.error.specs.Outcome.{Outcome}
+use Rattle.error.specs.Outcome.{Outcome, outcome}
 use Rattle.survey.specs.Limits.{base}
 use Rattle.survey.specs.Survey.{Survey, wells, nodeCount, columns, size}
 use Rattle.kriging.specs.Areas.{Areas}
@@ -35,14 +35,24 @@ areasOf s = record {
 abbrev pub answerOf : Survey → Outcome Areas
 answerOf s = fitted base s (areasOf s)
 
--- an accepted fit's answer, whole
-pub record Answers (s : Survey) (gs vs : List ℕ) (codes : List ℕ) (ws cs : List ℕ) : Type 0 where
-  pub accepted : answerOf s .number ≡ 0
-  pub figures : answerOf s .areas .predicted ≡ fs gs
-  pub variances : answerOf s .areas .variance ≡ fs vs
-  pub verdicts : answerOf s .areas .verdicts ≡ codes
-  pub weights : answerOf s .areas .weights ≡ fs ws
-  pub coefficients : answerOf s .areas .coefficients ≡ fs cs
+-- what is looked at: the number, figures, variances, verdicts, weights and coefficients
+abbrev pub answer : ℕ → List Float → List Float → List ℕ → List Float → List Float → Outcome Areas
+answer number figures variances verdicts weights coefficients = outcome number (record {
+  work = [];
+  predicted = figures;
+  variance = variances;
+  verdicts = verdicts;
+  weights = weights;
+  coefficients = coefficients;
+})
+
+abbrev pub seen : Outcome Areas → Outcome Areas
+seen o = answer (o .number) (o .areas .predicted) (o .areas .variance) (o .areas .verdicts) (o .areas .weights) (o .areas .coefficients)
+
+-- a survey is accepted, and has this answer
+abbrev pub Answers : Survey → List ℕ → List ℕ → List ℕ → List ℕ → List ℕ → Type 0
+Answers s figures variances verdicts weights coefficients =
+    seen (answerOf s) ≡ answer 0 (fs figures) (fs variances) verdicts (fs weights) (fs coefficients)
 
 -- ---- three wells, at (1, 2), (4, 6), (4, 2), values 2, 5, 3.5; Spherical 0.25, 1.25, 8, r = 0.125, t = 2^-53
 abbrev pub threeWells : List ℕ → List ℕ → List ℕ → List ℕ → Survey

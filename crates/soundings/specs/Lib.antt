@@ -1,2 +1,3 @@
 pub mod Soundings
 pub mod FitCases
+pub mod InterpolationCases
