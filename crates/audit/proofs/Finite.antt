@@ -7,7 +7,7 @@ use lib.Ieee.{Float}
 use lib.Ieee.Scale.{finite}
 use Rattle.error.specs.Tests.{all}
 use Rattle.error.proofs.Tells.{Tells, told-as, opposite, both, not-both, each, one-fails, passes}
-use Rattle.audit.specs.Audit.{Weighed, Audited, driftFinite, columnsFinite}
+use Rattle.audit.specs.Audit.{Weighed, Audited, driftFinite, finiteGiven, columnsFinite}
 use Rattle.audit.specs.Trend.{AllFinite, SomeNotFinite, aWeight, anEntry, aNodeEntry, theFigure}
 
 -- every number below k has a finite f, and one of them has not
@@ -44,7 +44,7 @@ module _ (a : Audited) where
   everything = columnsFinite (a .weighed) && finite (a .figure)
 
   pub finite-told : Tells everything (AllFinite a)
-  unfolding columnsFinite
+  unfolding columnsFinite finiteGiven
   finite-told =
       told-as
       (both (both (both (each-finite (a .weighed .n) (a .weighed .weight)) (drift-told (a .weighed .n) (a .weighed .p) (a .weighed .drift)))
@@ -58,7 +58,7 @@ module _ (a : Audited) where
       ⊎ One (a .weighed .p) (a .weighed .nodeDrift)) ⊎ (¬ T (finite (a .figure)))
 
   pub not-finite-told : Tells (not everything) (SomeNotFinite a)
-  unfolding columnsFinite
+  unfolding columnsFinite finiteGiven
   not-finite-told =
       let w = a .weighed in
       let x : Bool = all (w .n) (λ i. finite (w .weight i)) in

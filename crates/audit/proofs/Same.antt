@@ -10,7 +10,7 @@ use lib.Ieee.Scale.{finite}
 use Rattle.error.proofs.Tells.{same-all}
 use Rattle.exact.specs.Units.{units}
 use Rattle.exact.proofs.Sums.{sumℤ-same}
-use Rattle.audit.specs.Audit.{Weighed, Audited, weighted, within, firstMissed, driftFinite, columnsFinite, columnMet, columnVerdict, figureMet, verdictWith, verdictOf}
+use Rattle.audit.specs.Audit.{Weighed, Audited, weighted, within, firstMissed, driftFinite, finiteGiven, columnsFinite, columnMet, columnVerdictGiven, columnVerdict, figureMet, verdictWith, verdictOf}
 
 same-missed : (k j : ℕ) (f g : ℕ → Bool) → ((i : ℕ) → j ≤ i → i < j + k → f i ≡ g i) → firstMissed k j f ≡ firstMissed k j g
 unfolding firstMissed
@@ -51,7 +51,7 @@ module _ {v w : Weighed} (h : SameWeighed v w) where
       ap₂ (λ (t : Float) (z : ℤ). within t z c) (h .tolerance) (same-weighted x y g) ∙ ap (within (w .tolerance) (weighted w y)) e
 
   same-finite : columnsFinite v ≡ columnsFinite w
-  unfolding columnsFinite
+  unfolding columnsFinite finiteGiven
   same-finite =
       ap columnsFinite counts
       ∙ ap₂ (λ (b c : Bool). b && c)
@@ -67,7 +67,7 @@ module _ {v w : Weighed} (h : SameWeighed v w) where
       (λ i b. h .drift i (j - 1) b (omega arith)) (h .nodeDrift (j - 1) (omega arith))
 
   pub same-columns : columnVerdict v ≡ columnVerdict w
-  unfolding columnVerdict
+  unfolding columnVerdict columnVerdictGiven columnsFinite
   same-columns =
       ap₂ (λ (b : Bool) (k : ℕ). cond b k 255) same-finite
       (same-missed (v .p) 1 (columnMet v) (columnMet w) same-met ∙ ap (λ (k : ℕ). firstMissed k 1 (columnMet w)) (h .p))

@@ -9,7 +9,7 @@ use lib.Dec.{T, eqb}
 use lib.Ieee.Scale.{finite}
 use Rattle.error.proofs.Tells.{Tells}
 use Rattle.exact.specs.Units.{units}
-use Rattle.audit.specs.Audit.{Weighed, Audited, unit, columnsFinite, columnMet, firstMissed, columnVerdict, figureMet, verdictWith, verdictOf}
+use Rattle.audit.specs.Audit.{Weighed, Audited, unit, columnsFinite, columnMet, firstMissed, columnVerdictGiven, columnVerdict, figureMet, verdictWith, verdictOf}
 use Rattle.audit.specs.Trend.{AllFinite, SomeNotFinite, Close, Met, MetBefore, Verdict, TrendBound}
 use Rattle.audit.proofs.Finite.{finite-told, not-finite-told, finite-clash}
 use Rattle.audit.proofs.Rows.{First, none, one, first-missed, column-told, figure-told}
@@ -57,7 +57,7 @@ module _ (a : Audited) where
           subst (Way a) e (miss f (omega arith) (omega arith) (λ j l m. before j l (omega arith)) (λ m. t .back (m .figure refl)))
 
   way : Way a (verdictOf a)
-  unfolding verdictOf verdictWith columnVerdict
+  unfolding verdictOf verdictWith columnVerdict columnVerdictGiven columnsFinite
   way = by (columnsFinite (a .weighed)) (finite (a .figure)) (finite-told a) (not-finite-told a)
     where
       rows : ℕ

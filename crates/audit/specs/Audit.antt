@@ -52,21 +52,29 @@ unfoldable pub driftFinite : ℕ → ℕ → (ℕ → ℕ → Float) → Bool
 unfolding all
 driftFinite n p drift = all n (λ i. all p (λ j. finite (drift i j)))
 
--- no "weight, .. F entry, .. f0 entry .. is not finite"
+-- no "weight, .. F entry, .. f0 entry .. is not finite", where `columns` says it of F
+unfoldable pub finiteGiven : Bool → Weighed → Bool
+unfolding all
+finiteGiven columns w = all (w .n) (λ i. finite (w .weight i)) && columns && all (w .p) (λ j. finite (w .nodeDrift j))
+
 unfoldable pub columnsFinite : Weighed → Bool
-unfolding all driftFinite
-columnsFinite w =
-    all (w .n) (λ i. finite (w .weight i)) && driftFinite (w .n) (w .p) (w .drift) && all (w .p) (λ j. finite (w .nodeDrift j))
+unfolding finiteGiven driftFinite
+columnsFinite w = finiteGiven (driftFinite (w .n) (w .p) (w .drift)) w
 
 -- "Row j of 1..p: |Σ z_i·F_ij − f0_j| ≤ t·(1 + |f0_j|)": column j - 1
 unfoldable pub columnMet : Weighed → ℕ → Bool
 unfolding weighted within
 columnMet w j = within (w .tolerance) (weighted w (λ i. w .drift i (j - 1))) (w .nodeDrift (j - 1))
 
--- 255 where a weight, an F entry or an f0 entry is not finite; else the first row of 1..p missed; else 0
+-- 255 where a weight, an F entry or an f0 entry is not finite; else the first row of 1..p missed; else 0: where `columns` says that F is finite
+unfoldable pub columnVerdictGiven : Bool → Weighed → ℕ
+unfolding finiteGiven columnMet firstMissed
+columnVerdictGiven columns w = cond (finiteGiven columns w) (firstMissed (w .p) 1 (columnMet w)) 255
+
+-- and where F itself is looked at
 unfoldable pub columnVerdict : Weighed → ℕ
-unfolding columnsFinite columnMet firstMissed
-columnVerdict w = cond (columnsFinite w) (firstMissed (w .p) 1 (columnMet w)) 255
+unfolding driftFinite columnVerdictGiven
+columnVerdict w = columnVerdictGiven (driftFinite (w .n) (w .p) (w .drift)) w
 
 -- ---- with the values
 
