@@ -1,18 +1,24 @@
--- Sounding G, and a case in the plane whose numbers were worked out outside these definitions. Assumes nothing.
-use Prim.Native.Nat.{ℕ}
+-- The limit of the base, sounding G, and a case in the plane whose numbers were worked out outside these definitions. Assumes nothing.
+use Prim.Native.Nat.{ℕ, _<_}
 use mathlib.Core.Path.{_≡_, refl}
+use mathlib.Core.Logic.{_↔_}
 use mathlib.Core.List.{[], _∷_}
 use lib.Ieee.{Float, binary64, ofBits, add, sub, mul, div, lt, eq, ofInt, toUnsigned, round}
 use Rattle.ieee.specs.Floats.{zeroFloat, oneFloat}
 use Rattle.survey.specs.Limits.{base}
 use Rattle.semivariogram.specs.Pairs.{pair}
-use Rattle.semivariogram.specs.Call.{Samples, Areas}
+use Rattle.semivariogram.specs.Call.{Samples, Areas, samples}
+use Rattle.semivariogram.specs.Rules.{TooMany}
 use Rattle.semivariogram.specs.Bins.{binOf, average, centre}
 use Rattle.semivariogram.specs.Semivariogram.{calculated}
 
 -- the f64 of a bit pattern
 abbrev f : ℕ → Float
 f = ofBits binary64
+
+-- "9 n > 48": the limit of the base
+pub samples-limit : (q : Samples) → TooMany base q ↔ (48 < samples q)
+samples-limit q = (λ h. h, λ h. h)
 
 -- "bins 2, d = 1, samples 0, 1, 2 with values 0, 2, 4"
 abbrev pub samples-G : Samples
