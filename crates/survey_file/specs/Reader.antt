@@ -46,6 +46,7 @@ surveyFrom model n m k xs codes =
       tolerance = getD xs 4 nan;
     }
 
+-- "A free note, then the body from byte S": the survey of bytes by their own account
 unfoldable pub surveyIn : List ℕ → Survey
 unfolding numberIn f64sIn
 surveyIn bytes =
@@ -58,6 +59,7 @@ abbrev pub unlessMalformed : Bool → List ℕ → Option Survey
 unlessMalformed true bytes = none
 unlessMalformed false bytes = some (surveyIn bytes)
 
+-- what files of a version say
 unfoldable pub readBytes : ℕ → List ℕ → Option Survey
 unfolding surveyIn
 readBytes version bytes = unlessMalformed (malformed version bytes) bytes
