@@ -24,3 +24,4 @@ pub mod RoundingUnique
 pub mod FiniteLists
 pub mod Sums
 pub mod Signs
+pub mod Bytes

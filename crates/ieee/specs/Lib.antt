@@ -6,3 +6,4 @@ pub mod Whole
 pub mod Ieee754
 pub mod Sums
 pub mod Finite
+pub mod Bytes

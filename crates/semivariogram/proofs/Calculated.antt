@@ -1,100 +1,49 @@
--- What the semivariogram's call leaves in its areas. Theorem 6: the counts written add up to n(n−1)/2; each kept bin is written at its rank with its
--- centre, its average over the pairs whose bin it is, and their number; and nothing else is written. A refusal writes nothing. Assumes nothing.
-use Prim.Native.Nat.{ℕ, zero, suc, _+_, _-_, _*_, _/_, _≤_, _<_}
+-- How the semivariogram's call ends: each number exactly when; a refusal writes nothing; and of an accepted call the counts written add up to n(n−1)/2, each
+-- kept bin is written at its rank with its centre, its average over the pairs whose bin it is, and their number, and nothing else is written. Assumes nothing.
+use Prim.Native.Nat.{ℕ, zero, suc, _-_, _*_, _/_, _≤_, _<_}
 use native.Mathlib.Nat.{zero-add, sub-zero}
 use native.Mathlib.Omega.{arith}
 use mathlib.Core.Path.{_≡_, refl, ap, sym, subst, _∙_}
-use mathlib.Core.Logic.{_↔_}
+use mathlib.Core.Logic.{_≢_, _↔_}
 use mathlib.Core.List.{List}
 use lib.ListN.{length, getD, take}
-use lib.Ieee.{nan}
+use lib.Ieee.{nan, binary64, add, mul, div}
 use borrow.Author.Tests.{lt-ltb, ltb-true}
 use Rattle.area.specs.Area.{written, Kept}
-use Rattle.area.proofs.Places.{at-place}
-use Rattle.area.proofs.Kept.{kept-written}
+use Rattle.area.proofs.Start.{from-start, kept-start, take-mapped}
+use Rattle.error.specs.Rules.{Ruled, NoneApplies}
+use Rattle.error.proofs.Rules.{ruled-exactly}
+use Rattle.survey.specs.declared.Limits.{Limits}
 use Rattle.semivariogram.specs.Pairs.{rising, filtered}
 use Rattle.semivariogram.specs.Call.{Samples, Areas, Outcome, samples}
+use Rattle.semivariogram.specs.Rules.{rules}
 use Rattle.semivariogram.specs.Refusals.{refusal}
-use Rattle.semivariogram.specs.Conditions.{Ruling}
-use Rattle.semivariogram.specs.Semivariogram.{count, average, centre, keptBins, filled, judged, calculated}
-use Rattle.semivariogram.specs.Binned.{pairsIn, total, isKept, rank, Row, KeptAt, Binned}
-use Rattle.semivariogram.proofs.Lists.{length-rising, filtered-length, Ranked, at-rank, from-rank, take-filled}
+use Rattle.semivariogram.specs.Bins.{asFloat, half, longest, width, count, average, centre, keptBins, filled}
+use Rattle.semivariogram.specs.Semivariogram.{callWhere, calculated}
+use Rattle.semivariogram.specs.Binned.{pairsIn, total, isKept, rank, Row, KeptAt, Binned, Ends}
+use Rattle.semivariogram.proofs.Lists.{length-rising, filtered-length, Ranked, at-rank, from-rank}
 use Rattle.semivariogram.proofs.Bins.{count-is, average-is, kept-bins, kept-counts}
-use Rattle.semivariogram.proofs.Ruling.{ruling-exactly}
-use Rattle.semivariogram.proofs.Accepted.{Accepted, accepted}
+use Rattle.semivariogram.proofs.Told.{told}
+use Rattle.semivariogram.proofs.Accepted.{Accepted, accepted, accepted-exactly}
+use Rattle.semivariogram.proofs.Farthest.{farthest}
+use Rattle.semivariogram.proofs.BinOf.{bin-of}
 
--- ---- how the call ends
-pub is-filled : (q : Samples) (a : Areas) → refusal q a ≡ 0 → calculated q a ≡ record { number = 0; kept = length (keptBins q); areas = filled q a }
-unfolding calculated judged
-is-filled q a h = ap (λ (n : ℕ). judged n q a) h
-
--- "A refusal carries only its number and writes nothing"
-pub refusal-writes-nothing : (q : Samples) (a : Areas) (r : ℕ) → refusal q a ≡ suc r → calculated q a ≡ record { number = suc r; kept = 0; areas = a }
-unfolding calculated judged
-refusal-writes-nothing q a r h = ap (λ (n : ℕ). judged n q a) h
-
--- the number answered is the refusal's
-pub number-is : (q : Samples) (a : Areas) → calculated q a .number ≡ refusal q a
-unfolding calculated judged
-number-is q a = go (refusal q a)
-  where
-    go : (n : ℕ) → judged n q a .number ≡ n
-    go zero = refl
-    go (suc r) = refl
-
--- and the ruling's alone
-pub number-exactly : (q : Samples) (a : Areas) (n : ℕ) → (calculated q a .number ≡ n) ↔ Ruling q a n
-number-exactly q a n = (λ e. ruling-exactly q a n .0 (sym (number-is q a) ∙ e), λ r. number-is q a ∙ ruling-exactly q a n .1 r)
-
+-- ---- the kept bins
 fewer : (q : Samples) → length (keptBins q) ≤ q .bins
 fewer q = omega (arith, ap length (kept-bins q), filtered-length (isKept q) (rising 0 (q .bins)), length-rising 0 (q .bins))
 
--- ---- theorem 6, part by part
-counts-add-up : (q : Samples) (a : Areas) → refusal q a ≡ 0 → total (take (calculated q a .kept) (calculated q a .areas .counts)) ≡ samples q * (samples q - 1) / 2
-unfolding filled
-counts-add-up q a h =
-    let k : Accepted q a = accepted q a h in
-    let few : length (keptBins q) ≤ q .bins = fewer q in
-    ap (λ (o : Outcome). total (take (o .kept) (o .areas .counts))) (is-filled q a h)
-    ∙ ap total (take-filled (count q) (keptBins q) (a .counts) (omega arith))
-    ∙ kept-counts q (k .bins .0)
-
-at-row : {A : Type 0} (g : ℕ → A) (ks : List ℕ) (xs : List A) (d : A) (r b : ℕ) → length ks ≤ length xs → r < length ks → getD ks r 0 ≡ b
-    → getD (written 0 (length ks) (λ r. g (getD ks r 0)) xs) r d ≡ g b
-at-row {A} g ks xs d r b l h e =
-    let f : ℕ → A = λ r. g (getD ks r 0) in
-    ap (λ (p : ℕ). getD (written 0 (length ks) f xs) p d) (sym (zero-add r))
-    ∙ at-place 0 (length ks) f xs r d (omega arith) h
-    ∙ ap g e
-
-filled-row : (q : Samples) (a : Areas) → Accepted q a → (r b : ℕ) → r < length (keptBins q) → getD (keptBins q) r 0 ≡ b → Row q (filled q a) r b
-unfolding filled
-filled-row q a k r b h e =
-    let few : length (keptBins q) ≤ q .bins = fewer q in
-    record {
-      distance = at-row (centre q) (keptBins q) (a .distances) nan r b (omega arith) h e;
-      semivariance = at-row (average q) (keptBins q) (a .semivariances) nan r b (omega arith) h e ∙ average-is q b;
-      count = at-row (count q) (keptBins q) (a .counts) 0 r b (omega arith) h e ∙ count-is q b;
-    }
-
+-- a kept bin stands at its rank
 kept-rank : (q : Samples) (b : ℕ) → b < q .bins → 0 < length (pairsIn q b) → (getD (keptBins q) (rank q b) 0 ≡ b) × (rank q b < length (keptBins q))
 kept-rank q b l m =
     subst (λ (ks : List ℕ). (getD ks (rank q b) 0 ≡ b) × (rank q b < length ks)) (sym (kept-bins q))
     (at-rank (isKept q) b (q .bins) l (lt-ltb 0 (length (pairsIn q b)) m))
 
-kept-bin : (q : Samples) (a : Areas) → refusal q a ≡ 0 → (b : ℕ) → b < q .bins → 0 < length (pairsIn q b)
-    → (rank q b < calculated q a .kept) × Row q (calculated q a .areas) (rank q b) b
-kept-bin q a h b l m =
-    let r = kept-rank q b l m in
-    subst (λ (o : Outcome). (rank q b < o .kept) × Row q (o .areas) (rank q b) b) (sym (is-filled q a h))
-    (r .1, filled-row q a (accepted q a h) (rank q b) b (r .1) (r .0))
-
-kept-place : (q : Samples) (a : Areas) → refusal q a ≡ 0 → (r : ℕ) → r < calculated q a .kept → (b : ℕ) × KeptAt q r b
-kept-place q a h r l =
+-- each place is a kept bin's
+kept-place : (q : Samples) (r : ℕ) → r < length (keptBins q) → (b : ℕ) × KeptAt q r b
+kept-place q r l =
     let ks : List ℕ = filtered (isKept q) (rising 0 (q .bins)) in
     let b : ℕ = getD ks r 0 in
-    let below : r < length ks = subst (λ (n : ℕ). r < n) (ap (λ (o : Outcome). o .kept) (is-filled q a h) ∙ ap length (kept-bins q)) l in
-    let k : Ranked (isKept q) 0 (q .bins) b r = from-rank (isKept q) 0 (q .bins) r below in (
+    let k : Ranked (isKept q) 0 (q .bins) b r = from-rank (isKept q) 0 (q .bins) r (subst (λ (n : ℕ). r < n) (ap length (kept-bins q)) l) in (
       b,
       record {
         bin = subst (λ (n : ℕ). b < n) (zero-add (q .bins)) (k .most);
@@ -106,34 +55,85 @@ kept-place q a h r l =
 ranks-rise : (q : Samples) (b c : ℕ) → b < c → 0 < length (pairsIn q b) → rank q b < rank q c
 ranks-rise q b c h m = at-rank (isKept q) b c h (lt-ltb 0 (length (pairsIn q b)) m) .1
 
-kept-filled : (q : Samples) (a : Areas)
-    → Kept (length (keptBins q)) (a .distances) (filled q a .distances)
-    × Kept (length (keptBins q)) (a .semivariances) (filled q a .semivariances)
-    × Kept (length (keptBins q)) (a .counts) (filled q a .counts)
+-- ---- what is written
+-- "(i + 0.5)·width", with the width written out
+centre-is : (q : Samples) (b : ℕ) → centre q b ≡ mul binary64 (add binary64 (asFloat b) half) (div binary64 (longest q) (asFloat (q .bins)))
+unfolding centre width
+centre-is q b = refl
+
+at-row : {A : Type 0} (g : ℕ → A) (ks : List ℕ) (xs : List A) (d : A) (r b : ℕ) → length ks ≤ length xs → r < length ks → getD ks r 0 ≡ b
+    → getD (written 0 (length ks) (λ r. g (getD ks r 0)) xs) r d ≡ g b
+at-row g ks xs d r b l h e = from-start (length ks) (λ r. g (getD ks r 0)) xs r d l h ∙ ap g e
+
+filled-row : (q : Samples) (a : Areas) → Accepted q a → (r b : ℕ) → r < length (keptBins q) → getD (keptBins q) r 0 ≡ b → Row q (filled q a) r b
 unfolding filled
-kept-filled q a =
-    let k : ℕ = length (keptBins q) in
-    let e : 0 + k ≤ k = omega arith in
-    (kept-written k 0 k _ (a .distances) e, kept-written k 0 k _ (a .semivariances) e, kept-written k 0 k _ (a .counts) e)
-
-only-kept : (q : Samples) (a : Areas) → refusal q a ≡ 0
-    → Kept (calculated q a .kept) (a .distances) (calculated q a .areas .distances)
-    × Kept (calculated q a .kept) (a .semivariances) (calculated q a .areas .semivariances)
-    × Kept (calculated q a .kept) (a .counts) (calculated q a .areas .counts)
-only-kept q a h =
-    subst (λ (o : Outcome). Kept (o .kept) (a .distances) (o .areas .distances) × Kept (o .kept) (a .semivariances) (o .areas .semivariances)
-    × Kept (o .kept) (a .counts) (o .areas .counts)) (sym (is-filled q a h)) (kept-filled q a)
-
--- theorem 6: of every accepted call
-pub binned : (q : Samples) (a : Areas) → refusal q a ≡ 0 → Binned q a (calculated q a)
-binned q a h =
-    let k = only-kept q a h in
+filled-row q a k r b h e =
+    let few : length (keptBins q) ≤ q .bins = fewer q in
     record {
-      counts = counts-add-up q a h;
-      rows = kept-bin q a h;
-      places = kept-place q a h;
+      distance = at-row (centre q) (keptBins q) (a .distances) nan r b (omega arith) h e ∙ centre-is q b;
+      semivariance = at-row (average q) (keptBins q) (a .semivariances) nan r b (omega arith) h e ∙ average-is q b;
+      count = at-row (count q) (keptBins q) (a .counts) 0 r b (omega arith) h e ∙ count-is q b;
+    }
+
+abbrev done : Samples → Areas → Outcome
+done q a = record { number = 0; kept = length (keptBins q); areas = filled q a }
+
+binned : (q : Samples) (a : Areas) → Accepted q a → Binned q a (done q a)
+unfolding filled
+binned q a k =
+    let few : length (keptBins q) ≤ q .bins = fewer q in
+    let n : ℕ = length (keptBins q) in
+    record {
+      greatest = farthest q a k;
+      bins = bin-of q a k;
+      counts = ap total (take-mapped (count q) (keptBins q) (a .counts) (omega arith)) ∙ kept-counts q (k .bins .0);
+      rows = λ b l m. let r = kept-rank q b l m in (r .1, filled-row q a k (rank q b) b (r .1) (r .0));
+      places = kept-place q;
       rising = ranks-rise q;
-      distances = k .0;
-      semivariances = k .1;
-      others = k .2;
+      distances = kept-start n (λ r. centre q (getD (keptBins q) r 0)) (a .distances);
+      semivariances = kept-start n (λ r. average q (getD (keptBins q) r 0)) (a .semivariances);
+      others = kept-start n (λ r. count q (getD (keptBins q) r 0)) (a .counts);
+    }
+
+-- ---- the call
+-- the number answered is the refusal's
+number-is : (limits : Limits) (q : Samples) (a : Areas) → calculated limits q a .number ≡ refusal limits q a
+unfolding calculated callWhere
+number-is limits q a = go (refusal limits q a)
+  where
+    go : (n : ℕ) → callWhere n q a .number ≡ n
+    go zero = refl
+    go (suc k) = refl
+
+pub is-done : (limits : Limits) (q : Samples) (a : Areas) → refusal limits q a ≡ 0 → calculated limits q a ≡ done q a
+unfolding calculated callWhere
+is-done limits q a h = ap (λ (n : ℕ). callWhere n q a) h
+
+-- "A refusal carries only its number and writes nothing"
+refused : (limits : Limits) (q : Samples) (a : Areas) → calculated limits q a .number ≢ 0
+    → (calculated limits q a .kept ≡ 0) × (calculated limits q a .areas ≡ a)
+unfolding calculated callWhere
+refused limits q a h = go (refusal limits q a) h
+  where
+    go : (n : ℕ) → callWhere n q a .number ≢ 0 → (callWhere n q a .kept ≡ 0) × (callWhere n q a .areas ≡ a)
+    go zero h = absurd (h refl)
+    go (suc k) h = (refl, refl)
+
+ruled : (limits : Limits) (q : Samples) (a : Areas) (k : ℕ) → (calculated limits q a .number ≡ k) ↔ Ruled (rules limits q a) k
+unfolding refusal
+ruled limits q a k =
+    let r = ruled-exactly (told limits q a) k in
+    (λ e. r .0 (sym (number-is limits q a) ∙ e), λ x. number-is limits q a ∙ r .1 x)
+
+pub ends : (limits : Limits) (q : Samples) (a : Areas) → Ends limits q a (calculated limits q a)
+ends limits q a =
+    let is : calculated limits q a .number ≡ refusal limits q a = number-is limits q a in
+    let none = accepted-exactly limits q a in
+    record {
+      ruled = ruled limits q a;
+      accepted = (λ e. none .0 (sym is ∙ e), λ x. is ∙ none .1 x);
+      refused = refused limits q a;
+      binned = λ e.
+          let h : refusal limits q a ≡ 0 = sym is ∙ e in
+          subst (Binned q a) (sym (is-done limits q a h)) (binned q a (accepted limits q a h));
     }

@@ -10,8 +10,8 @@ use lib.Ieee.Fits.{down-pos}
 use lib.Ieee.Positive.{through}
 use borrow.Author.Tests.{ltb-true, ltb-false, le-ltb}
 use Rattle.ieee.specs.Floats.{maxOf}
-use Rattle.semivariogram.specs.Semivariogram.{greatest}
-use Rattle.semivariogram.proofs.Signs.{Signed, infinite, number}
+use Rattle.ieee.proofs.Signs.{Signed, infinite, number}
+use Rattle.semivariogram.specs.Bins.{greatest}
 
 -- ---- the order of such numbers
 not-below-self : (x : Float) → Signed false x → lt x x ≡ false
@@ -63,7 +63,7 @@ max-second h m p q = go (lt m h) refl
     go false e = not-below-self m q
 
 -- ---- the greatest of a list
-greatest-clear : (m : Float) (hs : List Float) → Signed false m → ((h : Float) → List·Memᴰ h hs → Signed false h) → Signed false (greatest m hs)
+pub greatest-clear : (m : Float) (hs : List Float) → Signed false m → ((h : Float) → List·Memᴰ h hs → Signed false h) → Signed false (greatest m hs)
 unfolding greatest
 greatest-clear m [] q f = q
 greatest-clear m (h ∷ hs) q f = greatest-clear (maxOf h m) hs (max-clear h m (f h (List·Memᴰ·head refl)) q) (λ x i. f x (List·Memᴰ·tail i))
@@ -90,7 +90,8 @@ none-greater m (h ∷ hs) q f x i =
     not-below-trans (greatest (maxOf h m) hs) (maxOf h m) h (greatest-clear (maxOf h m) hs n g) n p (greatest-first (maxOf h m) hs n g) (max-first h m p q) in
     go at-head (none-greater (maxOf h m) hs n g x) (List·Memᴰ·cases-cons i)
   where
-    go : lt (greatest (maxOf h m) hs) h ≡ false → (List·Memᴰ x hs → lt (greatest (maxOf h m) hs) x ≡ false) → (x ≡ h) ⊎ List·Memᴰ x hs → lt (greatest (maxOf h m) hs) x ≡ false
+    go : lt (greatest (maxOf h m) hs) h ≡ false → (List·Memᴰ x hs → lt (greatest (maxOf h m) hs) x ≡ false) → (x ≡ h) ⊎ List·Memᴰ x hs
+        → lt (greatest (maxOf h m) hs) x ≡ false
     go a r (inl e) = ap (λ (y : Float). lt (greatest (maxOf h m) hs) y) e ∙ a
     go a r (inr j) = r j
 

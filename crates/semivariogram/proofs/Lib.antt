@@ -1,10 +1,10 @@
 pub mod Lists
 pub mod Pairs
 pub mod Bins
-pub mod Ruling
+pub mod Told
 pub mod Accepted
-pub mod Calculated
-pub mod Signs
 pub mod Greatest
 pub mod Farthest
+pub mod BinOf
+pub mod Calculated
 pub mod Sounding

@@ -7,12 +7,9 @@ use mathlib.Core.Path.{_≡_, refl, ap, sym, _∙_}
 use mathlib.Core.Bool.{Bool, true, false, cond}
 use mathlib.Core.List.{List, [], _∷_, _++_, map}
 use lib.Dec.{eqb, ltb}
-use lib.ListN.{length, getD, take, length-append, length-map, List·getD-map}
-use lib.Seq.{getD-append-seam, getD-take, ext-getD, length-take-le}
+use lib.ListN.{length, getD, length-append}
+use lib.Seq.{getD-append-seam}
 use borrow.Author.Tests.{eq-eqb, ne-eqb, ltb-false}
-use Rattle.area.specs.Area.{written}
-use Rattle.area.proofs.Turns.{length-written}
-use Rattle.area.proofs.Places.{at-place}
 use Rattle.semivariogram.specs.Pairs.{rising, filtered}
 use Rattle.semivariogram.specs.Binned.{total}
 
@@ -87,7 +84,8 @@ module _ (keep : ℕ → Bool) where
       )
 
   rank-step : (start b : ℕ) → suc start ≤ b
-      → rankFrom keep start b ≡ length (cond (keep start) (start ∷ filtered keep (rising (suc start) (b - suc start))) (filtered keep (rising (suc start) (b - suc start))))
+      → let later = filtered keep (rising (suc start) (b - suc start)) in
+      rankFrom keep start b ≡ length (cond (keep start) (start ∷ later) later)
   unfolding filtered rising
   rank-step start b h =
       let e : b - start ≡ suc (b - suc start) = omega arith in
@@ -162,19 +160,3 @@ total-above-zero f (x ∷ xs) = go (ltb 0 (f x)) refl (total-above-zero f xs)
         → total (map f (cond b (x ∷ filtered (λ b. ltb 0 (f b)) xs) (filtered (λ b. ltb 0 (f b)) xs))) ≡ f x + total (map f xs)
     go true t e = ap (λ (n : ℕ). f x + n) e
     go false t e = omega (arith, ltb-false 0 (f x) t)
-
--- ---- a fill by a list: what is written is the list
-pub take-filled : {A : Type 0} (f : ℕ → A) (ks : List ℕ) (xs : List A) → length ks ≤ length xs
-    → take (length ks) (written 0 (length ks) (λ r. f (getD ks r 0)) xs) ≡ map f ks
-take-filled {A} f ks xs h =
-    let g : ℕ → A = λ r. f (getD ks r 0) in
-    let n : ℕ = length ks in
-    let ws : List A = written 0 n g xs in
-    let l : length (take n ws) ≡ n = length-take-le n ws (omega (arith, length-written 0 n g xs)) in
-    ext-getD (f 0) (take n ws) (map f ks) (l ∙ sym (length-map ks f))
-    (λ i b.
-    let j : i < n = omega arith in
-    getD-take n ws i (f 0) j
-    ∙ ap (λ (p : ℕ). getD ws p (f 0)) (sym (zero-add i))
-    ∙ at-place 0 n g xs i (f 0) (omega arith) j
-    ∙ sym (List·getD-map f ks i 0))

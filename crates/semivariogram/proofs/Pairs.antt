@@ -5,7 +5,8 @@ use native.Mathlib.Decide.{decLt}
 use native.Mathlib.Omega.{arith}
 use mathlib.Core.Path.{_≡_, refl, ap, subst}
 use mathlib.Core.Logic.{_↔_, _⊎_, inl, inr}
-use mathlib.Core.List.{List, map, List·Memᴰ, List·Memᴰ·head, List·Memᴰ·tail, List·Memᴰ·not-nil, List·Memᴰ·cases-cons, List·Memᴰ·append-cases, Memᴰ·cast, Memᴰ·append-left, Memᴰ·append-right, Memᴰ·map, Memᴰ·of-map}
+use mathlib.Core.List.{List, [], _∷_, map, List·Memᴰ, List·Memᴰ·head, List·Memᴰ·tail, List·Memᴰ·not-nil, List·Memᴰ·cases-cons, List·Memᴰ·append-cases}
+use mathlib.Core.List.{Memᴰ·cast, Memᴰ·append-left, Memᴰ·append-right, Memᴰ·map, Memᴰ·of-map}
 use lib.ListN.{length, length-append, length-map}
 use Rattle.semivariogram.specs.Pairs.{Pair, pair, rising, pairsFrom, pairs}
 use Rattle.semivariogram.proofs.Lists.{length-rising}
@@ -28,6 +29,11 @@ unfolding pairs
 number-of-pairs n = halved (length (pairsFrom 0 n)) n (twice 0 n)
 
 -- ---- which they are
+-- "Pairs i < j in that order"
+pub pairs-of-four : pairs 4 ≡ pair 0 1 ∷ pair 0 2 ∷ pair 0 3 ∷ pair 1 2 ∷ pair 1 3 ∷ pair 2 3 ∷ []
+unfolding pairs
+pairs-of-four = refl
+
 in-rising : (start k j : ℕ) → start ≤ j → j < start + k → List·Memᴰ j (rising start k)
 unfolding rising
 in-rising start zero j l h = absurd (omega arith)

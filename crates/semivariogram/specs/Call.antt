@@ -26,10 +26,10 @@ pub record Outcome : Type 0 where
   pub kept : ℕ
   pub areas : Areas
 
--- The number and the value of each answer: "how many is returned", and "a refusal carries only its number".
-abbrev pub ended : Semivariogram → Areas → Outcome
-ended (Bins k) a = record { number = 0; kept = k; areas = a }
-ended (Refused r) a = record { number = numberOf r; kept = 0; areas = a }
+-- the number and the value of each answer: "how many is returned", and "A refusal carries only its number"
+abbrev pub outcomeOf : Semivariogram → Areas → Outcome
+outcomeOf (Bins k) a = record { number = 0; kept = k; areas = a }
+outcomeOf (Refused r) a = record { number = numberOf r; kept = 0; areas = a }
 
 -- n, the number of samples
 abbrev pub samples : Samples → ℕ

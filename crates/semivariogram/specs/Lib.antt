@@ -1,7 +1,7 @@
 pub mod Pairs
 pub mod Call
-pub mod Limits
+pub mod Rules
 pub mod Refusals
-pub mod Conditions
+pub mod Bins
 pub mod Semivariogram
 pub mod Binned

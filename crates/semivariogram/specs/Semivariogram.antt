@@ -1,104 +1,18 @@
--- What the semivariogram answers: paper 01, "Semivariogram", each operation rounded once. Assumes nothing.
-use Prim.Native.Nat.{ℕ, zero, suc, _-_, min}
-use mathlib.Core.Bool.{cond}
-use mathlib.Core.List.{List, [], _∷_, map}
-use lib.Dec.{eqb, ltb}
-use lib.IntN.{pos}
-use lib.ListN.{length, getD}
-use lib.Ieee.{Float, nan, binary64, ofBits, add, sub, mul, div, ofInt, toUnsigned}
-use Rattle.area.specs.Area.{written}
-use Rattle.ieee.specs.Floats.{maxOf, floorOf}
-use Rattle.variogram.specs.Distance.{square, distance}
-use Rattle.semivariogram.specs.Pairs.{Pair, rising, pairs, filtered}
-use Rattle.semivariogram.specs.Call.{Samples, Areas, Outcome, samples}
+-- The semivariogram's call: its number, how many bins are kept, and its areas at exit. Assumes nothing.
+use Prim.Native.Nat.{ℕ, zero, suc}
+use lib.ListN.{length}
+use Rattle.survey.specs.declared.Limits.{Limits}
+use Rattle.semivariogram.specs.Call.{Samples, Areas, Outcome}
 use Rattle.semivariogram.specs.Refusals.{refusal}
+use Rattle.semivariogram.specs.Bins.{keptBins, filled}
 
--- a whole number as an f64
-abbrev pub asFloat : ℕ → Float
-asFloat n = ofInt binary64 (pos n)
-
-abbrev pub half : Float
-half = ofBits binary64 0x3fe0_0000_0000_0000
-
--- the distance of a pair
-unfoldable pub lag : Samples → Pair → Float
-unfolding distance
-lag q p = distance (q .points) (p .one) (q .points) (p .other) (q .dimension)
-
--- "0.5·(difference)²"
-unfoldable pub halfSquare : Samples → Pair → Float
-halfSquare q p = mul binary64 half (square (sub binary64 (getD (q .values) (p .one) nan) (getD (q .values) (p .other) nan)))
-
--- the greatest of some distances, and of `most`
-unfoldable pub greatest : Float → List Float → Float
-greatest most [] = most
-greatest most (h ∷ hs) = greatest (maxOf h most) hs
-
--- "greatest distance": of all pairs, from +0 on, below which no distance is
-unfoldable pub longest : Samples → Float
-unfolding lag greatest pairs
-longest q = greatest (ofBits binary64 0) (map (lag q) (pairs (samples q)))
-
--- "Width = greatest distance / bins"
-unfoldable pub width : Samples → Float
-unfolding longest
-width q = div binary64 (longest q) (asFloat (q .bins))
-
--- "Bin = floor(distance/width), NaN as 0, above the last as the last": as a whole number a NaN is 0, and infinity and all that is too great is 2^64 - 1
-unfoldable pub binOf : Samples → Pair → ℕ
-unfolding lag width floorOf
-binOf q p = min (toUnsigned 64 (floorOf (div binary64 (lag q p) (width q)))) (q .bins - 1)
-
--- how many of some pairs are in the bin b
-unfoldable pub countIn : Samples → ℕ → List Pair → ℕ
-unfolding binOf
-countIn q b [] = 0
-countIn q b (p ∷ ps) = cond (eqb (binOf q p) b) (suc (countIn q b ps)) (countIn q b ps)
-
--- what some pairs of the bin b add to a sum, one after the other
-unfoldable pub sumIn : Samples → ℕ → Float → List Pair → Float
-unfolding binOf halfSquare
-sumIn q b sum [] = sum
-sumIn q b sum (p ∷ ps) = sumIn q b (cond (eqb (binOf q p) b) (add binary64 sum (halfSquare q p)) sum) ps
-
--- "the count" of a bin
-unfoldable pub count : Samples → ℕ → ℕ
-unfolding countIn pairs
-count q b = countIn q b (pairs (samples q))
-
--- "sum/count" of a bin
-unfoldable pub average : Samples → ℕ → Float
-unfolding sumIn count pairs
-average q b = div binary64 (sumIn q b (ofBits binary64 0) (pairs (samples q))) (asFloat (count q b))
-
--- "(i + 0.5)·width" of the bin i
-unfoldable pub centre : Samples → ℕ → Float
-unfolding width
-centre q i = mul binary64 (add binary64 (asFloat i) half) (width q)
-
--- "Kept bins (count above 0), rising"
-unfoldable pub keptBins : Samples → List ℕ
-unfolding count filtered rising
-keptBins q = filtered (λ b. ltb 0 (count q b)) (rising 0 (q .bins))
-
--- "Kept bins ..: (i + 0.5)·width, sum/count, and the count. Only their places are written"
-unfoldable pub filled : Samples → Areas → Areas
-unfolding keptBins centre average count
-filled q a =
-    let bins = keptBins q in
-    record {
-      distances = written 0 (length bins) (λ r. centre q (getD bins r 0)) (a .distances);
-      semivariances = written 0 (length bins) (λ r. average q (getD bins r 0)) (a .semivariances);
-      counts = written 0 (length bins) (λ r. count q (getD bins r 0)) (a .counts);
-    }
-
--- the call by its refusal: "A refusal carries only its number and writes nothing"
-unfoldable pub judged : ℕ → Samples → Areas → Outcome
+-- the call by its refusal: "A refusal carries only its number and writes nothing"; else "how many is returned"
+unfoldable pub callWhere : ℕ → Samples → Areas → Outcome
 unfolding keptBins filled
-judged zero q a = record { number = 0; kept = length (keptBins q); areas = filled q a }
-judged (suc r) q a = record { number = suc r; kept = 0; areas = a }
+callWhere zero q a = record { number = 0; kept = length (keptBins q); areas = filled q a }
+callWhere (suc k) q a = record { number = suc k; kept = 0; areas = a }
 
 -- the whole call
-unfoldable pub calculated : Samples → Areas → Outcome
-unfolding judged refusal
-calculated q a = judged (refusal q a) q a
+unfoldable pub calculated : Limits → Samples → Areas → Outcome
+unfolding callWhere refusal
+calculated limits q a = callWhere (refusal limits q a) q a

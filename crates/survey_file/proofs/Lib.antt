@@ -1,10 +1,12 @@
-pub mod Bytes
-pub mod Filled
+pub mod Told
+pub mod Finite
 pub mod WellFormed
 pub mod Lists
 pub mod ReadBack
-pub mod Refusals
+pub mod Lengths
+pub mod Reader
+pub mod Writer
 pub mod RoundTrip
 pub mod Changes
-pub mod Lengths
 pub mod Sounding
+pub mod Cases

@@ -4,56 +4,62 @@ use native.Mathlib.Omega.{arith}
 use mathlib.Core.Path.{_≡_, refl, ap, sym, _∙_, subst}
 use mathlib.Core.List.{List, [], _∷_, _++_, append-assoc}
 use mathlib.Core.Option.{Option, some}
-use lib.Dec.{T, lit≤}
+use lib.Dec.{T, lit≤, ltb, lt→ltb}
 use lib.ListN.{length, getD, take, drop, length-append}
 use lib.Seq.{take-at, drop-at}
 use lib.Ieee.{Float}
+use lib.Ieee.Fits.{and-i}
+use Rattle.area.specs.Area.{part}
+use Rattle.ieee.specs.Bytes.{littleEndian, numberIn, f64Bytes, f64sIn, allFit, allBytes}
+use Rattle.ieee.proofs.Bytes.{number-little, length-f64Bytes, f64s-back, bytes-append, bytes-little, bytes-f64}
 use Rattle.variogram.specs.declared.VariogramModel.{VariogramModel}
 use Rattle.variogram.specs.declared.VariogramModel.the-variants.{Spherical, Exponential, Gaussian, Linear}
-use Rattle.survey.specs.Bytes.{littleEndian, numberIn, f64Bytes, f64sIn}
-use Rattle.survey.specs.Survey.{Survey, externalColumns, wells, nodeCount, columns, numbers, numberCount, withoutIgnored}
-use Rattle.survey.specs.File.{modelNumber, body, trailer, fileOf, fileLength}
-use Rattle.survey.specs.Reader.{trailerIn, startIn, wellsIn, nodesIn, codeCountIn, codesIn, columnsIn, modelIn, modelOf, surveyFrom, surveyIn, readBytes}
-use Rattle.survey.proofs.Bytes.{allFit, allBytes, number-little, length-f64Bytes, f64s-back, bytes-append, bytes-little, bytes-f64}
-use Rattle.survey.proofs.Lists.{Lists, length-numbers, survey-back}
-use Rattle.survey.proofs.WellFormed.{WellFormed, reads}
+use Rattle.survey.specs.Survey.{Survey, wells, nodeCount, externals, externalCount}
+use Rattle.survey_file.specs.Contents.{numbers, numberCount, withoutIgnored, Lists, Filable}
+use Rattle.survey_file.specs.File.{modelNumber, body, trailer, fileOf, fileLength}
+use Rattle.survey_file.specs.Trailer.{trailerIn, startIn, wellsIn, nodesIn, basesIn, codesIn, externalsIn, modelIn}
+use Rattle.survey_file.specs.Rules.{WellFormed}
+use Rattle.survey_file.specs.Reader.{modelOf, surveyFrom, surveyIn, readBytes}
+use Rattle.survey_file.proofs.Lists.{length-numbers, survey-back}
+use Rattle.survey_file.proofs.WellFormed.{reads}
 
 -- ---- the trailer, field by field
-length-trailer : (start : ℕ) (s : Survey) → length (trailer start s) ≡ 14
-unfolding trailer
-length-trailer start s = refl
+module _ (v start : ℕ) (s : Survey) where
+  length-trailer : length (trailer v start s) ≡ 14
+  unfolding trailer
+  length-trailer = refl
 
-trailer-start : (start : ℕ) (s : Survey) → start < 256 * 256 * 256 * 256 → numberIn (take 4 (trailer start s)) ≡ start
-unfolding trailer
-trailer-start start s h = number-little 4 start h
+  trailer-start : start < 256 * 256 * 256 * 256 → numberIn (part 0 4 (trailer v start s)) ≡ start
+  unfolding trailer
+  trailer-start h = number-little 4 start h
 
-trailer-wells : (start : ℕ) (s : Survey) → wells s < 65536 → numberIn (take 2 (drop 4 (trailer start s))) ≡ wells s
-unfolding trailer
-trailer-wells start s h = number-little 2 (wells s) h
+  trailer-wells : wells s < 65536 → numberIn (part 4 2 (trailer v start s)) ≡ wells s
+  unfolding trailer
+  trailer-wells h = number-little 2 (wells s) h
 
-trailer-nodes : (start : ℕ) (s : Survey) → nodeCount s < 65536 → numberIn (take 2 (drop 6 (trailer start s))) ≡ nodeCount s
-unfolding trailer
-trailer-nodes start s h = number-little 2 (nodeCount s) h
+  trailer-nodes : nodeCount s < 65536 → numberIn (part 6 2 (trailer v start s)) ≡ nodeCount s
+  unfolding trailer
+  trailer-nodes h = number-little 2 (nodeCount s) h
 
-trailer-codes : (start : ℕ) (s : Survey) → length (s .codes) < 65536 → numberIn (take 2 (drop 8 (trailer start s))) ≡ length (s .codes)
-unfolding trailer
-trailer-codes start s h = number-little 2 (length (s .codes)) h
+  trailer-bases : length (s .bases) < 65536 → numberIn (part 8 2 (trailer v start s)) ≡ length (s .bases)
+  unfolding trailer
+  trailer-bases h = number-little 2 (length (s .bases)) h
 
-trailer-model : (start : ℕ) (s : Survey) → getD (trailer start s) 10 0 ≡ modelNumber (s .model)
-unfolding trailer
-trailer-model start s = refl
+  trailer-model : getD (trailer v start s) 10 0 ≡ modelNumber (s .options .variogram .model)
+  unfolding trailer
+  trailer-model = refl
 
-trailer-version : (start : ℕ) (s : Survey) → getD (trailer start s) 11 0 ≡ 1
-unfolding trailer
-trailer-version start s = refl
+  trailer-version : getD (trailer v start s) 11 0 ≡ v
+  unfolding trailer
+  trailer-version = refl
 
-trailer-zero : (start : ℕ) (s : Survey) → getD (trailer start s) 12 0 ≡ 0
-unfolding trailer
-trailer-zero start s = refl
+  trailer-zero : getD (trailer v start s) 12 0 ≡ 0
+  unfolding trailer
+  trailer-zero = refl
 
-trailer-last : (start : ℕ) (s : Survey) → getD (trailer start s) 13 0 ≡ 0
-unfolding trailer
-trailer-last start s = refl
+  trailer-last : getD (trailer v start s) 13 0 ≡ 0
+  unfolding trailer
+  trailer-last = refl
 
 -- ---- the model by its number
 model-least : (m : VariogramModel) → 1 ≤ modelNumber m
@@ -75,147 +81,151 @@ model-back Gaussian = refl
 model-back Linear = refl
 
 -- ---- the parts of a file
--- what a survey must be to have a file: f64 in lists of the lengths that its counts say, and counts of two bytes
-pub record Filable (s : Survey) : Type 0 where
-  pub fit : T (allFit (numbers s))
-  pub lists : Lists s
-  pub few-wells : wells s ≤ 65535
-  pub few-nodes : nodeCount s ≤ 65535
-  pub few-codes : length (s .codes) ≤ 65535
+-- the note, the numbers, the codes and the trailer
+abbrev parts : ℕ → List ℕ → Survey → List ℕ
+parts v note s = note ++ (f64Bytes (numbers s) ++ (s .bases ++ trailer v (length note) s))
 
-file-parts : (note : List ℕ) (s : Survey) → fileOf note s ≡ note ++ (f64Bytes (numbers s) ++ (s .codes ++ trailer (length note) s))
+file-parts : (v : ℕ) (note : List ℕ) (s : Survey) → fileOf v note s ≡ parts v note s
 unfolding fileOf body
-file-parts note s = simp append-assoc
+file-parts v note s = simp append-assoc
 
-length-parts : (note : List ℕ) (s : Survey) → length (note ++ (f64Bytes (numbers s) ++ (s .codes ++ trailer (length note) s))) ≡ length note + 8 * length (numbers s) + length (s .codes) + 14
-length-parts note s =
-    let t = length-trailer (length note) s in
+length-parts : (v : ℕ) (note : List ℕ) (s : Survey) → length (parts v note s) ≡ length note + 8 * length (numbers s) + length (s .bases) + 14
+length-parts v note s =
+    let t = length-trailer v (length note) s in
     let x = length-f64Bytes (numbers s) in
-    let all : length (note ++ (f64Bytes (numbers s) ++ (s .codes ++ trailer (length note) s))) ≡ length note + (length (f64Bytes (numbers s)) + (length (s .codes) + length (trailer (length note) s))) = simp length-append in
+    let all : length (parts v note s) ≡ length note + (length (f64Bytes (numbers s)) + (length (s .bases) + length (trailer v (length note) s))) =
+    simp length-append in
     omega arith
 
 -- a file is as long as its lists make it
-pub file-length : (note : List ℕ) (s : Survey) → Lists s → length (fileOf note s) ≡ fileLength (length note) (wells s) (nodeCount s) (columns s) (length (s .codes))
-file-length note s l =
-    ap length (file-parts note s) ∙ length-parts note s
-    ∙ ap (λ (n : ℕ). length note + 8 * n + length (s .codes) + 14) (length-numbers s l)
+pub file-length : (v : ℕ) (note : List ℕ) (s : Survey) → Lists s
+    → length (fileOf v note s) ≡ fileLength (length note) (wells s) (nodeCount s) (externals s) (length (s .bases))
+file-length v note s l =
+    ap length (file-parts v note s) ∙ length-parts v note s
+    ∙ ap (λ (n : ℕ). length note + 8 * n + length (s .bases) + 14) (length-numbers s l)
 
--- and all of it is bytes, if the note and the codes are
-trailer-bytes : (start : ℕ) (s : Survey) → T (allBytes (trailer start s))
+-- and all of it is bytes, if the version, the note and the codes are
+trailer-bytes : (v start : ℕ) (s : Survey) → v < 256 → T (allBytes (trailer v start s))
 unfolding trailer
-trailer-bytes start s =
-    bytes-append (littleEndian 4 start ++ littleEndian 2 (wells s) ++ littleEndian 2 (nodeCount s) ++ littleEndian 2 (length (s .codes))) (modelNumber (s .model) ∷ 1 ∷ 0 ∷ 0 ∷ [])
-    (bytes-append (littleEndian 4 start ++ littleEndian 2 (wells s) ++ littleEndian 2 (nodeCount s)) (littleEndian 2 (length (s .codes)))
-    (bytes-append (littleEndian 4 start ++ littleEndian 2 (wells s)) (littleEndian 2 (nodeCount s))
-    (bytes-append (littleEndian 4 start) (littleEndian 2 (wells s)) (bytes-little 4 start) (bytes-little 2 (wells s)))
-    (bytes-little 2 (nodeCount s)))
-    (bytes-little 2 (length (s .codes))))
-    (model-byte (s .model))
+trailer-bytes v start s h =
+    let first = littleEndian 4 start in
+    let n = littleEndian 2 (wells s) in
+    let m = littleEndian 2 (nodeCount s) in
+    let c = littleEndian 2 (length (s .bases)) in
+    let three = bytes-append (first ++ n) m (bytes-append first n (bytes-little 4 start) (bytes-little 2 (wells s))) (bytes-little 2 (nodeCount s)) in
+    bytes-append (first ++ n ++ m ++ c) (modelNumber (s .options .variogram .model) ∷ v ∷ 0 ∷ 0 ∷ [])
+    (bytes-append (first ++ n ++ m) c three (bytes-little 2 (length (s .bases))))
+    (model-byte (s .options .variogram .model))
   where
-    model-byte : (m : VariogramModel) → T (allBytes (modelNumber m ∷ 1 ∷ 0 ∷ 0 ∷ []))
-    model-byte Spherical = tt
-    model-byte Exponential = tt
-    model-byte Gaussian = tt
-    model-byte Linear = tt
+    version-byte : T (allBytes (v ∷ 0 ∷ 0 ∷ []))
+    version-byte = and-i (ltb v 256) (allBytes (0 ∷ 0 ∷ [])) (lt→ltb v 256 h) tt
 
-pub file-bytes : (note : List ℕ) (s : Survey) → T (allBytes note) → T (allBytes (s .codes)) → T (allBytes (fileOf note s))
-file-bytes note s p q =
-    let rest = s .codes ++ trailer (length note) s in
-    subst (λ (b : List ℕ). T (allBytes b)) (sym (file-parts note s))
+    model-byte : (m : VariogramModel) → T (allBytes (modelNumber m ∷ v ∷ 0 ∷ 0 ∷ []))
+    model-byte Spherical = version-byte
+    model-byte Exponential = version-byte
+    model-byte Gaussian = version-byte
+    model-byte Linear = version-byte
+
+pub file-bytes : (v : ℕ) (note : List ℕ) (s : Survey) → v < 256 → T (allBytes note) → T (allBytes (s .bases)) → T (allBytes (fileOf v note s))
+file-bytes v note s h p q =
+    let rest = s .bases ++ trailer v (length note) s in
+    subst (λ (b : List ℕ). T (allBytes b)) (sym (file-parts v note s))
     (bytes-append note (f64Bytes (numbers s) ++ rest) p
-    (bytes-append (f64Bytes (numbers s)) rest (bytes-f64 (numbers s)) (bytes-append (s .codes) (trailer (length note) s) q (trailer-bytes (length note) s))))
+    (bytes-append (f64Bytes (numbers s)) rest (bytes-f64 (numbers s)) (bytes-append (s .bases) _ q (trailer-bytes v (length note) s h))))
 
 -- bytes that are a file's parts
-module _ (note : List ℕ) (s : Survey) (f : Filable s) (bytes : List ℕ) (is : bytes ≡ note ++ (f64Bytes (numbers s) ++ (s .codes ++ trailer (length note) s))) (most : length bytes ≤ 65536) where
-  length-bytes : length bytes ≡ length note + 8 * length (numbers s) + length (s .codes) + 14
-  length-bytes = ap length is ∙ length-parts note s
+module _ (v : ℕ) (note : List ℕ) (s : Survey) (f : Filable s) (bytes : List ℕ) (is : bytes ≡ parts v note s) (most : length bytes ≤ 65536) where
+  length-bytes : length bytes ≡ length note + 8 * length (numbers s) + length (s .bases) + 14
+  length-bytes = ap length is ∙ length-parts v note s
 
   -- what stands before the trailer, and before the codes
-  before-trailer : length (note ++ (f64Bytes (numbers s) ++ s .codes)) ≡ length bytes - 14
+  before-trailer : length (note ++ (f64Bytes (numbers s) ++ s .bases)) ≡ length bytes - 14
   before-trailer =
       let x = length-f64Bytes (numbers s) in
-      let all : length (note ++ (f64Bytes (numbers s) ++ s .codes)) ≡ length note + (length (f64Bytes (numbers s)) + length (s .codes)) = simp length-append in
+      let all : length (note ++ (f64Bytes (numbers s) ++ s .bases)) ≡ length note + (length (f64Bytes (numbers s)) + length (s .bases)) =
+      simp length-append in
       let b = length-bytes in
       omega arith
 
-  before-codes : length (note ++ f64Bytes (numbers s)) ≡ length bytes - 14 - length (s .codes)
+  before-codes : length (note ++ f64Bytes (numbers s)) ≡ length bytes - 14 - length (s .bases)
   before-codes =
       let x = length-f64Bytes (numbers s) in
       let all = length-append note (f64Bytes (numbers s)) in
       let b = length-bytes in
       omega arith
 
-  trailer-there : trailerIn bytes ≡ trailer (length note) s
+  trailer-there : trailerIn bytes ≡ trailer v (length note) s
   trailer-there =
-      let t = trailer (length note) s in
       ap (λ (b : List ℕ). drop (length bytes - 14) b) (is ∙ simp append-assoc)
-      ∙ drop-at (note ++ (f64Bytes (numbers s) ++ s .codes)) t (length bytes - 14) before-trailer
+      ∙ drop-at (note ++ (f64Bytes (numbers s) ++ s .bases)) (trailer v (length note) s) (length bytes - 14) before-trailer
 
   start-there : startIn bytes ≡ length note
   start-there =
       let b = length-bytes in
-      ap (λ (t : List ℕ). numberIn (take 4 t)) trailer-there ∙ trailer-start (length note) s (omega arith)
+      ap (λ (t : List ℕ). numberIn (part 0 4 t)) trailer-there ∙ trailer-start v (length note) s (omega arith)
 
   wells-there : wellsIn bytes ≡ wells s
-  wells-there = ap (λ (t : List ℕ). numberIn (take 2 (drop 4 t))) trailer-there ∙ trailer-wells (length note) s (let x = f .few-wells in omega arith)
+  wells-there = ap (λ (t : List ℕ). numberIn (part 4 2 t)) trailer-there ∙ trailer-wells v (length note) s (let x = f .few-wells in omega arith)
 
   nodes-there : nodesIn bytes ≡ nodeCount s
-  nodes-there = ap (λ (t : List ℕ). numberIn (take 2 (drop 6 t))) trailer-there ∙ trailer-nodes (length note) s (let x = f .few-nodes in omega arith)
+  nodes-there = ap (λ (t : List ℕ). numberIn (part 6 2 t)) trailer-there ∙ trailer-nodes v (length note) s (let x = f .few-nodes in omega arith)
 
-  code-count-there : codeCountIn bytes ≡ length (s .codes)
-  code-count-there = ap (λ (t : List ℕ). numberIn (take 2 (drop 8 t))) trailer-there ∙ trailer-codes (length note) s (let x = f .few-codes in omega arith)
+  bases-there : basesIn bytes ≡ length (s .bases)
+  bases-there = ap (λ (t : List ℕ). numberIn (part 8 2 t)) trailer-there ∙ trailer-bases v (length note) s (let x = f .few-bases in omega arith)
 
-  model-there : modelIn bytes ≡ modelNumber (s .model)
-  model-there = ap (λ (t : List ℕ). getD t 10 0) trailer-there ∙ trailer-model (length note) s
+  model-there : modelIn bytes ≡ modelNumber (s .options .variogram .model)
+  model-there = ap (λ (t : List ℕ). getD t 10 0) trailer-there ∙ trailer-model v (length note) s
 
-  codes-there : codesIn bytes ≡ s .codes
+  codes-there : codesIn bytes ≡ s .bases
   codes-there =
-      let c = length (s .codes) in
-      let t = trailer (length note) s in
-      ap (λ (k : ℕ). take k (drop (length bytes - 14 - k) bytes)) code-count-there
-      ∙ ap (λ (b : List ℕ). take c (drop (length bytes - 14 - c) b)) (is ∙ sym (append-assoc note (f64Bytes (numbers s)) (s .codes ++ t)))
-      ∙ ap (λ (b : List ℕ). take c b) (drop-at (note ++ f64Bytes (numbers s)) (s .codes ++ t) (length bytes - 14 - c) before-codes)
-      ∙ take-at (s .codes) t c refl
+      let c = length (s .bases) in
+      let t = trailer v (length note) s in
+      ap (λ (k : ℕ). take k (drop (length bytes - 14 - k) bytes)) bases-there
+      ∙ ap (λ (b : List ℕ). take c (drop (length bytes - 14 - c) b)) (is ∙ sym (append-assoc note (f64Bytes (numbers s)) (s .bases ++ t)))
+      ∙ ap (λ (b : List ℕ). take c b) (drop-at (note ++ f64Bytes (numbers s)) (s .bases ++ t) (length bytes - 14 - c) before-codes)
+      ∙ take-at (s .bases) t c refl
 
-  columns-there : columnsIn bytes ≡ columns s
-  columns-there = ap externalColumns codes-there
+  externals-there : externalsIn bytes ≡ externals s
+  externals-there = ap externalCount codes-there
 
-  numbers-there : f64sIn (numberCount (wells s) (nodeCount s) (columns s)) (drop (length note) bytes) ≡ numbers s
+  numbers-there : f64sIn (numberCount (wells s) (nodeCount s) (externals s)) (drop (length note) bytes) ≡ numbers s
   numbers-there =
-      let rest = s .codes ++ trailer (length note) s in
-      ap (λ (b : List ℕ). f64sIn (numberCount (wells s) (nodeCount s) (columns s)) b)
+      let rest = s .bases ++ trailer v (length note) s in
+      ap (λ (b : List ℕ). f64sIn (numberCount (wells s) (nodeCount s) (externals s)) b)
       (ap (λ (b : List ℕ). drop (length note) b) is ∙ drop-at note (f64Bytes (numbers s) ++ rest) (length note) refl)
       ∙ ap (λ (k : ℕ). f64sIn k (f64Bytes (numbers s) ++ rest)) (sym (length-numbers s (f .lists)))
       ∙ f64s-back (numbers s) rest (f .fit)
 
-  laid-out : WellFormed bytes
+  laid-out : WellFormed v bytes
   laid-out =
       let b = length-bytes in
       let l = length-numbers s (f .lists) in
-      let c = code-count-there in
-      let st = start-there in
       record {
         least = omega arith;
         most = most;
-        codes = omega arith;
-        meet = rw (start-there, wells-there, nodes-there, columns-there, code-count-there) (omega arith);
-        model-least = rw model-there (model-least (s .model));
-        model-most = rw model-there (model-most (s .model));
-        version = ap (λ (t : List ℕ). getD t 11 0) trailer-there ∙ trailer-version (length note) s;
-        zero-byte = ap (λ (t : List ℕ). getD t 12 0) trailer-there ∙ trailer-zero (length note) s;
-        last-zero-byte = ap (λ (t : List ℕ). getD t 13 0) trailer-there ∙ trailer-last (length note) s;
+        meet = rw (start-there, wells-there, nodes-there, externals-there, bases-there) (omega arith);
+        model-least = rw model-there (model-least (s .options .variogram .model));
+        model-most = rw model-there (model-most (s .options .variogram .model));
+        version-is = ap (λ (t : List ℕ). getD t 11 0) trailer-there ∙ trailer-version v (length note) s;
+        zero-byte = ap (λ (t : List ℕ). getD t 12 0) trailer-there ∙ trailer-zero v (length note) s;
+        last-zero-byte = ap (λ (t : List ℕ). getD t 13 0) trailer-there ∙ trailer-last v (length note) s;
       }
 
   survey-there : surveyIn bytes ≡ withoutIgnored s
   unfolding surveyIn
   survey-there =
-      let fields : surveyIn bytes ≡ surveyFrom (modelOf (modelNumber (s .model))) (wells s) (nodeCount s) (columns s) (f64sIn (numberCount (wells s) (nodeCount s) (columns s)) (drop (length note) bytes)) (s .codes) = λ i.
-      surveyFrom (modelOf (model-there i)) (wells-there i) (nodes-there i) (columns-there i)
-      (f64sIn (numberCount (wells-there i) (nodes-there i) (columns-there i)) (drop (start-there i) bytes))
+      let n = wells s in
+      let m = nodeCount s in
+      let k = externals s in
+      let model = s .options .variogram .model in
+      let xs = f64sIn (numberCount n m k) (drop (length note) bytes) in
+      let fields : surveyIn bytes ≡ surveyFrom (modelOf (modelNumber model)) n m k xs (s .bases) = λ i.
+      surveyFrom (modelOf (model-there i)) (wells-there i) (nodes-there i) (externals-there i)
+      (f64sIn (numberCount (wells-there i) (nodes-there i) (externals-there i)) (drop (start-there i) bytes))
       (codes-there i) in
       fields
-      ∙ ap (λ (xs : List Float). surveyFrom (modelOf (modelNumber (s .model))) (wells s) (nodeCount s) (columns s) xs (s .codes)) numbers-there
-      ∙ ap (λ (m : VariogramModel). surveyFrom m (wells s) (nodeCount s) (columns s) (numbers s) (s .codes)) (model-back (s .model))
+      ∙ ap (λ (xs : List Float). surveyFrom (modelOf (modelNumber model)) n m k xs (s .bases)) numbers-there
+      ∙ ap (λ (x : VariogramModel). surveyFrom x n m k (numbers s) (s .bases)) (model-back model)
       ∙ survey-back s (f .lists)
 
 -- ---- a file reads as its survey, whatever its note is
@@ -223,25 +233,24 @@ module _ (note : List ℕ) (s : Survey) (f : Filable s) (bytes : List ℕ) (is :
 pub record Counts (s : Survey) (bytes : List ℕ) : Type 0 where
   pub wells : wellsIn bytes ≡ wells s
   pub nodes : nodesIn bytes ≡ nodeCount s
-  pub columns : columnsIn bytes ≡ columns s
-  pub codes : codeCountIn bytes ≡ length (s .codes)
+  pub externals : externalsIn bytes ≡ externals s
+  pub bases : basesIn bytes ≡ length (s .bases)
 
-pub file-counts : (note : List ℕ) (s : Survey) → Filable s → length (fileOf note s) ≤ 65536 → Counts s (fileOf note s)
-file-counts note s f most =
-    let bytes = fileOf note s in
-    let is = file-parts note s in
-    record {
-      wells = wells-there note s f bytes is most;
-      nodes = nodes-there note s f bytes is most;
-      columns = columns-there note s f bytes is most;
-      codes = code-count-there note s f bytes is most;
-    }
+module _ (v : ℕ) (note : List ℕ) (s : Survey) (f : Filable s) (most : length (fileOf v note s) ≤ 65536) where
+  pub file-counts : Counts s (fileOf v note s)
+  file-counts =
+      record {
+        wells = wells-there v note s f (fileOf v note s) (file-parts v note s) most;
+        nodes = nodes-there v note s f (fileOf v note s) (file-parts v note s) most;
+        externals = externals-there v note s f (fileOf v note s) (file-parts v note s) most;
+        bases = bases-there v note s f (fileOf v note s) (file-parts v note s) most;
+      }
 
-pub file-well-formed : (note : List ℕ) (s : Survey) → Filable s → length (fileOf note s) ≤ 65536 → WellFormed (fileOf note s)
-file-well-formed note s f most = laid-out note s f (fileOf note s) (file-parts note s) most
+  pub file-well-formed : WellFormed v (fileOf v note s)
+  file-well-formed = laid-out v note s f (fileOf v note s) (file-parts v note s) most
 
-pub file-survey : (note : List ℕ) (s : Survey) → Filable s → length (fileOf note s) ≤ 65536 → surveyIn (fileOf note s) ≡ withoutIgnored s
-file-survey note s f most = survey-there note s f (fileOf note s) (file-parts note s) most
+  pub file-survey : surveyIn (fileOf v note s) ≡ withoutIgnored s
+  file-survey = survey-there v note s f (fileOf v note s) (file-parts v note s) most
 
-pub file-reads : (note : List ℕ) (s : Survey) → Filable s → length (fileOf note s) ≤ 65536 → readBytes (fileOf note s) ≡ some (withoutIgnored s)
-file-reads note s f most = reads (fileOf note s) (file-well-formed note s f most) ∙ ap {B = Option Survey} some (file-survey note s f most)
+  pub file-reads : readBytes v (fileOf v note s) ≡ some (withoutIgnored s)
+  file-reads = reads v (fileOf v note s) file-well-formed ∙ ap {B = Option Survey} some file-survey

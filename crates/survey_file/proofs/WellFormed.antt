@@ -1,103 +1,104 @@
--- Which texts the reader takes: those whose lengths meet exactly, of the model numbers 1 to 4, of version 1, with two zeros; it refuses every other by 16. Assumes nothing.
-use Prim.Native.Nat.{ℕ, zero, suc, _+_, _-_, _*_, _≤_}
+-- Which bytes the reader takes: those that are well formed, in areas with room; `Malformed` and `ShortArea` are exactly the opposites. Assumes nothing.
+use Prim.Native.Nat.{ℕ, _-_, _*_, _≤_, _<_}
 use native.Mathlib.Omega.{arith}
-use mathlib.Core.Path.{_≡_, refl, ap}
-use mathlib.Core.Logic.{_↔_}
+use mathlib.Core.Path.{_≡_, ap}
+use mathlib.Core.Logic.{_↔_, _⊎_, inl, inr}
+use mathlib.Core.Bool.{Bool}
 use mathlib.Core.List.{List}
 use mathlib.Core.Option.{none, some}
-use lib.Dec.{nleb→lt}
 use lib.ListN.{length}
-use Rattle.error.specs.Tests.{firstOf}
-use Rattle.error.proofs.Tells.{twice, equal, not-below}
-use Rattle.error.proofs.Tests.{NoneHolds, none-is-zero, zero-is-none}
+use Rattle.error.proofs.Tells.{affirm, refute, stable, equal}
 use Rattle.survey.specs.Survey.{Survey}
-use Rattle.survey.specs.Reader.{startIn, wellsIn, nodesIn, codeCountIn, columnsIn, lengthIn, modelIn, versionIn, zeroIn, lastZeroIn, fileTests, surveyIn, unlessRefused, readBytes}
+use Rattle.survey_file.specs.Areas.{Areas}
+use Rattle.survey_file.specs.Trailer.{wellsIn, nodesIn, basesIn, externalsIn, modelIn, versionIn, zeroIn, lastZeroIn}
+use Rattle.survey_file.specs.Rules.{statedLength, Malformed, WellFormed, ShortArea, Room}
+use Rattle.survey_file.specs.Reader.{surveyIn, unlessMalformed, readBytes}
+use Rattle.survey_file.proofs.Told.{malformed-told, short-told}
 
--- "16: under 14 or over 65,536 bytes, lengths that do not meet exactly, another model or version, trailer zeros not zero": when none of this is so
-pub record WellFormed (bytes : List ℕ) : Type 0 where
-  pub least : 14 ≤ length bytes
-  pub most : length bytes ≤ 65536
-  pub codes : codeCountIn bytes ≤ length bytes - 14
-  pub meet : length bytes ≡ startIn bytes + 8 * (5 + 3 * wellsIn bytes + columnsIn bytes * wellsIn bytes + 2 * nodesIn bytes + columnsIn bytes * nodesIn bytes) + codeCountIn bytes + 14
-  pub model-least : 1 ≤ modelIn bytes
-  pub model-most : modelIn bytes ≤ 4
-  pub version : versionIn bytes ≡ 1
-  pub zero-byte : zeroIn bytes ≡ 0
-  pub last-zero-byte : lastZeroIn bytes ≡ 0
-
-pub well-formed : (bytes : List ℕ) → NoneHolds (fileTests bytes) → WellFormed bytes
-well-formed bytes n =
-    let l : length bytes ≡ lengthIn bytes = twice (equal (length bytes) (lengthIn bytes)) .then (n .1 .1 .1 .0) in
+-- ---- the file
+well-formed : (version : ℕ) (bytes : List ℕ) → ¬ Malformed version bytes → WellFormed version bytes
+well-formed version bytes n =
+    let under : ¬ (length bytes < 14) = λ x. n (inl x) in
+    let over : ¬ (65536 < length bytes) = λ x. n (inr (inl x)) in
+    let below-one : ¬ (modelIn bytes < 1) = λ x. n (inr (inr (inr (inl x)))) in
+    let above-four : ¬ (4 < modelIn bytes) = λ x. n (inr (inr (inr (inr (inl x))))) in
     record {
-      least = not-below (length bytes) 14 .then (n .0);
-      most = let h = n .1 .0 in omega (arith, nleb→lt);
-      codes = not-below (length bytes - 14) (codeCountIn bytes) .then (n .1 .1 .0);
-      meet = omega arith;
-      model-least = not-below (modelIn bytes) 1 .then (n .1 .1 .1 .1 .0);
-      model-most = not-below 4 (modelIn bytes) .then (n .1 .1 .1 .1 .1 .0);
-      version = twice (equal (versionIn bytes) 1) .then (n .1 .1 .1 .1 .1 .1 .0);
-      zero-byte = twice (equal (zeroIn bytes) 0) .then (n .1 .1 .1 .1 .1 .1 .1 .0);
-      last-zero-byte = twice (equal (lastZeroIn bytes) 0) .then (n .1 .1 .1 .1 .1 .1 .1 .1 .0);
+      least = omega arith;
+      most = omega arith;
+      meet = stable (equal (length bytes) (statedLength bytes)) (λ x. n (inr (inr (inl x))));
+      model-least = omega arith;
+      model-most = omega arith;
+      version-is = stable (equal (versionIn bytes) version) (λ x. n (inr (inr (inr (inr (inr (inl x)))))));
+      zero-byte = stable (equal (zeroIn bytes) 0) (λ x. n (inr (inr (inr (inr (inr (inr (inl x))))))));
+      last-zero-byte = stable (equal (lastZeroIn bytes) 0) (λ x. n (inr (inr (inr (inr (inr (inr (inr x))))))));
     }
 
-pub no-flaw : (bytes : List ℕ) → WellFormed bytes → NoneHolds (fileTests bytes)
-no-flaw bytes w =
-    let l : length bytes ≡ lengthIn bytes = let x = w .meet in omega arith in (
-      not-below (length bytes) 14 .back (w .least),
-      (
-        not-below 65536 (length bytes) .back (w .most),
-        (
-          not-below (length bytes - 14) (codeCountIn bytes) .back (w .codes),
-          (
-            twice (equal (length bytes) (lengthIn bytes)) .back l,
-            (
-              not-below (modelIn bytes) 1 .back (w .model-least),
-              (
-                not-below 4 (modelIn bytes) .back (w .model-most),
-                (
-                  twice (equal (versionIn bytes) 1) .back (w .version),
-                  (
-                    twice (equal (zeroIn bytes) 0) .back (w .zero-byte),
-                    (
-                      twice (equal (lastZeroIn bytes) 0) .back (w .last-zero-byte),
-                      tt,
-                    ),
-                  ),
-                ),
-              ),
-            ),
-          ),
-        ),
-      ),
-    )
+not-malformed : (version : ℕ) (bytes : List ℕ) → WellFormed version bytes → ¬ Malformed version bytes
+not-malformed version bytes w (inl x) = let l = w .least in omega arith
+not-malformed version bytes w (inr (inl x)) = let l = w .most in omega arith
+not-malformed version bytes w (inr (inr (inl x))) = x (w .meet)
+not-malformed version bytes w (inr (inr (inr (inl x)))) = let l = w .model-least in omega arith
+not-malformed version bytes w (inr (inr (inr (inr (inl x))))) = let l = w .model-most in omega arith
+not-malformed version bytes w (inr (inr (inr (inr (inr (inl x)))))) = x (w .version-is)
+not-malformed version bytes w (inr (inr (inr (inr (inr (inr (inl x))))))) = x (w .zero-byte)
+not-malformed version bytes w (inr (inr (inr (inr (inr (inr (inr x))))))) = x (w .last-zero-byte)
 
--- no test of the file holds exactly when it is well formed
-pub no-refusal : (bytes : List ℕ) → (firstOf (fileTests bytes) ≡ 0) ↔ WellFormed bytes
-no-refusal bytes = (λ e. well-formed bytes (zero-is-none (fileTests bytes) tt e), λ w. none-is-zero (fileTests bytes) (no-flaw bytes w))
+pub well-formed-exactly : (version : ℕ) (bytes : List ℕ) → WellFormed version bytes ↔ (¬ Malformed version bytes)
+well-formed-exactly version bytes = (not-malformed version bytes, well-formed version bytes)
+
+pub malformed-exactly : (version : ℕ) (bytes : List ℕ) → Malformed version bytes ↔ (¬ WellFormed version bytes)
+malformed-exactly version bytes = (
+  λ m w. not-malformed version bytes w m,
+  λ n. stable (malformed-told version bytes) (λ m. n (well-formed version bytes m)),
+)
+
+-- the codes lie before the trailer
+pub codes-before : (version : ℕ) (bytes : List ℕ) → WellFormed version bytes → basesIn bytes ≤ length bytes - 14
+codes-before version bytes w = let m = w .meet in omega arith
+
+-- ---- the areas
+room : (bytes : List ℕ) (areas : Areas) → ¬ ShortArea bytes areas → Room bytes areas
+room bytes areas n =
+    let first : ¬ (length (areas .values) < wellsIn bytes) = λ x. n (inl x) in
+    let second : ¬ (length (areas .coords) < 2 * wellsIn bytes) = λ x. n (inr (inl x)) in
+    let third : ¬ (length (areas .bases) < basesIn bytes) = λ x. n (inr (inr (inl x))) in
+    let fourth : ¬ (length (areas .external) < externalsIn bytes * wellsIn bytes) = λ x. n (inr (inr (inr (inl x)))) in
+    let fifth : ¬ (length (areas .nodes) < 2 * nodesIn bytes) = λ x. n (inr (inr (inr (inr (inl x))))) in
+    let sixth : ¬ (length (areas .nodeExternal) < externalsIn bytes * nodesIn bytes) = λ x. n (inr (inr (inr (inr (inr x))))) in
+    omega arith
+
+not-short : (bytes : List ℕ) (areas : Areas) → Room bytes areas → ¬ ShortArea bytes areas
+not-short bytes areas r (inl x) = let l = r .values in omega arith
+not-short bytes areas r (inr (inl x)) = let l = r .coords in omega arith
+not-short bytes areas r (inr (inr (inl x))) = let l = r .bases in omega arith
+not-short bytes areas r (inr (inr (inr (inl x)))) = let l = r .external in omega arith
+not-short bytes areas r (inr (inr (inr (inr (inl x))))) = let l = r .nodes in omega arith
+not-short bytes areas r (inr (inr (inr (inr (inr x))))) = let l = r .nodeExternal in omega arith
+
+pub room-exactly : (bytes : List ℕ) (areas : Areas) → Room bytes areas ↔ (¬ ShortArea bytes areas)
+room-exactly bytes areas = (not-short bytes areas, room bytes areas)
+
+pub short-exactly : (bytes : List ℕ) (areas : Areas) → ShortArea bytes areas ↔ (¬ Room bytes areas)
+short-exactly bytes areas = (λ x r. not-short bytes areas r x, λ n. stable (short-told bytes areas) (λ x. n (room bytes areas x)))
 
 -- ---- what is read, exactly when
-pub reads : (bytes : List ℕ) → WellFormed bytes → readBytes bytes ≡ some (surveyIn bytes)
+pub reads : (version : ℕ) (bytes : List ℕ) → WellFormed version bytes → readBytes version bytes ≡ some (surveyIn bytes)
 unfolding readBytes
-reads bytes w = ap (λ (r : ℕ). unlessRefused r bytes) (no-refusal bytes .1 w)
+reads version bytes w = ap (λ (b : Bool). unlessMalformed b bytes) (refute (malformed-told version bytes) (not-malformed version bytes w))
 
-pub refuses : (bytes : List ℕ) → (WellFormed bytes → ⊥) → readBytes bytes ≡ none
+pub refuses : (version : ℕ) (bytes : List ℕ) → ¬ WellFormed version bytes → readBytes version bytes ≡ none
 unfolding readBytes
-refuses bytes n = go (firstOf (fileTests bytes)) (λ e. n (no-refusal bytes .0 e))
-  where
-    go : (r : ℕ) → (r ≡ 0 → ⊥) → unlessRefused r bytes ≡ none
-    go zero h = absurd (h refl)
-    go (suc r) h = refl
+refuses version bytes n = ap (λ (b : Bool). unlessMalformed b bytes) (affirm (malformed-told version bytes) (malformed-exactly version bytes .1 n))
 
-pub read-well-formed : (bytes : List ℕ) (s : Survey) → readBytes bytes ≡ some s → WellFormed bytes
-unfolding readBytes
-read-well-formed bytes s e = no-refusal bytes .0 (go (firstOf (fileTests bytes)) e)
-  where
-    go : (r : ℕ) → unlessRefused r bytes ≡ some s → r ≡ 0
-    go zero x = refl
-    go (suc r) x = let z : _≡_ {A = ℕ} 0 1 = cc in absurd (omega arith)
+pub read-well-formed : (version : ℕ) (bytes : List ℕ) (s : Survey) → readBytes version bytes ≡ some s → WellFormed version bytes
+read-well-formed version bytes s e =
+    well-formed version bytes λ m.
+    let r = refuses version bytes (malformed-exactly version bytes .0 m) in
+    let z : _≡_ {A = ℕ} 0 1 = cc in
+    omega arith
 
-pub refused-exactly : (bytes : List ℕ) → (readBytes bytes ≡ none) ↔ (WellFormed bytes → ⊥)
-refused-exactly bytes = (
-  λ e w. let r = reads bytes w in let z : _≡_ {A = ℕ} 0 1 = cc in omega arith,
-  refuses bytes,
+pub refused-exactly : (version : ℕ) (bytes : List ℕ) → (readBytes version bytes ≡ none) ↔ (¬ WellFormed version bytes)
+refused-exactly version bytes = (
+  λ e w. let r = reads version bytes w in let z : _≡_ {A = ℕ} 0 1 = cc in omega arith,
+  refuses version bytes,
 )

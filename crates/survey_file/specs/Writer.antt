@@ -1,49 +1,54 @@
--- The writer of the survey file: when it refuses, and its area at exit. Assumes nothing.
-use Prim.Native.Nat.{ℕ, zero, suc, _*_, _%_}
-use mathlib.Core.Bool.{not, _&&_}
-use mathlib.Core.List.{List, [], _∷_}
+-- The writer of the survey file: its answer, and its area at exit. Assumes nothing.
+use Prim.Native.Nat.{ℕ, zero, suc}
+use mathlib.Core.Path.{_≡_}
+use mathlib.Core.Logic.{_≢_, _↔_}
+use mathlib.Core.List.{List, _++_}
 use mathlib.Core.Option.{Option, none, some}
-use lib.Dec.{eqb, ltb}
-use lib.ListN.{length}
-use Rattle.error.specs.Tests.{Test, test, firstOf}
-use Rattle.ieee.specs.Finite.{allFinite}
-use Rattle.survey.specs.Survey.{Survey, wells, nodeCount, columns, numbers}
-use Rattle.survey.specs.File.{longestFile, greatestCount, fileOf}
-use Rattle.survey.specs.Areas.{filled}
+use lib.ListN.{length, drop}
+use Rattle.area.specs.Area.{copied}
+use Rattle.error.specs.Numbers.{numberOf}
+use Rattle.error.specs.Rules.{Ruled}
+use Rattle.survey.specs.Survey.{Survey}
+use Rattle.survey_file.specs.declared.Written.{Written}
+use Rattle.survey_file.specs.File.{writerFile}
+use Rattle.survey_file.specs.Rules.{Writable, writerRules}
+use Rattle.survey_file.specs.Refusals.{writerRefusal}
 
--- "The writer puts S = 0": there is no note
-unfoldable pub writerFile : Survey → List ℕ
-unfolding fileOf
-writerFile s = fileOf [] s
-
--- "refuses by 1, 2, 6, 8, 11 (r and t included), 16 (over 65,536 bytes or a count over 65,535), 18, in that order":
--- 1 "coordinates not 2n long", 2 "node list odd", 6 "externals not k·n", 8 "k > 0 and node externals not k·m",
--- 11 "nugget, sill, range, a value, coordinate, external, node or, if k > 0, node external not finite", 18 "for the writer, the file's length"
-abbrev pub writerTests : Survey → List ℕ → List Test
-writerTests s area =
-    test 1 (not (eqb (length (s .coordinates)) (2 * wells s)))
-    ∷ test 2 (not (eqb (length (s .nodes) % 2) 0))
-    ∷ test 6 (not (eqb (length (s .external)) (columns s * wells s)))
-    ∷ test 8 (ltb 0 (columns s) && not (eqb (length (s .nodeExternal)) (columns s * nodeCount s)))
-    ∷ test 11 (not (allFinite (numbers s)))
-    ∷ test 16 (ltb longestFile (length (writerFile s)))
-    ∷ test 16 (ltb greatestCount (wells s))
-    ∷ test 16 (ltb greatestCount (nodeCount s))
-    ∷ test 16 (ltb greatestCount (length (s .codes)))
-    ∷ test 18 (ltb (length area) (length (writerFile s)))
-    ∷ []
-
--- the answer's number and value, how many bytes were written, and the area at exit
-pub record Writing : Type 0 where
+-- how a call ends: the answer's number (0, or the refusal's), how many bytes were written if any were, and the area at exit
+pub record Outcome : Type 0 where
   pub number : ℕ
   pub count : Option ℕ
   pub area : List ℕ
 
--- "A refusal carries only its number and writes nothing"; else the area has the file, and "all past the named lengths is untouched"
-abbrev pub writingOf : ℕ → Survey → List ℕ → Writing
-writingOf zero s area = record { number = 0; count = some (length (writerFile s)); area = filled 0 (writerFile s) area }
-writingOf (suc refusal) s area = record { number = suc refusal; count = none; area = area }
+-- the number and the value of each answer: "A refusal carries only its number"
+abbrev pub outcomeOf : Written → List ℕ → Outcome
+outcomeOf (Written.Done count) area = record { number = 0; count = some count; area = area }
+outcomeOf (Written.Refused refusal) area = record { number = numberOf refusal; count = none; area = area }
 
-unfoldable pub writer : Survey → List ℕ → Writing
-unfolding writerFile numbers firstOf allFinite
-writer s area = writingOf (firstOf (writerTests s area)) s area
+-- the call by its refusal: "A refusal carries only its number and writes nothing"; else the area has the file
+unfoldable pub callWhere : ℕ → ℕ → Survey → List ℕ → Outcome
+unfolding writerFile
+callWhere zero version s area =
+    let file = writerFile version s in
+    record { number = 0; count = some (length file); area = copied 0 file area }
+callWhere (suc k) version s area = record { number = suc k; count = none; area = area }
+
+-- the whole call, for files of a version
+unfoldable pub writer : ℕ → Survey → List ℕ → Outcome
+unfolding callWhere writerRefusal
+writer version s area = callWhere (writerRefusal version s area) version s area
+
+-- ---- how it ends, as the paper says it
+-- an accepted call: the file, its length, and "all past the named lengths is untouched"
+pub record Writes (version : ℕ) (s : Survey) (area : List ℕ) (o : Outcome) : Type 0 where
+  pub count : o .count ≡ some (length (writerFile version s))
+  pub file : o .area ≡ writerFile version s ++ drop (length (writerFile version s)) area
+
+-- a call ended as o: each number exactly when, and what its area holds then
+pub record Ends (version : ℕ) (s : Survey) (area : List ℕ) (o : Outcome) : Type 0 where
+  -- the number is that of the first rule that applies, 0 where none does
+  pub ruled : (k : ℕ) → (o .number ≡ k) ↔ Ruled (writerRules version s area) k
+  pub accepted : (o .number ≡ 0) ↔ Writable version s area
+  -- "A refusal carries only its number and writes nothing"
+  pub refused : o .number ≢ 0 → (o .count ≡ none) × (o .area ≡ area)
+  pub writes : o .number ≡ 0 → Writes version s area o

@@ -1,14 +1,13 @@
 // The survey file: what its reader and its writer answer. The reader fills lent areas with the lists.
 use error::Refusal;
-use variogram::Variogram;
+use survey::UniversalKrigingOptions;
 
-// What a survey file says besides its lists: how long they are, and its single numbers.
+// What a survey file says besides its lists: how many wells, nodes and bases there are, the options, and the tolerance.
 pub struct Header {
     pub wells: usize,
     pub nodes: usize,
-    pub codes: usize,
-    pub variogram: Variogram,
-    pub regularization: f64,
+    pub bases: usize,
+    pub options: UniversalKrigingOptions,
     pub tolerance: f64,
 }
 

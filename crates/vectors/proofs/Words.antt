@@ -1,6 +1,5 @@
 -- Laws of a word's bytes and of the patterns of floats. Assumes nothing.
 use Prim.Native.Nat.{ℕ, suc, _+_, _*_, _%_, _^_, _<_, _≤_}
-use native.Mathlib.Nat.{add-comm, mul-comm}
 use native.Mathlib.Omega.{arith}
 use native.Mathlib.Numerals.{add-one}
 use mathlib.Core.Path.{_≡_, ap, sym, _∙_, subst}
@@ -8,22 +7,26 @@ use mathlib.Core.Bool.{Bool, true, false, not}
 use mathlib.Core.List.{List}
 use lib.Dec.{T}
 use borrow.Author.Tests.{lt-ltb, le-ltb}
-use lib.ListN.{length, getD, List·getD-eq-default}
+use lib.ListN.{length, getD, take, drop, List·getD-eq-default}
 use lib.Pow.{pow-add}
 use lib.Ieee.{Float, nan, inf, fin, binary64, ofBits, nanBits, isNan, eq, ne}
 use lib.Ieee.Bits.{nanBits-is, nanBits-above}
 use lib.Ieee.Compare.{differs-from-itself}
+use Rattle.ieee.specs.Bytes.{numberIn}
+use Rattle.ieee.proofs.Bytes.{number-more}
 use Rattle.ieee.proofs.Fields.{is-nan}
-use Rattle.vectors.specs.Words.{littleEndian}
 
 -- a byte past the end
 pub past : (xs : List ℕ) (i : ℕ) → length xs ≤ i → 0 ≡ getD xs i 0
 past xs i h = sym (List·getD-eq-default xs 0 {n = i} h)
 
+-- the k bytes from a place on, as a number
+abbrev pub bytesAt : List ℕ → ℕ → ℕ → ℕ
+bytesAt xs at k = numberIn (take k (drop at xs))
+
 -- one byte more, below those that a word has already
-pub byte-more : (xs : List ℕ) (at k w : ℕ) → w ≡ littleEndian xs (suc at) k → w * 256 + getD xs at 0 ≡ littleEndian xs at (k + 1)
-unfolding littleEndian
-byte-more xs at k w h = rw (add-one, h) (add-comm (littleEndian xs (suc at) k * 256) (getD xs at 0) ∙ ap (λ (n : ℕ). getD xs at 0 + n) (mul-comm (littleEndian xs (suc at) k) 256))
+pub byte-more : (xs : List ℕ) (at k w : ℕ) → w ≡ bytesAt xs (suc at) k → w * 256 + getD xs at 0 ≡ bytesAt xs at (k + 1)
+byte-more xs at k w h = let e = number-more xs at k in rw add-one (omega arith)
 
 pub room-more : (k w b : ℕ) → w < 2 ^ (8 * k) → b < 256 → w * 256 + b < 2 ^ (8 * (k + 1))
 room-more k w b h g =

@@ -4,19 +4,19 @@ use mathlib.Core.Path.{_≡_, refl, ap, sym, _∙_}
 use native.Mathlib.Omega.{arith}
 use native.Mathlib.Nat.{lt-of-lt-of-le}
 use lib.Pow.{pow-mono}
-use Rattle.vectors.specs.Words.{littleEndian}
-use Rattle.vectors.proofs.Words.{byte-more, room-more}
+use Rattle.ieee.specs.Bytes.{numberIn}
+use Rattle.vectors.proofs.Words.{bytesAt, byte-more, room-more}
 use Rattle.vectors.proofs.word.Statement.{statement}
 use Rattle.vectors.proofs.word.Tie as tie
 
 abbrev Inv-loop : tie.InvT-loop
-Inv-loop bytes at w₀ k₀ w k = (k ≤ 8) × (w ≡ littleEndian bytes (at + (8 - k)) k) × (w < 2 ^ (8 * k))
+Inv-loop bytes at w₀ k₀ w k = (k ≤ 8) × (w ≡ bytesAt bytes (at + (8 - k)) k) × (w < 2 ^ (8 * k))
 
 abbrev μ-loop : tie.MeasureT-loop
 μ-loop bytes at w₀ k₀ w k = 8 - k
 
 loop-holds : tie.Need-loop-holds Inv-loop μ-loop
-unfolding littleEndian
+unfolding numberIn
 loop-holds c = (omega arith, refl, omega arith)
 
 -- before the last byte the word is below 2^56
@@ -48,9 +48,11 @@ loop-again c =
     let start = at .before .before .args .at + (7 - at .loop .k) in
     let here : at .before .before .args .at + (8 - (at .loop .k + 1)) ≡ start = omega arith in
     let next : at .before .before .args .at + (8 - at .loop .k) ≡ suc start = omega arith in
-    let held : at .loop .w ≡ littleEndian xs (suc start) (at .loop .k) = at .loop .inv .1 ∙ ap (λ (n : ℕ). littleEndian xs n (at .loop .k)) next in (
+    let held : at .loop .w ≡ bytesAt xs (suc start) (at .loop .k) = at .loop .inv .1 ∙ ap (λ (n : ℕ). bytesAt xs n (at .loop .k)) next in (
       omega arith,
-      ap (λ (n : ℕ). at .loop .w * 256 + n) (c .byte .ensures .0) ∙ byte-more xs start (at .loop .k) (at .loop .w) held ∙ ap (λ (n : ℕ). littleEndian xs n (at .loop .k + 1)) (sym here),
+      ap (λ (n : ℕ). at .loop .w * 256 + n) (c .byte .ensures .0)
+          ∙ byte-more xs start (at .loop .k) (at .loop .w) held
+          ∙ ap (λ (n : ℕ). bytesAt xs n (at .loop .k + 1)) (sym here),
       room-more (at .loop .k) (at .loop .w) (c .byte .result) (at .loop .inv .2) (c .byte .ensures .1),
     )
 

@@ -3,28 +3,34 @@ use Prim.Native.Nat.{ℕ, zero, suc, _+_, _*_, _/_, _%_, _^_, _<_}
 use native.Mathlib.Nat.{div-lt-iff-lt-mul, pow-suc, mod-lt}
 use native.Mathlib.Omega.{arith}
 use mathlib.Core.Path.{_≡_, refl, ap, ap₂, sym, _∙_, subst}
-use mathlib.Core.Bool.{Bool, true, _&&_}
+use mathlib.Core.Bool.{true}
 use mathlib.Core.List.{List, [], _∷_, _++_}
 use lib.Dec.{T, ltb, lt→ltb, lit<}
-use lib.ListN.{length, take, drop}
+use lib.ListN.{length, getD, take, drop}
 use lib.Ieee.{Float, nan, binary64, fits, toBits, ofBits, nanBits}
 use lib.Ieee.Bits.{ofBits-toBits, toBits-lt, nanBits-is}
 use lib.Ieee.Fits.{and-i, and-l, and-r}
+use Rattle.ieee.specs.Bytes.{littleEndian, numberIn, f64Bytes, f64sIn, allFit, allBytes}
 use Rattle.ieee.proofs.Fields.{is-nan}
-use Rattle.survey.specs.Bytes.{littleEndian, numberIn, f64Bytes, f64sIn}
-
--- every number of the list is an f64, as every number is that the language hands over
-abbrev pub allFit : List Float → Bool
-allFit [] = true
-allFit (x ∷ xs) = fits binary64 x && allFit xs
 
 -- ---- a number in bytes
 pub number-little : (width x : ℕ) → x < 256 ^ width → numberIn (littleEndian width x) ≡ x
 unfolding littleEndian numberIn
 number-little zero x h = omega arith
 number-little (suc width) x h =
-    let smaller : x / 256 < 256 ^ width = div-lt-iff-lt-mul {k = 256} {x = x} {y = 256 ^ width} (lit< tt) .1 (subst (λ (z : ℕ). x < z) (pow-suc 256 width) h) in
+    let smaller : x / 256 < 256 ^ width =
+    div-lt-iff-lt-mul {k = 256} {x = x} {y = 256 ^ width} (lit< tt) .1 (subst (λ (z : ℕ). x < z) (pow-suc 256 width) h) in
     ap (λ (y : ℕ). x % 256 + 256 * y) (number-little width (x / 256) smaller) ∙ (let e : x % 256 + 256 * (x / 256) ≡ x = omega arith in e)
+
+-- one byte more, below those that follow it; a byte past the end counts as 0
+pub number-more : (xs : List ℕ) (at k : ℕ) → numberIn (take (suc k) (drop at xs)) ≡ getD xs at 0 + 256 * numberIn (take k (drop (suc at) xs))
+unfolding numberIn
+number-more [] zero zero = refl
+number-more [] zero (suc k) = refl
+number-more [] (suc at) zero = refl
+number-more [] (suc at) (suc k) = refl
+number-more (x ∷ xs) zero k = refl
+number-more (x ∷ xs) (suc at) k = number-more xs at k
 
 -- ---- f64 in bytes
 pub length-f64Bytes : (xs : List Float) → length (f64Bytes xs) ≡ 8 * length xs
@@ -59,24 +65,24 @@ unfolding f64sIn
 length-f64sIn zero bytes = refl
 length-f64sIn (suc count) bytes = ap suc (length-f64sIn count (drop 8 bytes))
 
--- "all NaNs counting as one": every NaN pattern is read as the one NaN
+-- every NaN pattern is read as the one NaN
 pub nan-pattern : (bytes : List ℕ) → nanBits binary64 (numberIn (take 8 bytes)) ≡ true → f64sIn 1 bytes ≡ nan ∷ []
 unfolding f64sIn
-nan-pattern bytes h = ap {B = List Float} (λ x. x ∷ []) (is-nan (ofBits binary64 (numberIn (take 8 bytes))) (sym (nanBits-is binary64 (numberIn (take 8 bytes))) ∙ h))
+nan-pattern bytes h =
+    let n = numberIn (take 8 bytes) in
+    ap {B = List Float} (λ x. x ∷ []) (is-nan (ofBits binary64 n) (sym (nanBits-is binary64 n) ∙ h))
 
 -- ---- a byte is below 256
-abbrev pub allBytes : List ℕ → Bool
-allBytes [] = true
-allBytes (b ∷ bytes) = ltb b 256 && allBytes bytes
-
 pub bytes-append : (xs ys : List ℕ) → T (allBytes xs) → T (allBytes ys) → T (allBytes (xs ++ ys))
 bytes-append [] ys p q = q
-bytes-append (x ∷ xs) ys p q = and-i (ltb x 256) (allBytes (xs ++ ys)) (and-l (ltb x 256) (allBytes xs) p) (bytes-append xs ys (and-r (ltb x 256) (allBytes xs) p) q)
+bytes-append (x ∷ xs) ys p q =
+    and-i (ltb x 256) (allBytes (xs ++ ys)) (and-l (ltb x 256) (allBytes xs) p) (bytes-append xs ys (and-r (ltb x 256) (allBytes xs) p) q)
 
 pub bytes-little : (width x : ℕ) → T (allBytes (littleEndian width x))
 unfolding littleEndian
 bytes-little zero x = tt
-bytes-little (suc width) x = and-i (ltb (x % 256) 256) (allBytes (littleEndian width (x / 256))) (lt→ltb (x % 256) 256 (mod-lt x (lit< tt))) (bytes-little width (x / 256))
+bytes-little (suc width) x =
+    and-i (ltb (x % 256) 256) (allBytes (littleEndian width (x / 256))) (lt→ltb (x % 256) 256 (mod-lt x (lit< tt))) (bytes-little width (x / 256))
 
 pub bytes-f64 : (xs : List Float) → T (allBytes (f64Bytes xs))
 unfolding f64Bytes
