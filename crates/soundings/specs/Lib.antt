@@ -1,3 +1,4 @@
 pub mod Soundings
 pub mod FitCases
 pub mod InterpolationCases
+pub mod Cases

@@ -126,9 +126,9 @@ pub record Soundings : Type 0 where
   pub A : Answer (oneWell plain) n5 n2 n1 0
   -- "B: (0,0) 2 and (2,0) 6, node (1,0): 4, 1.5, coefficient 0.5, 0. Ordinary interpolation: 4, 1.5."
   pub B : Answer (twoWells n2 n6 n0) n4 n1½ n½ 0
-  pub B-accepted : interpolated query queryAreas .number ≡ 0
-  pub B-figure : interpolated query queryAreas .areas .figures ≡ n4 ∷ []
-  pub B-variance : interpolated query queryAreas .areas .variances ≡ n1½ ∷ []
+  pub B-accepted : interpolated base query queryAreas .number ≡ 0
+  pub B-figure : interpolated base query queryAreas .areas .figures ≡ n4 ∷ []
+  pub B-variance : interpolated base query queryAreas .areas .variances ≡ n1½ ∷ []
   -- "C: A with Linear 0, 1, 0: figure NaN, variance +0, verdict 255."
   pub C : Answer (oneWell (variogram Linear n0 n1 n0)) nan n0 nan 255
   -- "D: B with values 1 and 2^-60: figure 0.5; t = 2^-62 gives verdict 2, t = 2^-61 gives 0."
@@ -141,8 +141,8 @@ pub record Soundings : Type 0 where
   pub F-spherical : semivariance (variogram Spherical n0 n1 n2) n1 ≡ f 0x3fe6_0000_0000_0000
   pub F-linear : semivariance (variogram Linear n1 n4 n2) n2 ≡ n5
   -- "G: bins 2, d = 1, samples 0, 1, 2 with values 0, 2, 4: one bin, 1.5, 4, count 3."
-  pub G-kept : calculated samples (bins (n0 ∷ n0 ∷ []) (n0 ∷ n0 ∷ []) (0 ∷ 0 ∷ [])) .kept ≡ 1
-  pub G : calculated samples (bins (n0 ∷ n0 ∷ []) (n0 ∷ n0 ∷ []) (0 ∷ 0 ∷ [])) .areas ≡ bins (n1½ ∷ n0 ∷ []) (n4 ∷ n0 ∷ []) (3 ∷ 0 ∷ [])
+  pub G-kept : calculated base samples (bins (n0 ∷ n0 ∷ []) (n0 ∷ n0 ∷ []) (0 ∷ 0 ∷ [])) .kept ≡ 1
+  pub G : calculated base samples (bins (n0 ∷ n0 ∷ []) (n0 ∷ n0 ∷ []) (0 ∷ 0 ∷ [])) .areas ≡ bins (n1½ ∷ n0 ∷ []) (n4 ∷ n0 ∷ []) (3 ∷ 0 ∷ [])
   -- "H: root of 2: 3ff6a09e667f3bcd; of 2^-1074: 2^-537."
   pub H-two : sqrtOf n2 ≡ f 0x3ff6_a09e_667f_3bcd
   pub H-smallest : sqrtOf (f 1) ≡ below 537

@@ -6,3 +6,4 @@ pub mod Rules
 pub mod Refusals
 pub mod Reader
 pub mod Writer
+pub mod Cases

@@ -1,0 +1,26 @@
+-- The one lemma that holds the computed cases. Assumes nothing.
+use mathlib.Core.Path.{refl}
+use lib.Ieee.{ofBits, toBits, add, sub, mul, div, lt, le, eq, ofInt, toUnsigned, round}
+use Rattle.semivariogram.specs.Semivariogram.{calculated}
+use Rattle.survey_file.proofs.Cases.{writes-bytes, reads-bytes, reads-noted, writes-models}
+use Rattle.soundings.specs.Cases.{FourBins, Cases}
+use Rattle.soundings.proofs.FitCases.{fit-cases}
+use Rattle.soundings.proofs.InterpolationCases.{interpolation-cases}
+
+four-bins : FourBins
+unfolding calculated add sub mul div lt le eq ofInt toUnsigned round ofBits toBits
+four-bins = refl
+
+pub cases : Cases
+cases = record {
+  fits = fit-cases;
+  interpolations = interpolation-cases;
+  bins = four-bins;
+  file-written = writes-bytes;
+  file-read = reads-bytes;
+  noted-read = reads-noted;
+  model-1 = writes-models .0;
+  model-2 = writes-models .1;
+  model-3 = writes-models .2;
+  model-4 = writes-models .3;
+}
