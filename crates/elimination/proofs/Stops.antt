@@ -12,10 +12,12 @@ use mathlib.Core.List.{List}
 use borrow.Author.Tests.{lt-ltb, le-ltb}
 use borrow.Author.Count.{below-more}
 use lib.ListN.{length}
-use lib.Ieee.{Float}
+use lib.Ieee.{Float, ofBits, lt}
+use Rattle.ieee.specs.Floats.{zeroFloat, absOf, epsilon}
 use Rattle.elimination.specs.declared.Elimination.{Elimination}
 use Rattle.elimination.specs.declared.Elimination.the-variants.{Done, Stopped, TooShort}
-use Rattle.elimination.specs.Elimination.{small, step, Outcome, outcomeOf, run, eliminated, stepped, Through, StopsAt}
+use Rattle.elimination.specs.Elimination.{at, hold, small, step, Outcome, outcomeOf, run, eliminated, stepped, Through, StopsAt}
+use Rattle.elimination.proofs.Hold.{hold-below}
 use Rattle.elimination.proofs.Run.{refuses, begins, stops, goes-on, ends}
 
 -- a step that goes through takes the run one step on
@@ -100,3 +102,18 @@ refused-exactly skip s xs = (λ e. from e (ways skip s s xs (omega arith)), λ l
     from e (short l) = l
     from e (through t) = absurd (done-short _ (answer-of (finished skip s xs t)) e)
     from e (stop j t) = absurd (stopped-short _ j (answer-of (stopped skip s j xs t)) e)
+
+-- ---- a first column of zeros
+below-epsilon : lt (absOf zeroFloat) epsilon ≡ true
+unfolding lt ofBits
+below-epsilon = refl
+
+-- a first column of zeros stops step 0: whichever row is held, its magnitude is 0
+pub zero-column : (skip : Bool) (s : ℕ) (xs : List Float) → 0 < s → 2 * s * s ≤ length xs
+    → ((r : ℕ) → r < s → at (2 * s) xs r 0 ≡ zeroFloat) → StopsAt skip s 0 xs
+unfolding small stepped
+zero-column skip s xs p l z = record {
+  before = record { whole = l; steps = omega arith; none = λ k b. absurd (not-suc-le-zero b) };
+  reached = p;
+  below = ap (λ (x : Float). lt (absOf x) epsilon) (z (hold s 0 xs) (hold-below s 0 xs p)) ∙ below-epsilon;
+}

@@ -25,3 +25,4 @@ pub mod FiniteLists
 pub mod Sums
 pub mod Signs
 pub mod Bytes
+pub mod WithZero

@@ -17,6 +17,7 @@ use Rattle.elimination.specs.Elimination.{at, hold, small, stepped, StopsAt}
 use Rattle.elimination.specs.Call.{Call, Ends}
 use Rattle.elimination.proofs.Hold.{hold-below}
 use Rattle.elimination.proofs.Laid.{kept-laid, laid-left}
+use Rattle.elimination.proofs.Stops.{zero-column}
 use Rattle.elimination.proofs.Call.{kept-work, where-it-stops, ends, whichever}
 use Rattle.survey.specs.declared.Limits.{Limits}
 use Rattle.interpolator.specs.declared.KrigingType.{KrigingType}
@@ -52,20 +53,6 @@ module _ (limits : Limits) (q : Query) (a : Areas) where
 added-some : (t : KrigingType) → 0 < added t
 added-some Ordinary = omega arith
 added-some Universal = omega arith
-
-below-epsilon : lt (absOf zeroFloat) epsilon ≡ true
-unfolding lt ofBits
-below-epsilon = refl
-
--- a first column of zeros stops step 0: whichever row is held, its magnitude is 0
-zero-column : (skip : Bool) (s : ℕ) (xs : List Float) → 0 < s → 2 * s * s ≤ length xs
-    → ((r : ℕ) → r < s → at (2 * s) xs r 0 ≡ zeroFloat) → StopsAt skip s 0 xs
-unfolding small stepped
-zero-column skip s xs p l z = record {
-  before = record { whole = l; steps = omega arith; none = λ k b. absurd (not-suc-le-zero b) };
-  reached = p;
-  below = ap (λ (x : Float). lt (absOf x) epsilon) (z (hold s 0 xs) (hold-below s 0 xs p)) ∙ below-epsilon;
-}
 
 -- "n = 0 gives 19", of Ordinary and of Universal, and the work area holds the matrix beside the identity
 pub no-wells : (limits : Limits) (q : Query) (a : Areas) → NoneApplies (rules limits q a) → wells q ≡ 0

@@ -1,18 +1,14 @@
 -- The diagonal of the matrix is C(0), the sill: a well is at the distance +0 from itself, where the variogram is +0. Assumes nothing.
 use Prim.Native.Nat.{ℕ, _+_, _*_, _<_}
-use native.Mathlib.Nat.{mul-one, zero-mul, add-zero, sub-zero}
 use native.Mathlib.Omega.{arith}
-use mathlib.Core.Path.{_≡_, refl, ap, _∙_}
-use mathlib.Core.Bool.{true, false}
+use mathlib.Core.Path.{_≡_, ap, _∙_}
 use lib.Dec.{T}
 use lib.ListN.{length}
-use lib.Ieee.{Float, nan, inf, fin, binary64, up, down, sub, ofBits, fits}
-use lib.Ieee.Fits.{down-pos}
-use borrow.Author.Tests.{lt-ltb, le-ltb}
+use lib.Ieee.{Float, binary64, sub, fits}
+use borrow.Author.Tests.{lt-ltb}
 use Rattle.area.proofs.Rows.{row-end}
 use Rattle.error.specs.Rules.{NoneApplies}
-use Rattle.ieee.specs.Floats.{zeroFloat}
-use Rattle.ieee.proofs.Own.{round-own}
+use Rattle.ieee.proofs.WithZero.{less-zero}
 use Rattle.variogram.specs.Model.{semivariance}
 use Rattle.variogram.specs.Distance.{distance}
 use Rattle.variogram.proofs.Itself.{distance-itself, variogram-itself}
@@ -21,17 +17,6 @@ use Rattle.interpolator.specs.Call.{Query, Areas, wells}
 use Rattle.interpolator.specs.Rules.{rules}
 use Rattle.interpolator.specs.Assembly.{covariance, column, entry}
 use Rattle.interpolator.proofs.Accepted.{accepted}
-
--- a number less +0 is that number
-less-zero : (x : Float) → T (fits binary64 x) → sub binary64 x zeroFloat ≡ x
-unfolding sub ofBits
-less-zero nan f = refl
-less-zero (inf s) f = refl
-less-zero (fin true m e) f =
-    rw (zero-mul (down e), add-zero, mul-one (m * up e), mul-one (down e)) (round-own (fin true m e) true (m * up e) (down e) f (down-pos e) (refl, refl))
-less-zero (fin false m e) f =
-    rw (zero-mul (down e), le-ltb (m * up e * 1) 0 (omega arith), sub-zero, mul-one (m * up e), mul-one (down e))
-    (round-own (fin false m e) false (m * up e) (down e) f (down-pos e) (refl, refl))
 
 own-entry : (q : Query) (i : ℕ) → i < wells q
     → entry q i i ≡ sub binary64 (q .variogram .sill) (semivariance (q .variogram) (distance (q .points) i (q .points) i (q .dimension)))

@@ -1,5 +1,4 @@
 pub mod Model
-pub mod Zero
 pub mod Squares
 pub mod Distance
 pub mod Itself

@@ -10,7 +10,7 @@ use lib.Ieee.Fits.{mul-fits}
 use borrow.Author.Tests.{ltb-true, ltb-false}
 use Rattle.ieee.specs.Floats.{zeroFloat, absOf}
 use Rattle.variogram.specs.Distance.{square}
-use Rattle.variogram.proofs.Zero.{plus-zero}
+use Rattle.ieee.proofs.WithZero.{plus-zero}
 
 -- ---- the magnitude of what is rounded is the rounded magnitude
 abs-odd : (d : ℕ) (s : Bool) (q k l : ℕ) → absOf (odd d s q k l) ≡ odd d false q k l

@@ -1,5 +1,5 @@
 // Replays inverses of the original Rust, and then whole work areas by another reading of the paper: standard input has a record for each,
-// as tools/oracle/make_vectors.py and tools/oracle/elimination_areas.py wrote them.
+// as tools/generators/elimination.py wrote them.
 // Writes a line for each record that comes out otherwise, and then how many were compared and how many differ.
 ghost use Prim.Native.Nat.{_≤_};
 use elimination::Elimination;

@@ -1,4 +1,4 @@
-// Replays variograms and distances of the original Rust: standard input has a record of eight words for each, as tools/oracle/variogram_vectors.py wrote it.
+// Replays variograms and distances of the original Rust: standard input has a record of eight words for each, as tools/generators/variogram.py wrote it.
 // Writes a line for each record that comes out otherwise, and then how many were compared and how many differ.
 use libc::STDIN_FILENO;
 use variogram::Variogram;
