@@ -7,7 +7,7 @@ use lib.Ieee.{Float}
 use lib.Ieee.Scale.{finite}
 use Rattle.error.specs.Tests.{all}
 use Rattle.error.proofs.Tells.{Tells, told-as, opposite, both, not-both, each, one-fails, passes}
-use Rattle.audit.specs.Audit.{Weighed, Audited, driftFinite, finiteGiven, columnsFinite}
+use Rattle.audit.specs.Audit.{Audited, driftFinite, finiteGiven, columnsFinite}
 use Rattle.audit.specs.Trend.{AllFinite, SomeNotFinite, aWeight, anEntry, aNodeEntry, theFigure}
 
 -- every number below k has a finite f, and one of them has not

@@ -2,14 +2,14 @@
 use Prim.Native.Nat.{ℕ, suc, _+_, _≤_, _<_}
 use native.Mathlib.Decide.{decLt}
 use native.Mathlib.Omega.{arith}
-use mathlib.Core.Path.{_≡_, refl, sym, ap, _∙_, subst}
+use mathlib.Core.Path.{_≡_, refl, subst}
 use mathlib.Core.Bool.{Bool, true, false, not, _&&_, cond}
 use borrow.Author.Tests.{ne-eqb}
 use lib.Dec.{T, eqb}
 use lib.Ieee.Scale.{finite}
 use Rattle.error.proofs.Tells.{Tells}
 use Rattle.exact.specs.Units.{units}
-use Rattle.audit.specs.Audit.{Weighed, Audited, unit, columnsFinite, columnMet, firstMissed, columnVerdictGiven, columnVerdict, figureMet, verdictWith, verdictOf}
+use Rattle.audit.specs.Audit.{Audited, unit, columnsFinite, columnMet, firstMissed, columnVerdictGiven, columnVerdict, figureMet, verdictWith, verdictOf}
 use Rattle.audit.specs.Trend.{AllFinite, SomeNotFinite, Close, Met, MetBefore, Verdict, TrendBound}
 use Rattle.audit.proofs.Finite.{finite-told, not-finite-told, finite-clash}
 use Rattle.audit.proofs.Rows.{First, none, one, first-missed, column-told, figure-told}

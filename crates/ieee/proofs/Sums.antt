@@ -1,8 +1,8 @@
 -- Laws of sums in turn: a sum goes on from where its first terms ended, and the same terms have the same sum. Assumes nothing.
 use Prim.Native.Nat.{ℕ, zero, suc, _+_, _<_}
-use native.Mathlib.Nat.{add-zero, add-suc, not-suc-le-zero}
+use native.Mathlib.Nat.{add-zero, add-suc}
 use native.Mathlib.Omega.{arith}
-use mathlib.Core.Path.{_≡_, refl, ap, ap₂, sym, _∙_}
+use mathlib.Core.Path.{_≡_, refl, ap, ap₂, _∙_}
 use lib.Ieee.{Float, binary64, add, sub}
 use Rattle.ieee.specs.Sums.{addEach, runningSum, lessEach}
 

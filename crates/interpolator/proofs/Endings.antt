@@ -1,21 +1,16 @@
 -- How a call of the interpolator ends, and what it leaves in its areas. Assumes nothing.
-use Prim.Native.Nat.{ℕ, _*_, _≤_, _<_}
-use native.Mathlib.Nat.{not-suc-le-zero}
+use Prim.Native.Nat.{_<_}
 use native.Mathlib.Omega.{arith}
-use mathlib.Core.Path.{_≡_, refl, ap, _∙_}
-use mathlib.Core.Bool.{Bool, true, false}
-use mathlib.Core.List.{List}
-use lib.ListN.{length}
-use lib.Ieee.{Float, nan, ofBits, lt}
+use mathlib.Core.Path.{_≡_, refl, _∙_}
+use mathlib.Core.Bool.{false}
+use lib.Ieee.{nan}
 use Rattle.area.proofs.Kept.{kept-same}
 use Rattle.area.proofs.Start.{kept-start}
 use Rattle.error.specs.Outcome.{outcome}
 use Rattle.error.specs.Rules.{NoneApplies}
 use Rattle.error.proofs.Rules.{none-exactly}
-use Rattle.ieee.specs.Floats.{zeroFloat, absOf, epsilon}
-use Rattle.elimination.specs.Elimination.{at, hold, small, stepped, StopsAt}
+use Rattle.elimination.specs.Elimination.{stepped}
 use Rattle.elimination.specs.Call.{Call, Ends}
-use Rattle.elimination.proofs.Hold.{hold-below}
 use Rattle.elimination.proofs.Laid.{kept-laid, laid-left}
 use Rattle.elimination.proofs.Stops.{zero-column}
 use Rattle.elimination.proofs.Call.{kept-work, where-it-stops, ends, whichever}

@@ -11,7 +11,6 @@ use lib.Ieee.Scale.{finite}
 use Rattle.area.proofs.Kept.{kept-same}
 use Rattle.area.proofs.Start.{kept-start}
 use Rattle.error.specs.Rules.{NoneApplies, Condition, Lowest}
-use Rattle.error.specs.Outcome.{Outcome}
 use Rattle.error.proofs.Tells.{stable, equal, either, below}
 use Rattle.error.proofs.Rules.{Told, no-more, tells, joined, no-condition, lowest-wins}
 use Rattle.ieee.proofs.FiniteLists.{is-finite}
@@ -24,7 +23,7 @@ use Rattle.survey.proofs.Told.{survey-told}
 use Rattle.kriging.specs.Areas.{Areas, withWork}
 use Rattle.kriging.specs.Assembly.{assembled}
 use Rattle.kriging.specs.Node.{nodeOf}
-use Rattle.kriging.specs.Refusals.{ShortAnswer, answerTests, answerRules, tests, rules, refusal}
+use Rattle.kriging.specs.Refusals.{answerTests, answerRules, tests, rules, refusal}
 use Rattle.kriging.specs.Fit.{answered, fitCall, fitted}
 use Rattle.kriging.specs.Untouched.{Untouched}
 

@@ -1,8 +1,8 @@
 -- What a node gets, in the terms of the kriging system: z is the inverse times the system's right-hand side, the figure is Σ λ_i value_i, the variance
 -- Σ_i λ_i γ(x_i, x_0) + Σ_l μ_l f_l(x_0), clamped, and the coefficients are the μ of the last node. Read off the areas of every accepted fit. Assumes nothing.
-use Prim.Native.Nat.{ℕ, _+_, _-_, _*_, _<_}
+use Prim.Native.Nat.{ℕ, _+_, _-_}
 use native.Mathlib.Omega.{arith}
-use mathlib.Core.Path.{_≡_, refl, ap, sym, _∙_, subst}
+use mathlib.Core.Path.{_≡_, ap, _∙_}
 use mathlib.Core.Bool.{Bool, cond}
 use mathlib.Core.List.{List}
 use borrow.Author.Tests.{eq-eqb, ne-eqb}

@@ -1,13 +1,12 @@
 -- DEMAND 3 of every fit, read off its areas at exit. Assumes nothing.
 use Prim.Native.Nat.{ℕ, _≤_, _<_}
 use native.Mathlib.Nat.{le-trans}
-use native.Mathlib.Omega.{arith}
 use mathlib.Core.Path.{_≡_, refl, sym, _∙_, subst}
 use lib.Ieee.{nan}
 use Rattle.survey.specs.declared.Limits.{Limits}
 use Rattle.survey.specs.Survey.{Survey, nodeCount}
-use Rattle.audit.specs.Audit.{Audited, columnVerdict, verdictWith, verdictOf}
-use Rattle.audit.specs.Trend.{Verdict, TrendBound}
+use Rattle.audit.specs.Audit.{Audited, verdictOf}
+use Rattle.audit.specs.Trend.{Verdict}
 use Rattle.audit.proofs.Same.{same-verdict}
 use Rattle.audit.proofs.Verdict.{verdict-is, trend-bound}
 use Rattle.kriging.specs.Areas.{Areas}

@@ -3,11 +3,10 @@
 use Prim.Native.Nat.{ℕ, _-_, _*_, _/_, _^_, _≤_, _<_, min}
 use native.Mathlib.Nat.{mul-div-cancel}
 use native.Mathlib.Omega.{arith}
-use mathlib.Core.Path.{_≡_, refl, ap, sym, subst, _∙_}
+use mathlib.Core.Path.{_≡_, refl, ap, sym, _∙_}
 use mathlib.Core.Logic.{_⊎_, inl, inr}
 use mathlib.Core.Bool.{Bool, true, false, cond, true≢false}
 use lib.Dec.{T, eqb}
-use lib.IntN.{pos}
 use lib.Pow.{pow-pos}
 use lib.Ieee.{Float, nan, inf, fin, binary64, fits, up, down, round, div, ofInt, toUnsigned}
 use lib.Ieee.Fits.{div-fits}
@@ -18,7 +17,7 @@ use Rattle.ieee.specs.Whole.{GreatestWhole}
 use Rattle.ieee.proofs.FloorCases.{ones-of}
 use Rattle.ieee.proofs.FloorLaw.{floor-multiple, floor-greatest}
 use Rattle.ieee.proofs.Signs.{Signed, infinite, number, round-signed}
-use Rattle.semivariogram.specs.Pairs.{Pair, pair, pairs}
+use Rattle.semivariogram.specs.Pairs.{Pair, pair}
 use Rattle.semivariogram.specs.Call.{Samples, Areas, samples}
 use Rattle.semivariogram.specs.Bins.{asFloat, lag, longest, width, binOf}
 use Rattle.semivariogram.specs.Binned.{quotient, BinOf}

@@ -1,21 +1,21 @@
 -- How the semivariogram's call ends: each number exactly when; a refusal writes nothing; and of an accepted call the counts written add up to n(n−1)/2, each
 -- kept bin is written at its rank with its centre, its average over the pairs whose bin it is, and their number, and nothing else is written. Assumes nothing.
-use Prim.Native.Nat.{ℕ, zero, suc, _-_, _*_, _/_, _≤_, _<_}
+use Prim.Native.Nat.{ℕ, zero, suc, _-_, _≤_, _<_}
 use native.Mathlib.Nat.{zero-add, sub-zero}
 use native.Mathlib.Omega.{arith}
 use mathlib.Core.Path.{_≡_, refl, ap, sym, subst, _∙_}
 use mathlib.Core.Logic.{_≢_, _↔_}
 use mathlib.Core.List.{List}
-use lib.ListN.{length, getD, take}
+use lib.ListN.{length, getD}
 use lib.Ieee.{nan, binary64, add, mul, div}
 use borrow.Author.Tests.{lt-ltb, ltb-true}
-use Rattle.area.specs.Area.{written, Kept}
+use Rattle.area.specs.Area.{written}
 use Rattle.area.proofs.Start.{from-start, kept-start, take-mapped}
-use Rattle.error.specs.Rules.{Ruled, NoneApplies}
+use Rattle.error.specs.Rules.{Ruled}
 use Rattle.error.proofs.Rules.{ruled-exactly}
 use Rattle.survey.specs.declared.Limits.{Limits}
 use Rattle.semivariogram.specs.Pairs.{rising, filtered}
-use Rattle.semivariogram.specs.Call.{Samples, Areas, Outcome, samples}
+use Rattle.semivariogram.specs.Call.{Samples, Areas, Outcome}
 use Rattle.semivariogram.specs.Rules.{rules}
 use Rattle.semivariogram.specs.Refusals.{refusal}
 use Rattle.semivariogram.specs.Bins.{asFloat, half, longest, width, count, average, centre, keptBins, filled}

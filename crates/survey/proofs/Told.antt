@@ -14,7 +14,7 @@ use Rattle.variogram.specs.declared.Variogram.{Variogram}
 use Rattle.variogram.proofs.Model.{not-offered}
 use Rattle.survey.specs.declared.Limits.{Limits}
 use Rattle.survey.specs.Survey.{Survey, wells, columns, externals}
-use Rattle.survey.specs.Rules.{WrongCoords, OddNodes, BadCode, SomeBadCode, BadAmount, WrongExternal, WrongNodeExternal, TooMany, VariogramNotFinite, NumberNotFinite, WrongModel}
+use Rattle.survey.specs.Rules.{WrongCoords, OddNodes, BadCode, SomeBadCode, BadAmount, WrongExternal, WrongNodeExternal, TooMany, VariogramNotFinite, NumberNotFinite}
 use Rattle.survey.specs.Rules.{listRules, limitRules, numberRules, modelRules, surveyRules}
 use Rattle.survey.specs.Refusals.{wrongCoords, oddNodes, badCode, badAmount, wrongExternal, wrongNodeExternal, tooMany, variogramNotFinite, numberNotFinite, wrongModel}
 use Rattle.survey.specs.Refusals.{listTests, limitTests, numberTests, modelTests, surveyTests}

@@ -7,7 +7,6 @@ use lib.ListN.{drop, replicate}
 use lib.Ieee.{Float, ofBits}
 use Rattle.variogram.specs.declared.VariogramModel.the-variants.{Spherical, Exponential, Gaussian, Linear}
 use Rattle.survey_file.specs.File.{baseVersion, writerFile}
-use Rattle.survey_file.specs.Areas.{Areas}
 use Rattle.survey_file.specs.Reader.{readBytes, reader}
 use Rattle.survey_file.specs.Cases.{survey, file, noted, bare, withModel}
 

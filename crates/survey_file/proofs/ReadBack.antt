@@ -10,7 +10,7 @@ use lib.Seq.{take-at, drop-at}
 use lib.Ieee.{Float}
 use lib.Ieee.Fits.{and-i}
 use Rattle.area.specs.Area.{part}
-use Rattle.ieee.specs.Bytes.{littleEndian, numberIn, f64Bytes, f64sIn, allFit, allBytes}
+use Rattle.ieee.specs.Bytes.{littleEndian, numberIn, f64Bytes, f64sIn, allBytes}
 use Rattle.ieee.proofs.Bytes.{number-little, length-f64Bytes, f64s-back, bytes-append, bytes-little, bytes-f64}
 use Rattle.variogram.specs.declared.VariogramModel.{VariogramModel}
 use Rattle.variogram.specs.declared.VariogramModel.the-variants.{Spherical, Exponential, Gaussian, Linear}

@@ -12,7 +12,7 @@ use Rattle.survey_file.specs.Areas.{Areas, filledWith}
 use Rattle.survey_file.specs.Trailer.{wellsIn, nodesIn, basesIn}
 use Rattle.survey_file.specs.Rules.{WellFormed, Room, readerRules}
 use Rattle.survey_file.specs.Refusals.{readerRefusal}
-use Rattle.survey_file.specs.Reader.{surveyIn, readBytes, headerOf, Outcome, callWhere, reader, Reads, Ends}
+use Rattle.survey_file.specs.Reader.{surveyIn, readBytes, headerOf, callWhere, reader, Reads, Ends}
 use Rattle.survey_file.proofs.Told.{reader-told}
 use Rattle.survey_file.proofs.WellFormed.{well-formed-exactly, malformed-exactly, room-exactly, short-exactly, reads, read-well-formed, refused-exactly}
 use Rattle.survey_file.proofs.Lengths.{lengths, filled}
