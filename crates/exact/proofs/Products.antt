@@ -100,18 +100,21 @@ module _ (z f : List Float) (column width : ℕ) where
   abbrev pub productAt : ℕ → ℤ
   productAt i = units (getD z i nan) *ℤ units (getD f (column + i * width) nan)
 
+  -- the words of a sum and of the first i products
+  abbrev pub summed : List ℕ → ℕ → List ℕ
+  summed sum i = held (reading sum +ℤ sumℤ i productAt)
+
   -- one more
-  pub one-more : (sum total next : List ℕ) (i : ℕ) → total ≡ held (reading sum +ℤ sumℤ i productAt) → next ≡ held (reading total +ℤ productAt i)
-      → next ≡ held (reading sum +ℤ sumℤ (i + 1) productAt)
+  pub one-more : (sum total next : List ℕ) (i : ℕ) → total ≡ summed sum i → next ≡ held (reading total +ℤ productAt i) → next ≡ summed sum (i + 1)
   one-more sum total next i h e =
       e ∙ ap (λ (ws : List ℕ). held (reading ws +ℤ productAt i)) h
       ∙ held-add (reading sum +ℤ sumℤ i productAt) (productAt i)
       ∙ ap held (+ℤ-assoc (reading sum) (sumℤ i productAt) (productAt i) ∙ ap (λ (n : ℕ). reading sum +ℤ sumℤ n productAt) (sym (add-one i)))
 
   -- past the end of f there is nothing to add
-  pub column-ends : (j : ℕ) → j ≤ length z → length f ≤ column + j * width → dotted z f column width ≡ sumℤ j productAt
+  pub column-ends : (sum : List ℕ) (j : ℕ) → j ≤ length z → length f ≤ column + j * width → summed sum j ≡ held (reading sum +ℤ dotted z f column width)
   unfolding dotted
-  column-ends j l past = sumℤ-ends (length z) j productAt l none
+  column-ends sum j l past = ap (λ (x : ℤ). held (reading sum +ℤ x)) (sym (sumℤ-ends (length z) j productAt l none))
     where
       none : (i : ℕ) → j ≤ i → productAt i ≡ pos 0
       none i h =
