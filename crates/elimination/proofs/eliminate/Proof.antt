@@ -48,7 +48,8 @@ at-divide c = c .before .before .before
 abbrev size-of : State tie.At-loop → ℕ
 size-of l = at-entry (l .before) .args .size
 
--- The needs, each below the line of src/ that it is for.
+-- The needs, grouped below the lines of src/ that they are for.
+
 -- if too_short(work.len(), size)
 too-short-requires : tie.Need-too-short-requires Inv-loop μ-loop
 too-short-requires c κs = search needs

@@ -39,7 +39,8 @@ at-test c = c .before .before .before
 abbrev at-term : State tie.After-step-word3 → State tie.After-term-of
 at-term c = c .before .before .before
 
--- The needs, each below the line of src/ that it is for.
+-- The needs, grouped below the lines of src/ that they are for.
+
 -- while i < z.len()
 loop-holds : tie.Need-loop-holds Inv-loop μ-loop
 loop-holds c =
