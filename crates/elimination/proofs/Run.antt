@@ -12,14 +12,20 @@ use Rattle.area.specs.Area.{written}
 use Rattle.area.proofs.Places.{as-it-was}
 use Rattle.elimination.specs.declared.Elimination.the-variants.{Done, Stopped, TooShort}
 use Rattle.ieee.specs.Floats.{epsilon}
-use Rattle.elimination.specs.Elimination.{at, magnitude, hold, small, swapped, step, outcomeOf, run, eliminated}
+use Rattle.elimination.specs.Elimination.{at, magnitude, hold, small, swapped, divided, cleared, step, outcomeOf, run, eliminated}
 
 -- a row changes places with itself: nothing changes, so the code may leave it out
-pub swap-self : (w i : ℕ) (xs : List Float) → swapped w i i xs ≡ xs
+pub swap-self : (w i r : ℕ) (xs : List Float) → r ≡ i → swapped w i r xs ≡ xs
 unfolding swapped
-swap-self w i xs =
+swap-self w i r xs e =
     let same : written (i * w) w (at w xs i) xs ≡ xs = as-it-was (i * w) w (at w xs i) xs nan (λ j b. refl) in
-    rw (same, same)
+    rw (e, same, same)
+
+-- the stages, one after the other, are one step
+pub staged : (skip : Bool) (s i : ℕ) (xs : List Float) {ys zs vs : List Float} → ys ≡ swapped (2 * s) i (hold s i xs) xs
+    → zs ≡ divided (2 * s) i ys → vs ≡ cleared skip (2 * s) i s zs → vs ≡ step skip s i xs
+unfolding step
+staged skip s i xs a b c = c ∙ ap (cleared skip (2 * s) i s) (b ∙ ap (divided (2 * s) i) a)
 
 -- the test of the magnitude in hand is the step's
 pub same-test : (s i r : ℕ) (v : Float) (xs : List Float) (b : Bool) → r ≡ hold s i xs → v ≡ magnitude (2 * s) i xs r

@@ -67,7 +67,8 @@ module _ (s : Bool) (ws : List ℕ) (k low middle high x₀ c₀ x₁ c₁ x₂ 
         turn s n n (number first) t (getD ws k 0) x₀ low 0 c₀ rest p (number-set ws k x₀ in₀) (whole-moved s _ x₀ (low + 0) (2 ^ 64 * c₀) e₀) m₀ in
         let m₂ : Moved s n (number second) t ((c₁ + high) * (2 ^ 64 * q)) =
         turn s n (number first) (number second) t (getD first (k + 1) 0) x₁ middle c₀ c₁ high q (number-set first (k + 1) x₁ in₁)
-        (whole-moved s _ x₁ (middle + c₀) (2 ^ 64 * c₁) e₁) (subst (λ (x : ℕ). Moved s n (number first) t ((c₀ + (middle + 2 ^ 64 * high)) * x)) (sym (up k)) m₁) in
+        (whole-moved s _ x₁ (middle + c₀) (2 ^ 64 * c₁) e₁)
+        (subst (λ (x : ℕ). Moved s n (number first) t ((c₀ + (middle + 2 ^ 64 * high)) * x)) (sym (up k)) m₁) in
         let last : (c₁ + high) * (2 ^ 64 * q) ≡ (c₁ + (high + 2 ^ 64 * 0)) * r = ap₂ (λ (x y : ℕ). (c₁ + x) * y) (sym (add-zero high)) (sym above) in
         let m₃ : Moved s n (number third) t ((c₂ + 0) * (2 ^ 64 * r)) =
         turn s n (number second) (number third) t (getD second (k + 2) 0) x₂ high c₁ c₂ 0 r (number-set second (k + 2) x₂ in₂)
@@ -80,7 +81,9 @@ module _ (s : Bool) (ws : List ℕ) (k low middle high x₀ c₀ x₁ c₁ x₂ 
         → (z : ℤ) → z ≡ signed s (whole * 2 ^ (64 * k)) → next ≡ held (reading ws +ℤ z)
     product-added w l b₀ b₁ b₂ small next came z e =
         ⊎-elim
-        (λ h. moved-on s third ws next (whole * 2 ^ (64 * k)) (2 ^ (64 * (k + 3))) (subst (λ (x : ℕ). Moved s (number ws) (number third) (whole * 2 ^ (64 * k)) x) (one (h .0)) three-words) (h .1))
+        (λ h.
+        moved-on s third ws next (whole * 2 ^ (64 * k)) (2 ^ (64 * (k + 3)))
+        (subst (λ (x : ℕ). Moved s (number ws) (number third) (whole * 2 ^ (64 * k)) x) (one (h .0)) three-words) (h .1))
         (λ h. h .1 ∙ moved-held s third ws words size (whole * 2 ^ (64 * k)) c₂ (k + 3) (inl (h .0)) three-words)
         came
         ∙ ap (λ (y : ℤ). held (reading ws +ℤ y)) (sym e)
@@ -100,18 +103,21 @@ module _ (z f : List Float) (column width : ℕ) where
   abbrev pub productAt : ℕ → ℤ
   productAt i = units (getD z i nan) *ℤ units (getD f (column + i * width) nan)
 
+  -- the words of a sum and of the first i products
+  abbrev pub summed : List ℕ → ℕ → List ℕ
+  summed sum i = held (reading sum +ℤ sumℤ i productAt)
+
   -- one more
-  pub one-more : (sum total next : List ℕ) (i : ℕ) → total ≡ held (reading sum +ℤ sumℤ i productAt) → next ≡ held (reading total +ℤ productAt i)
-      → next ≡ held (reading sum +ℤ sumℤ (i + 1) productAt)
+  pub one-more : (sum total next : List ℕ) (i : ℕ) → total ≡ summed sum i → next ≡ held (reading total +ℤ productAt i) → next ≡ summed sum (i + 1)
   one-more sum total next i h e =
       e ∙ ap (λ (ws : List ℕ). held (reading ws +ℤ productAt i)) h
       ∙ held-add (reading sum +ℤ sumℤ i productAt) (productAt i)
       ∙ ap held (+ℤ-assoc (reading sum) (sumℤ i productAt) (productAt i) ∙ ap (λ (n : ℕ). reading sum +ℤ sumℤ n productAt) (sym (add-one i)))
 
   -- past the end of f there is nothing to add
-  pub column-ends : (j : ℕ) → j ≤ length z → length f ≤ column + j * width → dotted z f column width ≡ sumℤ j productAt
+  pub column-ends : (sum : List ℕ) (j : ℕ) → j ≤ length z → length f ≤ column + j * width → summed sum j ≡ held (reading sum +ℤ dotted z f column width)
   unfolding dotted
-  column-ends j l past = sumℤ-ends (length z) j productAt l none
+  column-ends sum j l past = ap (λ (x : ℤ). held (reading sum +ℤ x)) (sym (sumℤ-ends (length z) j productAt l none))
     where
       none : (i : ℕ) → j ≤ i → productAt i ≡ pos 0
       none i h =

@@ -20,18 +20,36 @@ Inv-loop work₀ size i skip width k₀ work k =
 abbrev μ-loop : tie.MeasureT-loop
 μ-loop work₀ size i skip width k₀ work k = size - k
 
+-- The states that the needs look back to, in the order of the code: a name takes a later state back to its own.
+abbrev State : (tie.InvT-loop → tie.MeasureT-loop → Type 0) → Type 0
+State S = S Inv-loop μ-loop
+
+abbrev at-entry : State tie.In-loop → State tie.Start
+at-entry c = c .before .before .before
+
+abbrev at-turn : State tie.Joined2 → State tie.In-loop
+at-turn c = c .before .before .before
+
+-- The needs, grouped below the lines of src/ that they are for.
+
+-- let width = 2 * size;
 mul-width : tie.Need-mul-width Inv-loop μ-loop
-mul-width c = omega (arith, row-inside (c .before .args .size) (c .before .args .i) (length (c .before .args .work .now)) (c .before .pre .0) (c .before .pre .1))
+mul-width c =
+    let s = c .before in
+    omega (arith, row-inside (s .args .size) (s .args .i) (length (s .args .work .now)) (s .pre .0) (s .pre .1))
 
--- row k, in a turn, lies inside
-in-row : (c : tie.In-loop Inv-loop μ-loop)
-    → c .before .loop .k * (2 * c .before .before .before .args .size) + 2 * c .before .before .before .args .size ≤ length (c .before .loop .work)
-in-row c = omega (arith, row-inside (c .before .before .before .args .size) (c .before .loop .k) (length (c .before .loop .work)) (c .loop-test .taken) (omega arith))
-
+-- for k in 0..size
 loop-holds : tie.Need-loop-holds Inv-loop μ-loop
 unfolding cleared
 loop-holds c = (omega arith, refl, omega arith, omega arith, refl, refl)
 
+-- row k lies inside
+in-row : (c : State tie.In-loop) → let w = 2 * at-entry c .args .size in c .before .loop .k * w + w ≤ length (c .before .loop .work)
+in-row c =
+    let l = c .before .loop in
+    omega (arith, row-inside (at-entry c .args .size) (l .k) (length (l .work)) (c .loop-test .taken) (omega arith))
+
+-- let factor = work[k * width + i];
 mul-factor : tie.Need-mul-factor Inv-loop μ-loop
 mul-factor c = omega (arith, in-row (c .before))
 
@@ -44,13 +62,15 @@ mul-factor-2 c = omega (arith, in-row (c .before))
 slice-read-factor : tie.Need-slice-read-factor Inv-loop μ-loop
 slice-read-factor c = omega (arith, in-row (c .before .before))
 
+-- clear_row(work, width, i, k, factor);
 clear-row-requires : tie.Need-clear-row-requires Inv-loop μ-loop
 clear-row-requires c κs =
-    let t = c .before .before .before .before in
-    let a = t .before .before .before .args in
+    let t = at-turn (c .before) in
+    let a = at-entry t .args in
     let l = t .before .loop in
     (omega (arith, c .before .before .before .if1 .taken), omega (arith, row-inside (a .size) (a .i) (length (l .work)) (omega arith) (omega arith)), in-row t)
 
+-- for k in 0..size
 add-k : tie.Need-add-k Inv-loop μ-loop
 add-k c = omega arith
 
@@ -60,7 +80,7 @@ loop-less c = omega arith
 loop-again : tie.Need-loop-again Inv-loop μ-loop
 loop-again c =
     let l = c .before .before .loop in
-    let a = c .before .before .before .before .args in
+    let a = at-entry (c .before) .args in
     let w = 2 * a .size in
     let xs = a .work .now in
     let e : c .if1 .work ≡ cleared (a .skip) w (a .i) (l .k + 1) xs =
@@ -79,6 +99,7 @@ loop-again c =
     (c .if1 .came) in
     (omega arith, refl, omega arith, omega arith, ap length e ∙ kept-cleared w (a .size) (a .skip) (a .i) (l .k + 1) xs (omega arith) .len, e)
 
+-- fn clear_others(work: &mut [f64], size: usize, i: usize, skip: bool)
 same-length : tie.Need-same-length Inv-loop μ-loop
 same-length c = search needs
 

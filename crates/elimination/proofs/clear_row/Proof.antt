@@ -20,73 +20,66 @@ Inv-loop work₀ width i k factor row other j₀ work j =
 abbrev μ-loop : tie.MeasureT-loop
 μ-loop work₀ width i k factor row other j₀ work j = width - j
 
--- src/lib.rt:134:15
+-- let row = i * width;
 mul-row : tie.Need-mul-row Inv-loop μ-loop
 mul-row c = omega arith
 
--- src/lib.rt:135:17
+-- let other = k * width;
 mul-other : tie.Need-mul-other Inv-loop μ-loop
 mul-other c = omega arith
 
--- src/lib.rt:136:5
+-- for j in 0..width
 loop-holds : tie.Need-loop-holds Inv-loop μ-loop
 loop-holds c = (omega arith, refl, refl, refl, omega arith, omega arith, refl)
 
--- src/lib.rt:137:42
+-- work[other + j] -= factor * work[row + j];
 add-work : tie.Need-add-work Inv-loop μ-loop
 add-work c = omega arith
 
--- src/lib.rt:137:37
 mul-work : tie.Need-mul-work Inv-loop μ-loop
 mul-work c = omega arith
 
--- src/lib.rt:137:37
 slice-read-work : tie.Need-slice-read-work Inv-loop μ-loop
 slice-read-work c = omega arith
 
--- src/lib.rt:137:14
 add-work-2 : tie.Need-add-work-2 Inv-loop μ-loop
 add-work-2 c = omega arith
 
--- src/lib.rt:137:9
 mul-work-2 : tie.Need-mul-work-2 Inv-loop μ-loop
 mul-work-2 c = omega arith
 
--- src/lib.rt:137:9
 slice-read-work-2 : tie.Need-slice-read-work-2 Inv-loop μ-loop
 slice-read-work-2 c = omega arith
 
--- src/lib.rt:137:9
 slice-write-work : tie.Need-slice-write-work Inv-loop μ-loop
 slice-write-work c = omega arith
 
--- src/lib.rt:136:9
+-- for j in 0..width
 add-j : tie.Need-add-j Inv-loop μ-loop
 add-j c = omega arith
 
--- src/lib.rt:136:5
 loop-less : tie.Need-loop-less Inv-loop μ-loop
 loop-less c = omega arith
 
--- src/lib.rt:136:5
 loop-again : tie.Need-loop-again Inv-loop μ-loop
 loop-again c =
-    let l = c .before .before .before .loop in
-    let a = c .before .before .before .before .args in (
+    let at-loop = c .before .before .before in
+    let at-entry = at-loop .before in
+    let l = at-loop .loop in
+    let a = at-entry .args in (
       omega arith,
       refl,
       refl,
       simp length-set (l .inv .3),
       omega arith,
       omega arith,
-      clear-turn (a .width) (a .i) (a .k) (l .j) (a .factor) (a .work .now) (l .work) (c .before .before .before .before .pre .0) (omega arith) (l .inv .6),
+      clear-turn (a .width) (a .i) (a .k) (l .j) (a .factor) (a .work .now) (l .work) (at-entry .pre .0) (omega arith) (l .inv .6),
     )
 
--- src/lib.rt:130:1
+-- fn clear_row(work: &mut [f64], width: usize, i: usize, k: usize, factor: f64)
 same-length : tie.Need-same-length Inv-loop μ-loop
 same-length c = search needs
 
--- src/lib.rt:130:1
 returns : tie.Need-returns Inv-loop μ-loop
 unfolding reduced
 returns c =

@@ -20,55 +20,50 @@ Inv-loop work₀ width i row pivot j₀ work j =
 abbrev μ-loop : tie.MeasureT-loop
 μ-loop work₀ width i row pivot j₀ work j = width - j
 
--- src/lib.rt:106:15
+-- let row = i * width;
 mul-row : tie.Need-mul-row Inv-loop μ-loop
 mul-row c = omega arith
 
--- src/lib.rt:107:22
+-- let pivot = work[row + i];
 add-pivot : tie.Need-add-pivot Inv-loop μ-loop
 add-pivot c = omega arith
 
--- src/lib.rt:107:17
 mul-pivot : tie.Need-mul-pivot Inv-loop μ-loop
 mul-pivot c = omega arith
 
--- src/lib.rt:107:17
 slice-read-pivot : tie.Need-slice-read-pivot Inv-loop μ-loop
 slice-read-pivot c = omega arith
 
--- src/lib.rt:108:5
+-- for j in 0..width
 loop-holds : tie.Need-loop-holds Inv-loop μ-loop
 loop-holds c = (omega arith, refl, refl, omega arith, refl, refl)
 
--- src/lib.rt:109:14
+-- work[row + j] /= pivot;
 add-work : tie.Need-add-work Inv-loop μ-loop
 add-work c = omega arith
 
--- src/lib.rt:109:9
 mul-work : tie.Need-mul-work Inv-loop μ-loop
 mul-work c = omega arith
 
--- src/lib.rt:109:9
 slice-read-work : tie.Need-slice-read-work Inv-loop μ-loop
 slice-read-work c = omega arith
 
--- src/lib.rt:109:9
 slice-write-work : tie.Need-slice-write-work Inv-loop μ-loop
 slice-write-work c = omega arith
 
--- src/lib.rt:108:9
+-- for j in 0..width
 add-j : tie.Need-add-j Inv-loop μ-loop
 add-j c = omega arith
 
--- src/lib.rt:108:5
 loop-less : tie.Need-loop-less Inv-loop μ-loop
 loop-less c = omega arith
 
--- src/lib.rt:108:5
 loop-again : tie.Need-loop-again Inv-loop μ-loop
 loop-again c =
-    let l = c .before .before .loop in
-    let a = c .before .before .before .before .args in
+    let at-loop = c .before .before in
+    let at-entry = at-loop .before .before in
+    let l = at-loop .loop in
+    let a = at-entry .args in
     let w = a .width in
     let xs = a .work .now in
     let f : ℕ → Float = λ k. div binary64 (at w xs (a .i) k) (at w xs (a .i) (a .i)) in (
@@ -80,11 +75,10 @@ loop-again c =
       turn (a .i * w) (l .j) f (λ x. div binary64 x (at w xs (a .i) (a .i))) xs (l .work) nan refl (l .inv .5),
     )
 
--- src/lib.rt:102:1
+-- fn divide_row(work: &mut [f64], width: usize, i: usize)
 same-length : tie.Need-same-length Inv-loop μ-loop
 same-length c = search needs
 
--- src/lib.rt:102:1
 returns : tie.Need-returns Inv-loop μ-loop
 unfolding divided
 returns c =

@@ -20,81 +20,71 @@ Inv-loop work₀ width i r row other j₀ work j =
 abbrev μ-loop : tie.MeasureT-loop
 μ-loop work₀ width i r row other j₀ work j = width - j
 
--- src/lib.rt:92:15
+-- let row = i * width;
 mul-row : tie.Need-mul-row Inv-loop μ-loop
 mul-row c = omega (arith, row-end (c .args .width) (c .args .i) (c .args .r) (c .pre .0))
 
--- src/lib.rt:93:17
+-- let other = r * width;
 mul-other : tie.Need-mul-other Inv-loop μ-loop
 mul-other c = omega arith
 
--- src/lib.rt:94:5
+-- for j in 0..width
 loop-holds : tie.Need-loop-holds Inv-loop μ-loop
 loop-holds c = (omega arith, refl, refl, refl, omega (arith, row-end (c .args .width) (c .args .i) (c .args .r) (c .pre .0)), omega arith, refl)
 
--- src/lib.rt:95:24
+-- let tmp = work[row + j];
 add-tmp : tie.Need-add-tmp Inv-loop μ-loop
 add-tmp c = omega arith
 
--- src/lib.rt:95:19
 mul-tmp : tie.Need-mul-tmp Inv-loop μ-loop
 mul-tmp c = omega arith
 
--- src/lib.rt:95:19
 slice-read-tmp : tie.Need-slice-read-tmp Inv-loop μ-loop
 slice-read-tmp c = omega arith
 
--- src/lib.rt:96:30
+-- work[row + j] = work[other + j];
 add-work : tie.Need-add-work Inv-loop μ-loop
 add-work c = omega arith
 
--- src/lib.rt:96:25
 mul-work : tie.Need-mul-work Inv-loop μ-loop
 mul-work c = omega arith
 
--- src/lib.rt:96:25
 slice-read-work : tie.Need-slice-read-work Inv-loop μ-loop
 slice-read-work c = omega arith
 
--- src/lib.rt:96:14
 add-work-2 : tie.Need-add-work-2 Inv-loop μ-loop
 add-work-2 c = omega arith
 
--- src/lib.rt:96:9
 mul-work-2 : tie.Need-mul-work-2 Inv-loop μ-loop
 mul-work-2 c = omega arith
 
--- src/lib.rt:96:9
 slice-write-work : tie.Need-slice-write-work Inv-loop μ-loop
 slice-write-work c = omega arith
 
--- src/lib.rt:97:14
+-- work[other + j] = tmp;
 add-work-3 : tie.Need-add-work-3 Inv-loop μ-loop
 add-work-3 c = omega arith
 
--- src/lib.rt:97:9
 mul-work-3 : tie.Need-mul-work-3 Inv-loop μ-loop
 mul-work-3 c = omega arith
 
--- src/lib.rt:97:9
 slice-write-work-2 : tie.Need-slice-write-work-2 Inv-loop μ-loop
 slice-write-work-2 c = simp length-set (omega arith)
 
--- src/lib.rt:94:9
+-- for j in 0..width
 add-j : tie.Need-add-j Inv-loop μ-loop
 add-j c = omega arith
 
--- src/lib.rt:94:5
 loop-less : tie.Need-loop-less Inv-loop μ-loop
 loop-less c = omega arith
 
--- src/lib.rt:94:5
 loop-again : tie.Need-loop-again Inv-loop μ-loop
 loop-again c =
-    let l = c .before .before .before .loop in
-    let s = c .before .before .before .before in
-    let a = s .args in
-    let n : a .i ≢ a .r = omega (arith, s .pre .0) in (
+    let at-loop = c .before .before .before in
+    let at-entry = at-loop .before in
+    let l = at-loop .loop in
+    let a = at-entry .args in
+    let n : a .i ≢ a .r = omega (arith, at-entry .pre .0) in (
       omega arith,
       refl,
       refl,
@@ -104,11 +94,10 @@ loop-again c =
       swap-turn (a .width) (a .i) (a .r) (l .j) (a .work .now) (l .work) n (omega arith) (l .inv .6),
     )
 
--- src/lib.rt:88:1
+-- fn swap_rows(work: &mut [f64], width: usize, i: usize, r: usize)
 same-length : tie.Need-same-length Inv-loop μ-loop
 same-length c = search needs
 
--- src/lib.rt:88:1
 returns : tie.Need-returns Inv-loop μ-loop
 unfolding swapped
 returns c =

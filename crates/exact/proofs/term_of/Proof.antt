@@ -10,26 +10,38 @@ use Rattle.exact.proofs.Terms.{unlike-product, like-product, shifted-pr
 use Rattle.exact.proofs.term_of.Statement.{statement}
 use Rattle.exact.proofs.term_of.Tie as tie
 
+-- The state that the needs look back to, from a later one.
+abbrev at-product : tie.After-struct-known2 → tie.After-multiply
+at-product c = c .before .before
+
+-- The needs, grouped below the lines of src/ that they are for.
+
+-- let a = parts_of(x);
 parts-of-requires : tie.Need-parts-of-requires
 parts-of-requires c κs = search needs
 
+-- let b = parts_of(y);
 parts-of-requires-2 : tie.Need-parts-of-requires-2
 parts-of-requires-2 c κs = search needs
 
+-- let product = multiply(a.significand, b.significand);
 multiply-requires : tie.Need-multiply-requires
 multiply-requires c κs = search needs
 
+-- let shift = a.shift + b.shift;
 add-shift : tie.Need-add-shift
 add-shift c = search needs
 
+-- return shifted(product, shift % 64, !b.negative, place);
 shifted-requires : tie.Need-shifted-requires
 shifted-requires c κs = search needs
 
 returns : tie.Need-returns
 returns c =
-    let p = c .before .before .before .before .before .before .before .parts-of in
-    let q = c .before .before .before .before .before .before .parts-of2 in
-    let m = c .before .before .before .before .before .multiply in
+    let t = at-product (c .before .before .before) in
+    let p = t .before .before .parts-of in
+    let q = t .before .parts-of2 in
+    let m = t .multiply in
     let s = c .shifted in
     let x : ℕ = p .result .significand * 2 ^ p .result .shift in
     let y : ℕ = q .result .significand * 2 ^ q .result .shift in
@@ -41,14 +53,16 @@ returns c =
       omega arith,
     )
 
+-- shifted(product, shift % 64, b.negative, place)
 shifted-requires-2 : tie.Need-shifted-requires-2
 shifted-requires-2 c κs = search needs
 
 returns-2 : tie.Need-returns-2
 returns-2 c =
-    let p = c .before .before .before .before .before .before .parts-of in
-    let q = c .before .before .before .before .before .parts-of2 in
-    let m = c .before .before .before .before .multiply in
+    let t = at-product (c .before .before) in
+    let p = t .before .before .parts-of in
+    let q = t .before .parts-of2 in
+    let m = t .multiply in
     let s = c .shifted2 in
     let x : ℕ = p .result .significand * 2 ^ p .result .shift in
     let y : ℕ = q .result .significand * 2 ^ q .result .shift in

@@ -10,20 +10,31 @@ use Rattle.ieee.proofs.RootCall.{AboveZero, above-zero, positive-number
 use Rattle.ieee.proofs.nearest_root.Statement.{statement}
 use Rattle.ieee.proofs.nearest_root.Tie as tie
 
+-- The state that the needs look back to, from a later one.
+abbrev at-scaled : tie.After-struct-known3 → tie.After-normalised
+at-scaled c = c .before .before .before
+
+-- The needs, grouped below the lines of src/ that they are for.
+
+-- the fields of the pattern
 fields : (c : tie.Start) → AboveZero (c .args .x) (toBits binary64 (c .args .x))
 fields c = above-zero (c .args .x) (holds (fits binary64 (c .args .x)) (c .good .0 .1)) (c .pre)
 
+-- let bits = f64::to_bits(x);
 float-to-bits-bits : tie.Need-float-to-bits-bits
 float-to-bits-bits c = positive-number (c .args .x) (c .pre)
 
+-- let scaled = normalised(bits / 0x10_0000_0000_0000, bits % 0x10_0000_0000_0000);
 normalised-requires : tie.Need-normalised-requires
 normalised-requires c κs = (fields c .field, omega arith, fields c .some)
 
+-- the argument of root_digits fits
+bounded : (c : tie.After-struct-known3) → let d = at-scaled c .normalised .result in d .significand * (1 + d .exponent % 2) ≤ 2 ^ 54 - 2
+bounded c = let d = at-scaled c .normalised in doubled (d .result .significand) (d .result .exponent) (d .ensures .upper)
+
+-- let root = root_digits(scaled.significand * (1 + scaled.exponent % 2));
 add-root-digits : tie.Need-add-root-digits
 add-root-digits c = search needs
-
-bounded : (c : tie.After-struct-known3) → c .before .before .before .normalised .result .significand * (1 + c .before .before .before .normalised .result .exponent % 2) ≤ 2 ^ 54 - 2
-bounded c = let d = c .before .before .before .normalised in doubled (d .result .significand) (d .result .exponent) (d .ensures .upper)
 
 mul-root-digits : tie.Need-mul-root-digits
 mul-root-digits c = omega (arith, bounded c)
@@ -31,16 +42,18 @@ mul-root-digits c = omega (arith, bounded c)
 root-digits-requires : tie.Need-root-digits-requires
 root-digits-requires c κs = omega (arith, bounded c)
 
+-- and so does the root
+root-small : (c : tie.After-root-digits) → c .root-digits .result < 2 ^ 54
+root-small c =
+    let d = at-scaled (c .before) .normalised in
+    subst (λ (n : ℕ). n < 2 ^ 54) (sym (c .root-digits .ensures)) (root-bound (d .result .significand * (1 + d .result .exponent % 2)) (bounded (c .before)))
+
+-- f64::from_bits((half - 26) * 0x10_0000_0000_0000 + (root + 1) / 2)
 sub-result : tie.Need-sub-result
 sub-result c = search needs
 
 mul-result : tie.Need-mul-result
 mul-result c = search needs
-
-root-small : (c : tie.After-root-digits) → c .root-digits .result < 2 ^ 54
-root-small c =
-    let d = c .before .before .before .before .normalised in
-    subst (λ (n : ℕ). n < 2 ^ 54) (sym (c .root-digits .ensures)) (root-bound (d .result .significand * (1 + d .result .exponent % 2)) (bounded (c .before)))
 
 add-result : tie.Need-add-result
 add-result c = omega (arith, root-small c)
@@ -50,16 +63,17 @@ add-result-2 c = search needs
 
 float-from-bits-result : tie.Need-float-from-bits-result
 float-from-bits-result c =
-    let d = c .before .before .before .before .normalised in
+    let d = at-scaled (c .before) .normalised in
     no-nan _ _ (omega (arith, d .ensures .greatest)) (omega (arith, root-small c))
 
 returns : tie.Need-returns
 returns c =
-    let x = c .before .before .before .before .before .args .x in
+    let s = at-scaled (c .before) .before in
+    let x = s .args .x in
     let b = toBits binary64 x in
-    let d = c .before .before .before .before .normalised in
+    let d = at-scaled (c .before) .normalised in
     ap (λ (q : ℕ). ofBits binary64 ((d .result .exponent / 2 - 26) * 2 ^ 52 + (q + 1) / 2)) (c .root-digits .ensures)
-    ∙ root-of-normalised (multiple x) (b / 2 ^ 52) (b % 2 ^ 52) (d .result .significand) (d .result .exponent) (d .ensures) (fields (c .before .before .before .before .before) .value)
+    ∙ root-of-normalised (multiple x) (b / 2 ^ 52) (b % 2 ^ 52) (d .result .significand) (d .result .exponent) (d .ensures) (fields s .value)
 
 pub nearest-root-spec : {M : Type 1} → statement M
 nearest-root-spec =

@@ -12,25 +12,35 @@ use Rattle.variogram.proofs.Distance.{past-end, past-start, point-offer
 use Rattle.variogram.proofs.calculate_distance.Statement.{statement}
 use Rattle.variogram.proofs.calculate_distance.Tie as tie
 
+-- The state that the needs look back to, from a later one.
+abbrev at-entry : tie.After-has-point → tie.Start
+at-entry c = c .before .before .before
+
+-- The needs, grouped below the lines of src/ that they are for.
+
+-- if has_point(p1, i, d)
 has-point-requires : tie.Need-has-point-requires
 has-point-requires c κs = search needs
 
+-- if has_point(p2, j, d)
 has-point-requires-2 : tie.Need-has-point-requires-2
 has-point-requires-2 c κs = search needs
 
 -- where both tests are passed, the dimension is offered and both points lie in their lists
 passed : (c : tie.Then2)
-    → let a = c .before .before .before .before .before .before .args in
+    → let a = at-entry (c .before .before .before) .args in
     (offered (a .d) ≡ true) × (a .i * a .d + a .d ≤ length (a .p1 .now)) × (a .j * a .d + a .d ≤ length (a .p2 .now))
 passed c =
-    let a = c .before .before .before .before .before .before .args in
-    let first : hasPoint (a .p1 .now) (a .i) (a .d) ≡ true = sym (c .before .before .before .has-point .ensures) ∙ c .before .before .if1 .taken in
+    let at-first = c .before .before .before in
+    let a = at-entry at-first .args in
+    let first : hasPoint (a .p1 .now) (a .i) (a .d) ≡ true = sym (at-first .has-point .ensures) ∙ c .before .before .if1 .taken in
     let second : hasPoint (a .p2 .now) (a .j) (a .d) ≡ true = sym (c .before .has-point2 .ensures) ∙ c .if2 .taken in (
       point-offered (a .p1 .now) (a .i) (a .d) first,
       point-within (a .p1 .now) (a .i) (a .d) first,
       point-within (a .p2 .now) (a .j) (a .d) second,
     )
 
+-- return ieee::sqrt(sum_of_squares(p1, i * d, p2, j * d, d));
 mul-sum-of-squares : tie.Need-mul-sum-of-squares
 mul-sum-of-squares c = omega (arith, passed c .1)
 
@@ -48,6 +58,7 @@ returns c =
     let at = c .before .before in
     c .sqrt .ensures ∙ ap sqrtOf (c .before .sum-of-squares .ensures) ∙ sym (distance-offered _ _ _ _ _ (passed at .0))
 
+-- not_a_number()
 not-a-number-requires : tie.Need-not-a-number-requires
 not-a-number-requires c κs = search needs
 

@@ -13,15 +13,19 @@ Inv-loop s from count list₀ at₀ i₀ list at i = length list ≡ 64
 abbrev μ-loop : tie.MeasureT-loop
 μ-loop s from count list₀ at₀ i₀ list at i = 64 - i
 
+-- while i < 64
 loop-holds : tie.Need-loop-holds Inv-loop μ-loop
 loop-holds c = refl
 
+-- if count <= i { return list; }
 returns : tie.Need-returns Inv-loop μ-loop
 returns c = search needs
 
+-- if s.len() <= at { return list; }
 returns-2 : tie.Need-returns-2 Inv-loop μ-loop
 returns-2 c = search needs
 
+-- list[i] = vectors::float(vectors::word(s, at));
 word-requires : tie.Need-word-requires Inv-loop μ-loop
 word-requires c κs = search needs
 
@@ -34,18 +38,25 @@ mul-list c = omega arith
 array-write-list : tie.Need-array-write-list Inv-loop μ-loop
 array-write-list c = omega arith
 
+-- at += 17;
 add-at : tie.Need-add-at Inv-loop μ-loop
 add-at c = omega arith
 
+-- i += 1;
 add-i : tie.Need-add-i Inv-loop μ-loop
 add-i c = omega arith
 
+-- while i < 64
 loop-less : tie.Need-loop-less Inv-loop μ-loop
 loop-less c = omega arith
 
 loop-again : tie.Need-loop-again Inv-loop μ-loop
-loop-again c = let l = c .before .before .before .before .before .loop in length-set (l .list) (l .i) _ ∙ l .inv
+loop-again c =
+    let past-tests = c .before .before .before in
+    let l = past-tests .before .before .loop in
+    length-set (l .list) (l .i) _ ∙ l .inv
 
+-- list
 returns-3 : tie.Need-returns-3 Inv-loop μ-loop
 returns-3 c = search needs
 
