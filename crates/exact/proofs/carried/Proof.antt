@@ -33,7 +33,8 @@ returns : tie.Need-returns Inv-loop μ-loop
 returns c =
     let l = c .before .before .loop in
     let v = l .inv in
-    moved-held (c .before .before .before .args .negative) (l .total) (c .before .before .before .args .sum) (v .0) (v .1) (2 ^ (64 * c .before .before .before .args .from)) (l .carry) (l .i) (inl (c .if1 .taken)) (v .3)
+    let a = c .before .before .before .args in
+    moved-held (a .negative) (l .total) (a .sum) (v .0) (v .1) (2 ^ (64 * a .from)) (l .carry) (l .i) (inl (c .if1 .taken)) (v .3)
 
 mul-step-word : tie.Need-mul-step-word Inv-loop μ-loop
 mul-step-word c = omega arith
@@ -76,7 +77,8 @@ returns-2 : tie.Need-returns-2 Inv-loop μ-loop
 returns-2 c =
     let l = c .before .loop in
     let v = l .inv in
-    moved-held (c .before .before .args .negative) (l .total) (c .before .before .args .sum) (v .0) (v .1) (2 ^ (64 * c .before .before .args .from)) (l .carry) (l .i) (inr (c .loop-test .left)) (v .3)
+    let a = c .before .before .args in
+    moved-held (a .negative) (l .total) (a .sum) (v .0) (v .1) (2 ^ (64 * a .from)) (l .carry) (l .i) (inr (c .loop-test .left)) (v .3)
 
 pub carried-spec : {M : Type 1} → statement M
 carried-spec =
