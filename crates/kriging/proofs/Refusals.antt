@@ -23,7 +23,8 @@ use Rattle.survey.proofs.Told.{survey-told}
 use Rattle.kriging.specs.Areas.{Areas, withWork}
 use Rattle.kriging.specs.Assembly.{assembled}
 use Rattle.kriging.specs.Node.{nodeOf}
-use Rattle.kriging.specs.Refusals.{answerTests, answerRules, tests, rules, refusal}
+use Rattle.kriging.specs.Rules.{answerRules, rules}
+use Rattle.kriging.specs.Refusals.{answerTests, tests, refusal}
 use Rattle.kriging.specs.Fit.{answered, fitCall, fitted}
 use Rattle.kriging.specs.Untouched.{Untouched}
 

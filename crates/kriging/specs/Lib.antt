@@ -2,6 +2,7 @@ pub mod Areas
 pub mod Drift
 pub mod Assembly
 pub mod Node
+pub mod Rules
 pub mod Refusals
 pub mod Fit
 pub mod Trend
