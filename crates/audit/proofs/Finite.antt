@@ -5,8 +5,8 @@ use mathlib.Core.Bool.{Bool, not, _&&_}
 use lib.Dec.{T}
 use lib.Ieee.{Float}
 use lib.Ieee.Scale.{finite}
-use Rattle.error.specs.Tests.{all}
-use Rattle.error.proofs.Tells.{Tells, told-as, opposite, both, not-both, each, one-fails, passes}
+use Rattle.error.specs.Tests.{all, Tells}
+use Rattle.error.proofs.Tells.{told-as, opposite, both, not-both, each, one-fails, passes}
 use Rattle.audit.specs.Audit.{Audited, driftFinite, finiteGiven, columnsFinite}
 use Rattle.audit.specs.Trend.{AllFinite, SomeNotFinite, aWeight, anEntry, aNodeEntry, theFigure}
 

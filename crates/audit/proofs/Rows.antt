@@ -5,7 +5,7 @@ use native.Mathlib.Omega.{arith}
 use mathlib.Core.Path.{_≡_, refl, sym, ap, subst}
 use mathlib.Core.Bool.{Bool, true, false, cond}
 use lib.Ieee.{Float}
-use Rattle.error.proofs.Tells.{Tells}
+use Rattle.error.specs.Tests.{Tells}
 use Rattle.audit.specs.Audit.{Weighed, Audited, weighted, within, firstMissed, columnMet, figureMet}
 use Rattle.audit.specs.Trend.{Close}
 

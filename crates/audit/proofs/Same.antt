@@ -10,7 +10,7 @@ use lib.Ieee.Scale.{finite}
 use Rattle.error.proofs.Tells.{same-all}
 use Rattle.exact.specs.Units.{units}
 use Rattle.exact.proofs.Sums.{sumℤ-same}
-use Rattle.audit.specs.Audit.{Weighed, Audited, weighted, within, firstMissed, driftFinite, finiteGiven, columnsFinite, columnMet, columnVerdictGiven, columnVerdict, figureMet, verdictWith, verdictOf}
+use Rattle.audit.specs.Audit.{SameWeighed, Weighed, Audited, weighted, within, firstMissed, driftFinite, finiteGiven, columnsFinite, columnMet, columnVerdictGiven, columnVerdict, figureMet, verdictWith, verdictOf}
 
 same-missed : (k j : ℕ) (f g : ℕ → Bool) → ((i : ℕ) → j ≤ i → i < j + k → f i ≡ g i) → firstMissed k j f ≡ firstMissed k j g
 unfolding firstMissed
@@ -21,15 +21,6 @@ same-missed (suc k) j f g h =
 pub same-drift : (n p : ℕ) (F G : ℕ → ℕ → Float) → ((i j : ℕ) → i < n → j < p → F i j ≡ G i j) → driftFinite n p F ≡ driftFinite n p G
 unfolding driftFinite
 same-drift n p F G h = same-all n _ _ (λ i l. same-all p _ _ (λ j m. ap finite (h i j l m)))
-
--- the same n, p and tolerance, and the same numbers where they are read
-pub record SameWeighed (v w : Weighed) : Type 0 where
-  pub n : v .n ≡ w .n
-  pub p : v .p ≡ w .p
-  pub tolerance : v .tolerance ≡ w .tolerance
-  pub weight : (i : ℕ) → i < v .n → v .weight i ≡ w .weight i
-  pub drift : (i j : ℕ) → i < v .n → j < v .p → v .drift i j ≡ w .drift i j
-  pub nodeDrift : (j : ℕ) → j < v .p → v .nodeDrift j ≡ w .nodeDrift j
 
 -- v with w's counts and tolerance
 abbrev counted : Weighed → Weighed → Weighed

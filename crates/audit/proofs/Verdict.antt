@@ -7,7 +7,7 @@ use mathlib.Core.Bool.{Bool, true, false, not, _&&_, cond}
 use borrow.Author.Tests.{ne-eqb}
 use lib.Dec.{T, eqb}
 use lib.Ieee.Scale.{finite}
-use Rattle.error.proofs.Tells.{Tells}
+use Rattle.error.specs.Tests.{Tells}
 use Rattle.exact.specs.Units.{units}
 use Rattle.audit.specs.Audit.{Audited, unit, columnsFinite, columnMet, firstMissed, columnVerdictGiven, columnVerdict, figureMet, verdictWith, verdictOf}
 use Rattle.audit.specs.Trend.{AllFinite, SomeNotFinite, Close, Met, MetBefore, Verdict, TrendBound}

@@ -1,6 +1,7 @@
 -- The audit of one node: paper 01, "Audit (added)". All sums are exact, over whole multiples of 2^-1074 and, for products, of 2^-2148.
 -- It is in two parts: what does not depend on the values, rows 1 to p, and what does, row p + 1. Assumes nothing.
-use Prim.Native.Nat.{ℕ, zero, suc, _+_, _-_, _^_}
+use Prim.Native.Nat.{ℕ, zero, suc, _+_, _-_, _^_, _<_}
+use mathlib.Core.Path.{_≡_}
 use mathlib.Core.Bool.{Bool, _&&_, cond}
 use lib.Dec.{eqb}
 use lib.IntN.{ℤ, pos, natAbs, _+ℤ_, _-ℤ_, _*ℤ_}
@@ -94,3 +95,13 @@ verdictWith v a =
 unfoldable pub verdictOf : Audited → ℕ
 unfolding columnVerdict verdictWith
 verdictOf a = verdictWith (columnVerdict (a .weighed)) a
+
+-- ---- two audits that read the same
+-- the same n, p and tolerance, and the same numbers where they are read
+pub record SameWeighed (v w : Weighed) : Type 0 where
+  pub n : v .n ≡ w .n
+  pub p : v .p ≡ w .p
+  pub tolerance : v .tolerance ≡ w .tolerance
+  pub weight : (i : ℕ) → i < v .n → v .weight i ≡ w .weight i
+  pub drift : (i j : ℕ) → i < v .n → j < v .p → v .drift i j ≡ w .drift i j
+  pub nodeDrift : (j : ℕ) → j < v .p → v .nodeDrift j ≡ w .nodeDrift j

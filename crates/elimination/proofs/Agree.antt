@@ -14,16 +14,10 @@ use Rattle.area.proofs.Places.{at-place, other-place}
 use Rattle.area.proofs.Rows.{row-end}
 use Rattle.ieee.specs.Floats.{zeroFloat, absOf}
 use Rattle.ieee.proofs.Sums.{same-sum}
-use Rattle.elimination.specs.Elimination.{at, magnitude, held, hold, swapped, divided, reduced, spared, cleared, step, stepped}
+use Rattle.elimination.specs.Elimination.{Agree, at, magnitude, held, hold, swapped, divided, reduced, spared, cleared, step, stepped}
 use Rattle.elimination.specs.Inverse.{laid, timesInverse}
 use Rattle.elimination.proofs.Hold.{hold-below}
 use Rattle.elimination.proofs.Laid.{kept-laid, laid-place}
-
--- both areas hold n numbers or more, and the first n are the same
-pub record Agree (n : ℕ) (xs ys : List Float) : Type 0 where
-  pub left : n ≤ length xs
-  pub right : n ≤ length ys
-  pub same : (p : ℕ) → p < n → getD xs p nan ≡ getD ys p nan
 
 pub agree-written : (n start k : ℕ) (f g : ℕ → Float) (xs ys : List Float) → start + k ≤ n → ((j : ℕ) → j < k → f j ≡ g j) → Agree n xs ys
     → Agree n (written start k f xs) (written start k g ys)

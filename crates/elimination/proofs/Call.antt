@@ -11,9 +11,9 @@ use Rattle.area.specs.Area.{Kept}
 use Rattle.area.proofs.Kept.{kept-then}
 use Rattle.error.specs.Outcome.{Outcome, outcome}
 use Rattle.error.specs.Tests.{Test, firstOf}
-use Rattle.error.specs.Rules.{Rule, Ruled, NoneApplies, positive, lacks}
+use Rattle.error.specs.Rules.{Rule, Ruled, NoneApplies, positive, lacks, Told, no-more, tells}
 use Rattle.error.proofs.Tells.{below}
-use Rattle.error.proofs.Rules.{Told, no-more, tells, ruled-exactly, none-exactly, never-given}
+use Rattle.error.proofs.Rules.{ruled-exactly, none-exactly, never-given}
 use Rattle.elimination.specs.declared.Elimination.{Elimination}
 use Rattle.elimination.specs.declared.Elimination.the-variants.{Done, Stopped, TooShort}
 use Rattle.elimination.specs.Elimination.{eliminated, Through, StopsAt, Outcome as Eliminated}

@@ -107,3 +107,9 @@ pub record StopsAt (skip : Bool) (s i : ℕ) (xs : List Float) : Type 0 where
   pub before : Through skip s i xs
   pub reached : i < s
   pub below : small s i (stepped skip s i xs) ≡ true
+
+-- both areas hold n numbers or more, and the first n are the same
+pub record Agree (n : ℕ) (xs ys : List Float) : Type 0 where
+  pub left : n ≤ length xs
+  pub right : n ≤ length ys
+  pub same : (p : ℕ) → p < n → getD xs p nan ≡ getD ys p nan

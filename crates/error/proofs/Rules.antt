@@ -9,14 +9,8 @@ use mathlib.Core.Bool.{Bool, true, false, not, cond}
 use mathlib.Core.List.{List, [], _∷_, _++_}
 use lib.Dec.{T, T-not, eqb, ltb, eqb→eq, ltb→lt, lt→ltb}
 use lib.Ieee.Fits.{and-i, and-l, and-r, eq→eqb}
-use Rattle.error.specs.Tests.{Test, test, firstOf}
-use Rattle.error.specs.Rules.{Rule, rule, Ruled, NoneApplies, Condition, Lowest, positive, lacks, rising}
-use Rattle.error.proofs.Tells.{Tells}
-
--- the tests are those of the rules: the same numbers in the same order, each test telling its rule's condition
-pub data Told : List Test → List Rule → Type 1 where
-  no-more : Told [] []
-  tells : (k : ℕ) {b : Bool} {A : Type 0} {ts : List Test} {rs : List Rule} → Tells b A → Told ts rs → Told (test k b ∷ ts) (rule k A ∷ rs)
+use Rattle.error.specs.Tests.{Test, firstOf, Tells}
+use Rattle.error.specs.Rules.{Told, no-more, tells, Rule, rule, Ruled, NoneApplies, Condition, Lowest, positive, lacks, rising}
 
 pub joined : {ts us : List Test} {rs ps : List Rule} → Told ts rs → Told us ps → Told (ts ++ us) (rs ++ ps)
 joined no-more h = h

@@ -12,13 +12,9 @@ use lib.Dec.{T, eqb, leb, ltb, eqb→eq, leb→le, le→leb, ltb→lt, lt→ltb,
 use lib.Ieee.{Float}
 use lib.Ieee.Scale.{finite}
 use lib.Ieee.Fits.{and-i, and-l, and-r, eq→eqb}
-use Rattle.error.specs.Tests.{all}
+use Rattle.error.specs.Tests.{all, Tells}
 use Rattle.ieee.specs.Finite.{allFinite, NotFinite, SomeNotFinite}
 use Rattle.ieee.proofs.FiniteLists.{not-finite, not-all-finite}
-
-pub record Tells (b : Bool) (A : Type 0) : Type 0 where
-  pub then : T b → A
-  pub back : A → T b
 
 -- both ways at once
 pub told : (b : Bool) {A : Type 0} → T b ↔ A → Tells b A

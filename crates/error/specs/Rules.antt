@@ -5,6 +5,7 @@ use mathlib.Core.Logic.{_⊎_}
 use mathlib.Core.Bool.{Bool, true, not, _&&_, cond}
 use mathlib.Core.List.{List, [], _∷_}
 use lib.Dec.{eqb, ltb}
+use Rattle.error.specs.Tests.{Test, test, Tells}
 
 pub record Rule : Type 1 where
   pub number : ℕ
@@ -32,6 +33,11 @@ Condition (r ∷ rs) k = cond (eqb (r .number) k) (r .applies) (Condition rs k)
 pub record Lowest (rs : List Rule) (k : ℕ) : Type 0 where
   pub applies : Condition rs k
   pub none-below : (j : ℕ) → j < k → ¬ Condition rs j
+
+-- the tests are those of the rules: the same numbers in the same order, each test telling its rule's condition
+pub data Told : List Test → List Rule → Type 1 where
+  no-more : Told [] []
+  tells : (k : ℕ) {b : Bool} {A : Type 0} {ts : List Test} {rs : List Rule} → Tells b A → Told ts rs → Told (test k b ∷ ts) (rule k A ∷ rs)
 
 -- ---- the numbers of rules, by computation
 -- 0 is no refusal's number

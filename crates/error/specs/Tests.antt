@@ -2,6 +2,7 @@
 use Prim.Native.Nat.{ℕ, zero, suc}
 use mathlib.Core.Bool.{Bool, true, false, _&&_, _||_, cond}
 use mathlib.Core.List.{List, [], _∷_}
+use lib.Dec.{T}
 
 -- a refusal's number, and whether its condition holds
 pub record Test : Type 0 where
@@ -25,3 +26,8 @@ all (suc k) f = all k f && f k
 abbrev pub any : {A : Type 0} → (A → Bool) → List A → Bool
 any f [] = false
 any f (x ∷ xs) = f x || any f xs
+
+-- a test tells a condition: it comes out true exactly where the condition holds
+pub record Tells (b : Bool) (A : Type 0) : Type 0 where
+  pub then : T b → A
+  pub back : A → T b

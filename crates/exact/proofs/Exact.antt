@@ -17,7 +17,7 @@ use Rattle.ieee.specs.Values.{signed, fieldsMultiple, signOf, multiple}
 use Rattle.ieee.proofs.RoundingSigned.{signed-abs}
 use Rattle.exact.specs.Whole.{sumℤ}
 use Rattle.exact.specs.Units.{units, exponentField, fractionField, signBit}
-use Rattle.exact.specs.Products.{dotted}
+use Rattle.exact.specs.Products.{dotted, termBound, Terms}
 use Rattle.exact.specs.Words.{half, modulus, residue, reading, held}
 use Rattle.exact.proofs.Whole.{natAbs-*ℤ, natAbs-+ℤ, natAbs--ℤ}
 use Rattle.exact.proofs.Sums.{sumℤ-bound}
@@ -72,14 +72,6 @@ units-le x = go (finite x)
     go : (t : Bool) → natAbs (cond t (signed (signBit b) n) (pos 0)) ≤ unitBound
     go true = subst (λ (k : ℕ). k ≤ unitBound) (sym (signed-abs (signBit b) n)) short
     go false = le-trans (omega arith) short
-
--- ---- k products: `Terms k z` says that z is no further from 0 than k products of two f64 can be
-
-unfoldable pub termBound : ℕ
-termBound = 2 ^ 4198
-
-pub record Terms (k : ℕ) (z : ℤ) : Type 0 where
-  pub within : natAbs z ≤ k * termBound
 
 pub term : (x y : Float) → Terms 1 (units x *ℤ units y)
 unfolding unitBound termBound

@@ -2,18 +2,12 @@
 use Prim.Native.Nat.{ℕ, zero, suc, _+_, _-_, _*_, _^_}
 use mathlib.Core.Path.{sym, subst}
 use mathlib.Core.Bool.{Bool, true, false, cond, not, _&&_, Bool·beq}
-use lib.IntN.{ℤ}
 use lib.Dec.{T, ltb}
 use lib.Ieee.{Float, inf, fin, binary64, prec, emax, low, up, down, round, units, odd, sum, add, sub, neg, mul}
 use lib.Ieee.Fits.{round-is}
 use lib.Ieee.Scale.{finite}
 use Rattle.ieee.specs.Root.{wholeRoot, sqrtOf, rootOf}
-use Rattle.ieee.specs.Values.{multiple}
-
--- a number or an infinity with the sign s
-pub data Signed (s : Bool) : Float → Type 0 where
-  infinite : Signed s (inf s)
-  number : (m : ℕ) (e : ℤ) → Signed s (fin s m e)
+use Rattle.ieee.specs.Values.{multiple, Signed, infinite, number}
 
 either : {s : Bool} (b : Bool) (x y : Float) → Signed s x → Signed s y → Signed s (cond b x y)
 either true x y p q = p

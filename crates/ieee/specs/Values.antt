@@ -30,3 +30,8 @@ valueOf x = signed (signOf x) (multiple x)
 abbrev pub fieldsMultiple : ℕ → ℕ → ℕ
 fieldsMultiple zero f = f
 fieldsMultiple (suc e) f = (2 ^ 52 + f) * 2 ^ e
+
+-- a number or an infinity with the sign s
+pub data Signed (s : Bool) : Float → Type 0 where
+  infinite : Signed s (inf s)
+  number : (m : ℕ) (e : ℤ) → Signed s (fin s m e)

@@ -4,8 +4,10 @@ use mathlib.Core.Path.{_≡_, refl, sym, subst}
 use mathlib.Core.Logic.{_⊎_, _↔_}
 use lib.Dec.{T}
 use lib.ListN.{length}
-use Rattle.error.proofs.Tells.{Tells, opposite, both, either, equal, different, below, at-most, some-not-finite}
-use Rattle.error.proofs.Rules.{Told, no-more, tells, joined}
+use Rattle.error.specs.Tests.{Tells}
+use Rattle.error.proofs.Tells.{opposite, both, either, equal, different, below, at-most, some-not-finite}
+use Rattle.error.specs.Rules.{Told, no-more, tells}
+use Rattle.error.proofs.Rules.{joined}
 use Rattle.elimination.proofs.Call.{work-told}
 use Rattle.survey.specs.declared.Limits.{Limits}
 use Rattle.survey.specs.Limits.{base}

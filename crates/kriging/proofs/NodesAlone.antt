@@ -7,8 +7,8 @@ use mathlib.Core.List.{List}
 use lib.ListN.{length, getD}
 use lib.Ieee.{Float, nan}
 use Rattle.area.proofs.Tables.{same-table}
-use Rattle.elimination.specs.Elimination.{stepped}
-use Rattle.elimination.proofs.Agree.{Agree, agree-stepped, agree-laid, same-inverse}
+use Rattle.elimination.specs.Elimination.{stepped, Agree}
+use Rattle.elimination.proofs.Agree.{agree-stepped, agree-laid, same-inverse}
 use Rattle.survey.specs.declared.Limits.{Limits}
 use Rattle.survey.specs.Survey.{Survey, nodeCount, size}
 use Rattle.kriging.specs.Areas.{Areas}

@@ -10,9 +10,9 @@ use lib.Ieee.{nan}
 use lib.Ieee.Scale.{finite}
 use Rattle.area.proofs.Kept.{kept-same}
 use Rattle.area.proofs.Start.{kept-start}
-use Rattle.error.specs.Rules.{NoneApplies, Condition, Lowest}
+use Rattle.error.specs.Rules.{NoneApplies, Condition, Lowest, Told, no-more, tells}
 use Rattle.error.proofs.Tells.{stable, equal, either, below}
-use Rattle.error.proofs.Rules.{Told, no-more, tells, joined, no-condition, lowest-wins}
+use Rattle.error.proofs.Rules.{joined, no-condition, lowest-wins}
 use Rattle.ieee.proofs.FiniteLists.{is-finite}
 use Rattle.elimination.specs.Call.{Ends}
 use Rattle.elimination.proofs.Call.{work-told, kept-work, ends, whichever}

@@ -12,11 +12,11 @@ use lib.Ieee.{Float, nan, inf, fin, binary64, fits, up, down, round, div, ofInt,
 use lib.Ieee.Fits.{div-fits}
 use lib.Ieee.Scale.{finite}
 use Rattle.ieee.specs.Floats.{floorOf}
-use Rattle.ieee.specs.Values.{multiple, signOf}
+use Rattle.ieee.specs.Values.{multiple, signOf, Signed, infinite, number}
 use Rattle.ieee.specs.Whole.{GreatestWhole}
 use Rattle.ieee.proofs.FloorCases.{ones-of}
 use Rattle.ieee.proofs.FloorLaw.{floor-multiple, floor-greatest}
-use Rattle.ieee.proofs.Signs.{Signed, infinite, number, round-signed}
+use Rattle.ieee.proofs.Signs.{round-signed}
 use Rattle.semivariogram.specs.Pairs.{Pair, pair}
 use Rattle.semivariogram.specs.Call.{Samples, Areas, samples}
 use Rattle.semivariogram.specs.Bins.{asFloat, lag, longest, width, binOf}

@@ -9,7 +9,7 @@ use lib.ListN.{length}
 use lib.Ieee.{Float, ofBits}
 use Rattle.area.proofs.Rows.{row-end}
 use Rattle.ieee.specs.Floats.{zeroFloat}
-use Rattle.ieee.proofs.Signs.{Signed, number}
+use Rattle.ieee.specs.Values.{Signed, number}
 use Rattle.variogram.proofs.Distance.{is-offered}
 use Rattle.variogram.proofs.Signs.{distance-clear}
 use Rattle.semivariogram.specs.Pairs.{Pair, pair, pairs}

@@ -10,7 +10,7 @@ use lib.Ieee.Fits.{down-pos}
 use lib.Ieee.Positive.{through}
 use borrow.Author.Tests.{ltb-true, ltb-false, le-ltb}
 use Rattle.ieee.specs.Floats.{maxOf}
-use Rattle.ieee.proofs.Signs.{Signed, infinite, number}
+use Rattle.ieee.specs.Values.{Signed, infinite, number}
 use Rattle.semivariogram.specs.Bins.{greatest}
 
 -- ---- the order of such numbers

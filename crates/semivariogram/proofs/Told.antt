@@ -2,7 +2,7 @@
 use Prim.Native.Nat.{_*_}
 use lib.ListN.{length}
 use Rattle.error.proofs.Tells.{either, different, below, some-not-finite}
-use Rattle.error.proofs.Rules.{Told, no-more, tells}
+use Rattle.error.specs.Rules.{Told, no-more, tells}
 use Rattle.survey.specs.declared.Limits.{Limits}
 use Rattle.semivariogram.specs.Call.{Samples, Areas, samples}
 use Rattle.semivariogram.specs.Rules.{rules}

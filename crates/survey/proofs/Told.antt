@@ -6,9 +6,10 @@ use mathlib.Core.Logic.{_⊎_, inl, inr}
 use mathlib.Core.List.{List, [], _∷_}
 use lib.ListN.{length, getD}
 use lib.Ieee.{Float, lt}
-use Rattle.error.specs.Tests.{any}
-use Rattle.error.proofs.Tells.{Tells, told, told-as, both, either, is-true, equal, different, below, not-finite-is, some-not-finite}
-use Rattle.error.proofs.Rules.{Told, no-more, tells, joined}
+use Rattle.error.specs.Tests.{any, Tells}
+use Rattle.error.proofs.Tells.{told, told-as, both, either, is-true, equal, different, below, not-finite-is, some-not-finite}
+use Rattle.error.specs.Rules.{Told, no-more, tells}
+use Rattle.error.proofs.Rules.{joined}
 use Rattle.ieee.specs.Floats.{zeroFloat}
 use Rattle.variogram.specs.declared.Variogram.{Variogram}
 use Rattle.variogram.proofs.Model.{not-offered}

@@ -4,8 +4,9 @@ use native.Mathlib.Omega.{arith}
 use mathlib.Core.Path.{_≡_, _∙_, sym}
 use mathlib.Core.List.{List}
 use lib.ListN.{length}
-use Rattle.error.proofs.Tells.{Tells, told-as, either, different, below, not-finite-is}
-use Rattle.error.proofs.Rules.{Told, no-more, tells}
+use Rattle.error.specs.Tests.{Tells}
+use Rattle.error.proofs.Tells.{told-as, either, different, below, not-finite-is}
+use Rattle.error.specs.Rules.{Told, no-more, tells}
 use Rattle.survey.specs.Survey.{Survey, wells, nodeCount}
 use Rattle.survey.proofs.Told.{coords-told, nodes-told, external-told, node-external-told, numbers-told}
 use Rattle.survey_file.specs.File.{longestFile, greatestCount, trailerLength, writerFile}

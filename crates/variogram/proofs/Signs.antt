@@ -8,7 +8,8 @@ use lib.Dec.{T}
 use lib.Ieee.{Float, binary64, sub, ofBits}
 use lib.Ieee.Scale.{finite}
 use Rattle.ieee.specs.Sums.{addEach}
-use Rattle.ieee.proofs.Signs.{Signed, number, difference, square-clear, add-clear, root-clear}
+use Rattle.ieee.specs.Values.{Signed, number}
+use Rattle.ieee.proofs.Signs.{difference, square-clear, add-clear, root-clear}
 use Rattle.variogram.specs.Distance.{square, squares, axisFrom, offered, distance}
 use Rattle.variogram.proofs.Distance.{distance-offered}
 
