@@ -6,4 +6,3 @@ pub mod System
 pub mod SystemDiagonal
 pub mod SystemKriged
 pub mod Promise
-pub mod Sounding

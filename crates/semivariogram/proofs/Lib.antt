@@ -7,4 +7,3 @@ pub mod Greatest
 pub mod Farthest
 pub mod BinOf
 pub mod Calculated
-pub mod Sounding

@@ -1,11 +1,13 @@
--- Each test of the semivariogram tells its rule's condition. Assumes nothing.
-use Prim.Native.Nat.{_*_}
+-- Each test of the semivariogram tells its rule's condition; and the limit of the base. Assumes nothing.
+use Prim.Native.Nat.{_*_, _<_}
+use mathlib.Core.Logic.{_↔_}
 use lib.ListN.{length}
 use Rattle.error.proofs.Tells.{either, different, below, some-not-finite}
 use Rattle.error.specs.Rules.{Told, no-more, tells}
 use Rattle.survey.specs.declared.Limits.{Limits}
+use Rattle.survey.specs.Limits.{base}
 use Rattle.semivariogram.specs.Call.{Samples, Areas, samples}
-use Rattle.semivariogram.specs.Rules.{rules}
+use Rattle.semivariogram.specs.Rules.{TooMany, rules}
 use Rattle.semivariogram.specs.Refusals.{mostBins, tests}
 
 pub told : (limits : Limits) (q : Samples) (a : Areas) → Told (tests limits q a) (rules limits q a)
@@ -18,3 +20,7 @@ told limits q a =
     (tells 11 (either (some-not-finite (q .values)) (some-not-finite (q .points)))
     (tells 18 (either (below (length (a .distances)) (q .bins)) (either (below (length (a .semivariances)) (q .bins)) (below (length (a .counts)) (q .bins))))
     no-more))))))
+
+-- "9 n > 48": the limit of the base
+pub samples-limit : (q : Samples) → TooMany base q ↔ (48 < samples q)
+samples-limit q = (λ h. h, λ h. h)

@@ -11,14 +11,14 @@ use Rattle.soundings.specs.Soundings.{Soundings}
 pub soundings : Soundings
 unfolding fitted interpolated calculated semivariance sqrtOf add sub mul div lt le eq ofInt toUnsigned round ofBits toBits
 soundings = record {
-  A = record { accepted = refl; figures = refl; variances = refl; coefficients = refl; verdicts = refl };
-  B = record { accepted = refl; figures = refl; variances = refl; coefficients = refl; verdicts = refl };
+  A = refl;
+  B = refl;
   B-accepted = refl;
   B-figure = refl;
   B-variance = refl;
-  C = record { accepted = refl; figures = refl; variances = refl; coefficients = refl; verdicts = refl };
-  D-missed = record { accepted = refl; figures = refl; variances = refl; coefficients = refl; verdicts = refl };
-  D-met = record { accepted = refl; figures = refl; variances = refl; coefficients = refl; verdicts = refl };
+  C = refl;
+  D-missed = refl;
+  D-met = refl;
   E-refused = refl;
   E-accepted = refl;
   F-spherical = refl;

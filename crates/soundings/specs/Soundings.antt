@@ -8,7 +8,7 @@ use Rattle.ieee.specs.Root.{sqrtOf}
 use Rattle.variogram.specs.Model.{variogram, semivariance}
 use Rattle.variogram.specs.declared.Variogram.{Variogram}
 use Rattle.variogram.specs.declared.VariogramModel.the-variants.{Spherical, Linear}
-use Rattle.error.specs.Outcome.{Outcome}
+use Rattle.error.specs.Outcome.{Outcome, outcome}
 use Rattle.survey.specs.Limits.{base}
 use Rattle.survey.specs.Survey.{Survey}
 use Rattle.kriging.specs.Areas.{Areas}
@@ -112,13 +112,22 @@ samples = record { dimension = 1; values = n0 ∷ n2 ∷ n4 ∷ []; points = n0 
 abbrev pub bins : List Float → List Float → List ℕ → semivariogram.Areas
 bins distances semivariances counts = record { distances = distances; semivariances = semivariances; counts = counts }
 
--- an accepted fit's figure, variance, coefficient and verdict
-pub record Answer (e : Outcome Areas) (figure variance coefficient : Float) (verdict : ℕ) : Type 0 where
-  pub accepted : e .number ≡ 0
-  pub figures : e .areas .predicted ≡ figure ∷ []
-  pub variances : e .areas .variance ≡ variance ∷ []
-  pub coefficients : e .areas .coefficients ≡ coefficient ∷ []
-  pub verdicts : e .areas .verdicts ≡ verdict ∷ []
+-- a fit is accepted with this figure, variance, coefficient and verdict; the other areas are not looked at
+abbrev pub answer : ℕ → List Float → List Float → List Float → List ℕ → Outcome Areas
+answer number figures variances coefficients verdicts = outcome number (record {
+  work = [];
+  predicted = figures;
+  variance = variances;
+  verdicts = verdicts;
+  weights = [];
+  coefficients = coefficients;
+})
+
+abbrev pub seen : Outcome Areas → Outcome Areas
+seen e = answer (e .number) (e .areas .predicted) (e .areas .variance) (e .areas .coefficients) (e .areas .verdicts)
+
+abbrev pub Answer : Outcome Areas → Float → Float → Float → ℕ → Type 0
+Answer e figure variance coefficient verdict = seen e ≡ answer 0 (figure ∷ []) (variance ∷ []) (coefficient ∷ []) (verdict ∷ [])
 
 -- ---- the soundings
 pub record Soundings : Type 0 where
