@@ -93,6 +93,15 @@ module _ (limits : Limits) (s : Survey) (a : Areas) where
 pub too-many-in-the-base : (s : Survey) (a : Areas) → Condition (rules base s a) 9 ≡ ((48 < wells s) ⊎ (12 < columns s) ⊎ (100 < nodeCount s))
 too-many-in-the-base s a = refl
 
+-- ---- what a fit that no rule turns away has been tested for, whether its elimination stops or not
+module _ (limits : Limits) (s : Survey) (a : Areas) (none : NoneApplies (rules limits s a)) where
+  pub finite-coords : (k : ℕ) → k < length (s .coords) → T (finite (getD (s .coords) k nan))
+  finite-coords k l =
+      is-finite (getD (s .coords) k nan) (λ n. no-condition (rules limits s a) none 11 (inr (inr (inl (record { place = k; inside = l; is = n })))))
+
+  pub coords-length : length (s .coords) ≡ 2 * wells s
+  coords-length = stable (equal (length (s .coords)) (2 * wells s)) (no-condition (rules limits s a) none 1)
+
 -- ---- what an accepted fit has been tested for
 module _ (limits : Limits) (s : Survey) (a : Areas) (accepted : fitted limits s a .number ≡ 0) where
   none : (k : ℕ) → ¬ Condition (rules limits s a) k
@@ -109,12 +118,6 @@ module _ (limits : Limits) (s : Survey) (a : Areas) (accepted : fitted limits s 
 
   pub finite-values : (i : ℕ) → i < wells s → T (finite (valueAt s i))
   finite-values i l = is-finite (valueAt s i) (λ n. none 11 (inr (inl (record { place = i; inside = l; is = n }))))
-
-  pub finite-coords : (k : ℕ) → k < length (s .coords) → T (finite (getD (s .coords) k nan))
-  finite-coords k l = is-finite (getD (s .coords) k nan) (λ n. none 11 (inr (inr (inl (record { place = k; inside = l; is = n })))))
-
-  pub coords-length : length (s .coords) ≡ 2 * wells s
-  coords-length = stable (equal (length (s .coords)) (2 * wells s)) (none 1)
 
   -- the answer areas are long enough
   pub predicted-long : nodeCount s ≤ length (a .predicted)

@@ -1,4 +1,4 @@
--- The diagonal's 0 is the variogram between a well and itself, so that r is added to it there as it stands: in every survey that is accepted. Assumes nothing.
+-- The diagonal's 0 is the variogram between a well and itself, so that r is added to it there as it stands: in every survey that no rule turns away. Assumes nothing.
 use Prim.Native.Nat.{ℕ, _+_, _*_, _<_}
 use native.Mathlib.Omega.{arith}
 use mathlib.Core.Path.{_≡_, refl, ap, _∙_}
@@ -11,10 +11,11 @@ use Rattle.variogram.specs.declared.Variogram.{Variogram}
 use Rattle.variogram.specs.Model.{semivariance}
 use Rattle.variogram.specs.Distance.{distance2d}
 use Rattle.variogram.proofs.Itself.{distance2d-itself, variogram-itself}
+use Rattle.error.specs.Rules.{NoneApplies}
 use Rattle.survey.specs.declared.Limits.{Limits}
 use Rattle.survey.specs.Survey.{Survey, wells, wellX, wellY}
 use Rattle.kriging.specs.Areas.{Areas}
-use Rattle.kriging.specs.Fit.{fitted}
+use Rattle.kriging.specs.Rules.{rules}
 use Rattle.kriging.specs.System.{wellPlace, variogramOf, Well, coefficientOf}
 use Rattle.kriging.proofs.Refusals.{finite-coords, coords-length}
 
@@ -22,10 +23,10 @@ own-variogram : (v : Variogram) (x y : Float) → T (finite x) → T (finite y) 
 own-variogram v x y hx hy = ap (semivariance v) (distance2d-itself x y hx hy) ∙ variogram-itself v
 
 -- "0 + r on the diagonal": γ(x_i, x_i) + r
-pub diagonal : (limits : Limits) (s : Survey) (a : Areas) → fitted limits s a .number ≡ 0 → (i : ℕ) → i < wells s
+pub diagonal : (limits : Limits) (s : Survey) (a : Areas) → NoneApplies (rules limits s a) → (i : ℕ) → i < wells s
     → coefficientOf s (Well i) (Well i) ≡ add binary64 (variogramOf s (wellPlace s i) (wellPlace s i)) (s .options .regularization)
 unfolding coefficientOf variogramOf
-diagonal limits s a accepted i h =
-    let l = coords-length limits s a accepted in
-    let finite-at = finite-coords limits s a accepted in
+diagonal limits s a none i h =
+    let l = coords-length limits s a none in
+    let finite-at = finite-coords limits s a none in
     rw (eq-eqb i i refl, own-variogram (s .options .variogram) (wellX s i) (wellY s i) (finite-at (2 * i) (omega arith)) (finite-at (2 * i + 1) (omega arith)))

@@ -24,7 +24,7 @@ use Rattle.kriging.proofs.Exit.{work-at, figure-at, variance-at, weight
 
 module _ (s : Survey) (work : List Float) (q : ℕ) where
   -- "z = inverse times b, summed from 0 by rising column", b the right-hand side of the system
-  unknown-is : (u : Index) → Within s u → getD (nodeOf s work q .z) (rowOf s u) nan ≡ unknownOf s work q u
+  pub unknown-is : (u : Index) → Within s u → getD (nodeOf s work q .z) (rowOf s u) nan ≡ unknownOf s work q u
   unfolding nodeOf nodeWith solutionOf zOf timesInverse unknownOf
   unknown-is u h =
       table-at (size s) _ (rowOf s u) nan (row-below s u h)
@@ -33,7 +33,7 @@ module _ (s : Survey) (work : List Float) (q : ℕ) where
       (λ l b. ap (λ (x : Float). mul binary64 (inverseAt (size s) work (rowOf s u) (wells s + l)) x) (right-is s q (Drift l) b))
 
   -- "Figure: Σ z_i·value_i"
-  figure-is : nodeOf s work q .figure ≡ runningSum (wells s) (λ i. mul binary64 (unknownOf s work q (Well i)) (valueAt s i))
+  pub figure-is : nodeOf s work q .figure ≡ runningSum (wells s) (λ i. mul binary64 (unknownOf s work q (Well i)) (valueAt s i))
   unfolding nodeOf nodeWith figureOf
   figure-is = same-sum (wells s) _ _ (λ i b. ap (λ (x : Float). mul binary64 x (valueAt s i)) (unknown-is (Well i) b))
 
@@ -44,7 +44,7 @@ module _ (s : Survey) (work : List Float) (q : ℕ) where
       ∙ same-added _ (columns s) _ _ (λ l b. ap (λ (x : Float). mul binary64 x (rightOf s node (Drift l))) (h (Drift l) b))
 
   -- "Variance: Σ z·b over all s entries", clamped
-  node-variance : nodeOf s work q .variance ≡ notBelowZero (varianceSum s (nodePlace s q) (unknownOf s work q))
+  pub node-variance : nodeOf s work q .variance ≡ notBelowZero (varianceSum s (nodePlace s q) (unknownOf s work q))
   unfolding nodeOf nodeWith solutionOf varianceOf
   node-variance =
       ap notBelowZero

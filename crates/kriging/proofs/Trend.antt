@@ -2,8 +2,10 @@
 use Prim.Native.Nat.{ℕ, _≤_, _<_}
 use native.Mathlib.Nat.{le-trans}
 use mathlib.Core.Path.{_≡_, refl, sym, _∙_, subst}
+use lib.Dec.{lit≤}
 use lib.Ieee.{nan}
 use Rattle.survey.specs.declared.Limits.{Limits}
+use Rattle.survey.specs.Limits.{base}
 use Rattle.survey.specs.Survey.{Survey, nodeCount}
 use Rattle.audit.specs.Audit.{Audited, verdictOf}
 use Rattle.audit.specs.Trend.{Verdict}
@@ -39,3 +41,7 @@ module _ (limits : Limits) (s : Survey) (a : Areas) where
     values = finite-values limits s a;
     tolerance = finite-tolerance limits s a;
   }
+
+-- DEMAND 3, of every fit of the base: every survey and whatever areas, with nothing asked
+pub trend-in-the-base : (s : Survey) (a : Areas) → TrendKept s (fitted base s a)
+trend-in-the-base s a = trend-kept base s a (lit≤ tt)
