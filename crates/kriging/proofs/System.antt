@@ -11,11 +11,12 @@ use lib.Dec.{ltb}
 use lib.ListN.{length, getD, length-append}
 use lib.Ieee.{Float, nan, binary64, mul}
 use Rattle.variogram.proofs.Distance.{distance2d-back}
-use Rattle.survey.specs.Survey.{Survey, wells, columns, size, wellX, wellY}
+use Rattle.survey.specs.declared.UniversalKrigingOptions.{UniversalKrigingOptions}
+use Rattle.survey.specs.Survey.{Survey, wells, columns, size, xOf, yOf}
 use Rattle.ieee.specs.Floats.{zeroFloat, oneFloat}
 use Rattle.elimination.proofs.Laid.{laid-left, laid-one, laid-zero}
 use Rattle.kriging.specs.Drift.{drift, nodeRow}
-use Rattle.kriging.specs.Assembly.{between, entry, assembled}
+use Rattle.kriging.specs.Assembly.{between, joined, entry, assembled}
 use Rattle.ieee.specs.Sums.{runningSum}
 use Rattle.area.specs.Area.{table}
 use Rattle.kriging.specs.Node.{rightHand}
@@ -49,7 +50,7 @@ module _ (s : Survey) where
   back l = omega arith
 
   pub entry-is : (u v : Index) → Within s u → Within s v → entry s (rowOf s u) (rowOf s v) ≡ coefficientOf s u v
-  unfolding entry between coefficientOf variogramOf
+  unfolding entry joined between coefficientOf variogramOf
   entry-is (Well i) (Well j) hu hv = rw (inside i hu, inside j hv)
   entry-is (Well i) (Drift l) hu hv = rw (inside i hu, past l, back l) (drift-well s i l)
   entry-is (Drift l) (Well j) hu hv = rw (past l, inside j hv, back l) (drift-well s j l)
@@ -92,22 +93,25 @@ variance-is s q z =
     (λ l b. ap (λ (x : Float). mul binary64 (getD z (wells s + l) nan) x) (right-is s q (Drift l) b))
 
 -- ---- symmetry, bit for bit, for every survey
-between-back : (s : Survey) (i j : ℕ) → between s i j ≡ between s j i
+between-back : (options : UniversalKrigingOptions) (coords : List Float) (i j : ℕ) → between options coords i j ≡ between options coords j i
 unfolding between
-between-back s i j =
+between-back options coords i j =
     elim (ℕ-discrete i j) [
-      | yes e ↦ ap₂ (between s) e (sym e)
-      | no n ↦ rw (ne-eqb i j n, ne-eqb j i (λ e. n (sym e)), distance2d-back (wellX s i) (wellY s i) (wellX s j) (wellY s j))
+      | yes e ↦ ap₂ (between options coords) e (sym e)
+      | no n ↦ rw (ne-eqb i j n, ne-eqb j i (λ e. n (sym e)), distance2d-back (xOf coords i) (yOf coords i) (xOf coords j) (yOf coords j))
     ]
 
 pub symmetric : (s : Survey) (i j : ℕ) → entry s i j ≡ entry s j i
-unfolding entry
+unfolding entry joined
 symmetric s i j = by (ltb i (wells s)) (ltb j (wells s))
   where
+    gamma : ℕ → ℕ → Float
+    gamma = between (s .options) (s .coords)
+
     by : (p q : Bool)
-        → cond p (cond q (between s i j) (drift s i (j - wells s))) (cond q (drift s j (i - wells s)) zeroFloat)
-        ≡ cond q (cond p (between s j i) (drift s j (i - wells s))) (cond p (drift s i (j - wells s)) zeroFloat)
-    by true true = between-back s i j
+        → cond p (cond q (gamma i j) (drift s i (j - wells s))) (cond q (drift s j (i - wells s)) zeroFloat)
+        ≡ cond q (cond p (gamma j i) (drift s j (i - wells s))) (cond p (drift s i (j - wells s)) zeroFloat)
+    by true true = between-back (s .options) (s .coords) i j
     by true false = refl
     by false true = refl
     by false false = refl

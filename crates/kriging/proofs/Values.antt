@@ -13,8 +13,8 @@ use Rattle.variogram.specs.Distance.{distance2d}
 use Rattle.survey.specs.Survey.{Survey, wells, columns, wellX, wellY, nodeX, nodeY}
 use Rattle.audit.specs.Audit.{columnVerdict}
 use Rattle.kriging.specs.Drift.{driftRow, drift, nodeRow}
-use Rattle.kriging.specs.Assembly.{between, entry}
-use Rattle.kriging.specs.Node.{rightHand, zOf, varianceOf, Solution, solutionOf}
+use Rattle.kriging.specs.Assembly.{between, joined, entry}
+use Rattle.kriging.specs.Node.{gammaTo, rightHand, zOf, varianceOf, Solution, solutionOf}
 use Rattle.kriging.specs.Alike.{SameButValues}
 
 -- t with s's values
@@ -47,10 +47,10 @@ abbrev driftBy : Survey → ℕ → ℕ → ℕ → Float
 driftBy t n i j = getD (driftRow (t .bases) (wellX t i) (wellY t i) (λ c. getD (t .external) (c * n + i) nan) 0) j nan
 
 abbrev entryBy : Survey → ℕ → ℕ → ℕ → (ℕ → ℕ → Float) → Float
-entryBy t i j n D = cond (ltb i n) (cond (ltb j n) (between t i j) (D i (j - n))) (cond (ltb j n) (D j (i - n)) zeroFloat)
+entryBy t i j n D = joined n (between (t .options) (t .coords)) D i j
 
 abbrev rightBy : Survey → ℕ → ℕ → List Float
-rightBy t q n = table n (λ i. semivariance (t .options .variogram) (distance2d (wellX t i) (wellY t i) (nodeX t q) (nodeY t q))) ++ nodeRow t q
+rightBy t q n = table n (gammaTo (t .options .variogram) (t .coords) (nodeX t q) (nodeY t q)) ++ nodeRow t q
 
 abbrev solutionBy : Survey → List Float → ℕ → ℕ → (ℕ → ℕ → Float) → Solution
 solutionBy t work q n D =
@@ -75,7 +75,7 @@ module _ (t : Survey) (values : List Float) (same : length values ≡ wells t) w
   drift-values = ap (driftBy t) same
 
   entry-values : (i j : ℕ) → entry (withValues t values) i j ≡ entry t i j
-  unfolding entry between
+  unfolding entry
   entry-values i j = ap₂ (entryBy t i j) same drift-values
 
   solution-values : (work : List Float) (q : ℕ) → solutionOf (withValues t values) work q ≡ solutionOf t work q

@@ -8,25 +8,28 @@ use Rattle.variogram.specs.Model.{semivariance}
 use Rattle.variogram.specs.Distance.{distance2d}
 use Rattle.ieee.specs.Floats.{zeroFloat}
 use Rattle.elimination.specs.Inverse.{laid}
-use Rattle.survey.specs.Survey.{Survey, wells, size, wellX, wellY}
+use Rattle.survey.specs.declared.UniversalKrigingOptions.{UniversalKrigingOptions}
+use Rattle.survey.specs.Survey.{Survey, wells, size, xOf, yOf}
 use Rattle.kriging.specs.Drift.{drift}
 
--- "variogram between different wells, 0 + r on the diagonal"
-unfoldable pub between : Survey → ℕ → ℕ → Float
+-- "variogram between different wells, 0 + r on the diagonal", of wells at these coordinates
+unfoldable pub between : UniversalKrigingOptions → List Float → ℕ → ℕ → Float
 unfolding semivariance distance2d
-between s i j =
+between options coords i j =
     cond (eqb i j)
-    (add binary64 zeroFloat (s .options .regularization))
-    (semivariance (s .options .variogram) (distance2d (wellX s i) (wellY s i) (wellX s j) (wellY s j)))
+    (add binary64 zeroFloat (options .regularization))
+    (semivariance (options .variogram) (distance2d (xOf coords i) (yOf coords i) (xOf coords j) (yOf coords j)))
 
--- "Upper left: variogram ..  Beside and below: F and its transpose; Lower right: zeros."
-unfoldable pub entry : Survey → ℕ → ℕ → Float
-unfolding between
-entry s i j =
-    let n = wells s in
+-- "Upper left: variogram ..  Beside and below: F and its transpose; Lower right: zeros.": n wells, what stands between them, and F
+unfoldable pub joined : ℕ → (ℕ → ℕ → Float) → (ℕ → ℕ → Float) → ℕ → ℕ → Float
+joined n gamma f i j =
     cond (ltb i n)
-    (cond (ltb j n) (between s i j) (drift s i (j - n)))
-    (cond (ltb j n) (drift s j (i - n)) zeroFloat)
+    (cond (ltb j n) (gamma i j) (f i (j - n)))
+    (cond (ltb j n) (f j (i - n)) zeroFloat)
+
+unfoldable pub entry : Survey → ℕ → ℕ → Float
+unfolding between joined
+entry s i j = joined (wells s) (between (s .options) (s .coords)) (drift s) i j
 
 -- "The matrix beside the identity, s rows of 2s", in a work area
 abbrev pub assembled : Survey → List Float → List Float

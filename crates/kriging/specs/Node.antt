@@ -7,18 +7,22 @@ use Rattle.area.specs.Area.{table}
 use Rattle.ieee.specs.Floats.{notBelowZero}
 use Rattle.ieee.specs.Sums.{addEach, runningSum}
 use Rattle.elimination.specs.Inverse.{timesInverse}
+use Rattle.variogram.specs.declared.Variogram.{Variogram}
 use Rattle.variogram.specs.Model.{semivariance}
 use Rattle.variogram.specs.Distance.{distance2d}
-use Rattle.survey.specs.Survey.{Survey, wells, columns, size, wellX, wellY, nodeX, nodeY, valueAt}
+use Rattle.survey.specs.Survey.{Survey, wells, columns, size, xOf, yOf, nodeX, nodeY, valueAt}
 use Rattle.audit.specs.Audit.{Weighed, Audited, columnVerdict, verdictWith}
 use Rattle.kriging.specs.Drift.{drift, nodeRow}
 
--- "b is the variogram to each well, then the node's drift entries f0"
-unfoldable pub rightHand : Survey → ℕ → List Float
+-- "b is the variogram to each well ..": of the place x, y to well i
+unfoldable pub gammaTo : Variogram → List Float → Float → Float → ℕ → Float
 unfolding semivariance distance2d
-rightHand s q =
-    table (wells s) (λ i. semivariance (s .options .variogram) (distance2d (wellX s i) (wellY s i) (nodeX s q) (nodeY s q)))
-    ++ nodeRow s q
+gammaTo variogram coords x y i = semivariance variogram (distance2d (xOf coords i) (yOf coords i) x y)
+
+-- "then the node's drift entries f0"
+unfoldable pub rightHand : Survey → ℕ → List Float
+unfolding gammaTo
+rightHand s q = table (wells s) (gammaTo (s .options .variogram) (s .coords) (nodeX s q) (nodeY s q)) ++ nodeRow s q
 
 -- "z = inverse times b"
 unfoldable pub zOf : ℕ → List Float → List Float → List Float

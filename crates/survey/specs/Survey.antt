@@ -55,19 +55,26 @@ size s = wells s + columns s
 
 -- ---- places
 
--- "coordinates x, y in turn": of well i
+-- "coordinates x, y in turn": of place i of a list
+abbrev pub xOf : List Float → ℕ → Float
+xOf ps i = getD ps (2 * i) nan
+
+abbrev pub yOf : List Float → ℕ → Float
+yOf ps i = getD ps (2 * i + 1) nan
+
+-- of well i
 abbrev pub wellX : Survey → ℕ → Float
-wellX s i = getD (s .coords) (2 * i) nan
+wellX s i = xOf (s .coords) i
 
 abbrev pub wellY : Survey → ℕ → Float
-wellY s i = getD (s .coords) (2 * i + 1) nan
+wellY s i = yOf (s .coords) i
 
 -- of node q
 abbrev pub nodeX : Survey → ℕ → Float
-nodeX s q = getD (s .nodes) (2 * q) nan
+nodeX s q = xOf (s .nodes) q
 
 abbrev pub nodeY : Survey → ℕ → Float
-nodeY s q = getD (s .nodes) (2 * q + 1) nan
+nodeY s q = yOf (s .nodes) q
 
 -- "External values are k·n numbers, column after column": column c at well i
 abbrev pub wellExternal : Survey → ℕ → ℕ → Float
