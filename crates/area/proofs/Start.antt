@@ -8,8 +8,12 @@ use lib.ListN.{length, getD, set, take, drop, length-map, List·getD-map}
 use lib.Seq.{take-suc, drop-cons, append-snoc, set-at, length-take-le, take-length, take-append-seam, drop-append-seam, getD-take, ext-getD}
 use Rattle.area.specs.Area.{written, copied, Kept}
 use Rattle.area.proofs.Turns.{length-written}
-use Rattle.area.proofs.Places.{at-place}
+use Rattle.area.proofs.Places.{next, at-place}
 use Rattle.area.proofs.Kept.{kept-written}
+
+-- one turn of a loop that fills from the first place on
+pub next-start : {A : Type 0} (k : ℕ) (f : ℕ → A) (xs ys : List A) (v : A) → v ≡ f k → ys ≡ written 0 k f xs → set ys k v ≡ written 0 (k + 1) f xs
+next-start {A} k f xs ys v e h = ap (λ (p : ℕ). set ys p v) (sym (zero-add k)) ∙ next 0 k f xs ys v e h
 
 -- place by place
 pub from-start : {A : Type 0} (k : ℕ) (f : ℕ → A) (xs : List A) (j : ℕ) (d : A) → k ≤ length xs → j < k → getD (written 0 k f xs) j d ≡ f j

@@ -1,9 +1,11 @@
 -- Laws of sums in turn: a sum goes on from where its first terms ended, and the same terms have the same sum. Assumes nothing.
+use native.Mathlib.Numerals.{add-one}
 use Prim.Native.Nat.{ℕ, zero, suc, _+_, _<_}
 use native.Mathlib.Nat.{add-zero, add-suc}
 use native.Mathlib.Omega.{arith}
 use mathlib.Core.Path.{_≡_, refl, ap, ap₂, _∙_}
 use lib.Ieee.{Float, binary64, add, sub}
+use Rattle.ieee.specs.Floats.{zeroFloat}
 use Rattle.ieee.specs.Sums.{addEach, runningSum, lessEach}
 
 -- sums of the same terms are the same
@@ -24,6 +26,18 @@ added-on x k f (suc n) = ap (λ (m : ℕ). addEach x m f) (add-suc k n) ∙ ap (
 pub sum-on : (k : ℕ) (f g h : ℕ → Float) (n : ℕ) → ((i : ℕ) → i < k → f i ≡ g i) → ((l : ℕ) → l < n → f (k + l) ≡ h l)
     → runningSum (k + n) f ≡ addEach (runningSum k g) n h
 sum-on k f g h n p q = added-on _ k f n ∙ same-added _ n _ h q ∙ ap (λ (y : Float). addEach y n h) (same-sum k f g p)
+
+-- A loop that adds a term a turn: before its first turn, one turn more, and where it ends
+pub no-terms : (f : ℕ → Float) → zeroFloat ≡ runningSum 0 f
+unfolding addEach
+no-terms f = refl
+
+pub sum-turn : (k : ℕ) (f : ℕ → Float) (sum term : Float) → term ≡ f k → sum ≡ runningSum k f → add binary64 sum term ≡ runningSum (k + 1) f
+unfolding addEach
+sum-turn k f sum term e h = rw (add-one, h, e)
+
+pub all-terms : {j k : ℕ} (f : ℕ → Float) {sum : Float} → j ≡ k → sum ≡ runningSum j f → sum ≡ runningSum k f
+all-terms f e h = h ∙ ap (λ (n : ℕ). runningSum n f) e
 
 -- and so does what is taken away in turn
 pub same-less : (x : Float) (k : ℕ) (f g : ℕ → Float) → ((i : ℕ) → i < k → f i ≡ g i) → lessEach x k f ≡ lessEach x k g
