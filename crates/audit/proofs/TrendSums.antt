@@ -5,7 +5,7 @@ use mathlib.Core.Path.{_≡_, sym, ap, ap₂, _∙_, subst, subst₂}
 use lib.IntN.{ℤ, pos, negℤ, natAbs, _+ℤ_, _-ℤ_, _*ℤ_, +ℤ-assoc, +ℤ-comm, negℤ-+ℤ, negℤ-negℤ, *ℤ-comm}
 use lib.Signed.{_≤ℤ_}
 use Rattle.exact.specs.Whole.{sumℤ}
-use Rattle.exact.proofs.Whole.{*ℤ--ℤ, *ℤ-assoc, natAbs-*ℤ, natAbs--ℤ, pos-≤ℤ, ≤ℤ-trans, ≤ℤ-add, ≤ℤ-*ℤ}
+use Rattle.words.proofs.Whole.{*ℤ--ℤ, *ℤ-assoc, natAbs-*ℤ, natAbs--ℤ, pos-≤ℤ, ≤ℤ-trans, ≤ℤ-add, ≤ℤ-*ℤ}
 use Rattle.exact.proofs.Sums.{sumℤ-same, sumℤ--ℤ, *ℤ-sumℤ, sumℤ-*ℤ, sumℤ-exchange, sumℤ-≤ℤ, sumℤ-natAbs}
 
 -- a · (b · c) = b · (a · c)

@@ -18,12 +18,12 @@ use Rattle.ieee.proofs.RoundingSigned.{signed-abs}
 use Rattle.exact.specs.Whole.{sumℤ}
 use Rattle.exact.specs.Units.{units, exponentField, fractionField, signBit}
 use Rattle.exact.specs.Products.{dotted, termBound, Terms}
-use Rattle.exact.specs.Words.{half, modulus, residue, reading, held}
-use Rattle.exact.proofs.Whole.{natAbs-*ℤ, natAbs-+ℤ, natAbs--ℤ}
+use Rattle.words.specs.Words.{half, modulus, residue, reading, held}
+use Rattle.words.proofs.Whole.{natAbs-*ℤ, natAbs-+ℤ, natAbs--ℤ}
 use Rattle.exact.proofs.Sums.{sumℤ-bound}
 use Rattle.exact.proofs.Units.{units-value, units-not-finite}
-use Rattle.exact.proofs.Words.{Words}
-use Rattle.exact.proofs.Held.{reading-held, held-reading}
+use Rattle.words.proofs.Words.{Words}
+use Rattle.words.proofs.Held.{reading-held, held-reading}
 
 -- ---- one number
 

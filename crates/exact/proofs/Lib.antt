@@ -1,12 +1,6 @@
-pub mod Whole
 pub mod Sums
-pub mod Words
-pub mod Residue
-pub mod Held
-pub mod Carries
 pub mod Halves
 pub mod Units
 pub mod Terms
-pub mod Order
 pub mod Exact
 pub mod Products

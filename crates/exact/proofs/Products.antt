@@ -13,13 +13,13 @@ use lib.IntN.{ℤ, pos, _+ℤ_, _*ℤ_, +ℤ-assoc, *ℤ-zero}
 use Rattle.ieee.specs.Values.{signed}
 use Rattle.exact.specs.Units.{units}
 use Rattle.exact.specs.Whole.{sumℤ}
-use Rattle.exact.specs.Words.{number, reading, held}
+use Rattle.words.specs.Words.{number, reading, held}
 use Rattle.exact.specs.Products.{dotted}
-use Rattle.exact.proofs.Words.{Words, words-set, place-suc, number-set}
-use Rattle.exact.proofs.Held.{held-add}
+use Rattle.words.proofs.Words.{Words, words-set, place-suc, number-set}
+use Rattle.words.proofs.Held.{held-add}
 use Rattle.exact.proofs.Units.{units-not-finite}
 use Rattle.exact.proofs.Sums.{sumℤ-ends}
-use Rattle.exact.proofs.Carries.{Moved, whole-moved, moved-none, turn, moved-held, moved-on}
+use Rattle.words.proofs.Carries.{Moved, whole-moved, moved-none, turn, moved-held, moved-on}
 
 -- the place above
 up : (i : ℕ) → 2 ^ (64 * (i + 1)) ≡ 2 ^ 64 * 2 ^ (64 * i)

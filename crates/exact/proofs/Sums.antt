@@ -7,7 +7,7 @@ use mathlib.Core.Logic.{⊎-elim}
 use lib.Signed.{_≤ℤ_, ≤ℤ-refl}
 use lib.IntN.{ℤ, pos, negℤ, natAbs, _+ℤ_, _-ℤ_, _*ℤ_, negℤ-+ℤ, +ℤ-idr, *ℤ-zero, *ℤ-comm}
 use Rattle.exact.specs.Whole.{sumℤ}
-use Rattle.exact.proofs.Whole.{either-lt, +ℤ-middle, *ℤ-+ℤ, natAbs-+ℤ, pos-≤ℤ, ≤ℤ-trans, ≤ℤ-add}
+use Rattle.words.proofs.Whole.{either-lt, +ℤ-middle, *ℤ-+ℤ, natAbs-+ℤ, pos-≤ℤ, ≤ℤ-trans, ≤ℤ-add}
 
 -- two sums of the same terms
 pub sumℤ-same : (n : ℕ) (f g : ℕ → ℤ) → ((i : ℕ) → i < n → f i ≡ g i) → sumℤ n f ≡ sumℤ n g

@@ -7,7 +7,7 @@ use mathlib.Core.Bool.{Bool, true, false, not}
 use lib.Pow.{pow-add}
 use lib.IntN.{pos, negℤ, _*ℤ_, negℤ-negℤ}
 use Rattle.ieee.specs.Values.{signed}
-use Rattle.exact.proofs.Whole.{negℤ-*ℤ, *ℤ-negℤ}
+use Rattle.words.proofs.Whole.{negℤ-*ℤ, *ℤ-negℤ}
 
 -- ---- signs
 

@@ -12,7 +12,7 @@ use Rattle.ieee.specs.Values.{signed, fieldsMultiple, multiple, valueOf}
 use Rattle.ieee.specs.Floats.{zeroFloat, oneFloat, absOf}
 use Rattle.ieee.proofs.RoundingSum.{neg-value}
 use Rattle.ieee.proofs.Fields.{multiple-of-bits, sign-of-bits}
-use Rattle.exact.proofs.Whole.{natAbs-negℤ}
+use Rattle.words.proofs.Whole.{natAbs-negℤ}
 use Rattle.exact.specs.Units.{units, exponentField, fractionField, signBit}
 
 pub units-finite : (x : Float) → finite x ≡ true

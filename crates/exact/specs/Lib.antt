@@ -1,4 +1,3 @@
 pub mod Whole
 pub mod Units
-pub mod Words
 pub mod Products

@@ -1,14 +1,12 @@
 // Exact sums of products of f64, in 67 words of 64 bits, in two's complement: nothing is ever rounded.
 // The unit is 2^-2148, the product of two of the smallest f64 above zero.
 ghost use mathlib.Core.Path.{_≡_};
-ghost use mathlib.Core.Bool.{true, not};
 ghost use Prim.Native.Nat.{_+_, _*_, _^_, _<_, _≤_};
-ghost use lib.IntN.{pos, negℤ, natAbs, _+ℤ_, _-ℤ_, _*ℤ_};
-ghost use lib.Signed.{leZ, nonNeg};
+ghost use lib.IntN.{pos, _+ℤ_, _-ℤ_, _*ℤ_};
 ghost use Rattle.ieee.specs.Values.{signed};
 ghost use Rattle.exact.specs.Units.{units};
 ghost use Rattle.exact.specs.Products.{dotted};
-ghost use Rattle.exact.specs.Words.{reading, held};
+ghost use Rattle.words.specs.Words.{reading, held};
 
 // A number by its sign, its significand and its shift: ±significand·2^shift, in units of 2^-1074.
 struct Parts {
@@ -255,55 +253,4 @@ pub fn sub_product(sum: [u64; 67], x: f64, y: f64) -> [u64; 67]
     ensures { λ r. ⌜ r ≡ held (reading sum -ℤ units x *ℤ units y) ⌝ }
 {
     add_product(sum, -x, y)
-}
-
-// Whether the sum is below zero: its highest bit is set.
-pub fn is_negative(sum: [u64; 67]) -> bool
-    ensures { λ r. ⌜ r ≡ not (nonNeg (reading sum)) ⌝ }
-{
-    sum[66] >= 0x8000_0000_0000_0000
-}
-
-// −sum: each word is taken away from 0, and the borrow goes on.
-fn negated(sum: [u64; 67]) -> [u64; 67]
-    ensures { λ r. ⌜ r ≡ held (negℤ (reading sum)) ⌝ }
-{
-    let mut rest = [0; 67];
-    let mut borrow = 0;
-    let mut i = 0;
-    while i < 67 {
-        let next = step_word(rest[i], sum[i], borrow, true);
-        rest[i] = next.word;
-        borrow = next.carry;
-        i += 1;
-    }
-    rest
-}
-
-// |sum|.
-pub fn magnitude(sum: [u64; 67]) -> [u64; 67]
-    ensures { λ r. ⌜ r ≡ held (pos (natAbs (reading sum))) ⌝ }
-{
-    if is_negative(sum) {
-        return negated(sum);
-    }
-    sum
-}
-
-// Whether a ≤ b, as whole numbers. Of two with the same sign, the words' numbers are in the order of what they stand for: the highest that differ decide.
-pub fn at_most(a: [u64; 67], b: [u64; 67]) -> bool
-    ensures { λ r. ⌜ r ≡ leZ (reading a) (reading b) ⌝ }
-{
-    let below = is_negative(a);
-    if below != is_negative(b) {
-        return below;
-    }
-    let mut i = 67;
-    while 0 < i {
-        i -= 1;
-        if a[i] != b[i] {
-            return a[i] < b[i];
-        }
-    }
-    true
 }

@@ -35,11 +35,11 @@ fn show_words(words: [u64; 67]) {
 
 // A line: whether the sum before is at most this one, whether this one is negative, its words, and those of its magnitude.
 fn show(before: [u64; 67], sum: [u64; 67]) {
-    show_flag(exact::at_most(before, sum));
-    show_flag(exact::is_negative(sum));
+    show_flag(words::at_most(before, sum));
+    show_flag(words::is_negative(sum));
     show_words(sum);
     io::write_all(1, b"| ");
-    show_words(exact::magnitude(sum));
+    show_words(words::magnitude(sum));
     io::write_all(1, b"\n");
 }
 

@@ -3,7 +3,7 @@ use mathlib.Core.Path.{ap, _∙_}
 use borrow.Author.Needs.{needs}
 use lib.IntN.{ℤ, _+ℤ_, _*ℤ_, +ℤ-idl}
 use Rattle.exact.specs.Units.{units}
-use Rattle.exact.specs.Words.{reading, held}
+use Rattle.words.specs.Words.{reading, held}
 use Rattle.exact.specs.Products.{dotted}
 use Rattle.exact.proofs.add_product.Statement.{statement}
 use Rattle.exact.proofs.add_product.Tie as tie

@@ -9,9 +9,9 @@ use mathlib.Core.Logic.{inl, inr, ⊎-elim}
 use lib.IntN.{_*ℤ_, +ℤ-idr}
 use Rattle.exact.specs.Units.{units}
 use Rattle.exact.specs.Products.{dotted}
-use Rattle.exact.specs.Words.{reading, held}
-use Rattle.exact.proofs.Words.{Words, are-words, their-length}
-use Rattle.exact.proofs.Held.{held-reading, held-words, length-held}
+use Rattle.words.specs.Words.{reading, held}
+use Rattle.words.proofs.Words.{Words, are-words, their-length}
+use Rattle.words.proofs.Held.{held-reading, held-words, length-held}
 use Rattle.exact.proofs.Products.{summed, product-added, one-more, column-ends}
 use Rattle.exact.proofs.add_products.Statement.{statement}
 use Rattle.exact.proofs.add_products.Tie as tie

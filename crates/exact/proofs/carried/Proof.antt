@@ -7,9 +7,9 @@ use native.Mathlib.Nat.{one-mul}
 use native.Mathlib.Omega.{arith}
 use native.Mathlib.Numerals.{add-one}
 use lib.ListN.{length, getD, length-set}
-use Rattle.exact.specs.Words.{number}
-use Rattle.exact.proofs.Words.{Words, are-words, their-length, words-set, place-suc, number-set}
-use Rattle.exact.proofs.Carries.{Moved, whole-moved, turn-carry, moved-held, moved-none}
+use Rattle.words.specs.Words.{number}
+use Rattle.words.proofs.Words.{Words, are-words, their-length, words-set, place-suc, number-set}
+use Rattle.words.proofs.Carries.{Moved, whole-moved, turn-carry, moved-held, moved-none}
 use Rattle.exact.proofs.carried.Statement.{statement}
 use Rattle.exact.proofs.carried.Tie as tie
 

@@ -4,9 +4,9 @@ use mathlib.Core.List.{List}
 use Prim.Native.Nat.{ℕ}
 use borrow.Author.Needs.{needs}
 use lib.IntN.{pos, _+ℤ_, +ℤ-idl}
-use Rattle.exact.specs.Words.{reading, held}
+use Rattle.words.specs.Words.{reading, held}
 use Rattle.exact.specs.Products.{dotted}
-use Rattle.exact.proofs.Held.{held-zero, held-add}
+use Rattle.words.proofs.Held.{held-zero, held-add}
 use Rattle.exact.proofs.dot_product.Statement.{statement}
 use Rattle.exact.proofs.dot_product.Tie as tie
 

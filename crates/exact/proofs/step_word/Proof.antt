@@ -5,7 +5,7 @@ use mathlib.Core.Bool.{Bool, true, false}
 use lib.IntN.{pos, _+ℤ_}
 use borrow.Author.Needs.{needs}
 use Rattle.ieee.specs.Values.{signed}
-use Rattle.exact.proofs.Carries.{moved-whole}
+use Rattle.words.proofs.Carries.{moved-whole}
 use Rattle.exact.proofs.step_word.Statement.{statement}
 use Rattle.exact.proofs.step_word.Tie as tie
 

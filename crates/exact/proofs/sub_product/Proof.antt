@@ -5,8 +5,8 @@ use lib.Ieee.{fits, binary64}
 use lib.IntN.{ℤ, _+ℤ_, _*ℤ_}
 use Rattle.ieee.proofs.Zero.{holds}
 use Rattle.exact.specs.Units.{units}
-use Rattle.exact.specs.Words.{reading, held}
-use Rattle.exact.proofs.Whole.{negℤ-*ℤ}
+use Rattle.words.specs.Words.{reading, held}
+use Rattle.words.proofs.Whole.{negℤ-*ℤ}
 use Rattle.exact.proofs.Units.{units-neg}
 use Rattle.exact.proofs.sub_product.Statement.{statement}
 use Rattle.exact.proofs.sub_product.Tie as tie

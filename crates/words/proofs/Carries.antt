@@ -10,11 +10,11 @@ use lib.ListN.{length}
 use lib.Pow.{pow-add}
 use lib.IntN.{ℤ, pos, negℤ, natAbs, _+ℤ_, _-ℤ_, +ℤ-negℤ-cancel, -ℤ-+ℤ-cancel}
 use Rattle.ieee.specs.Values.{signed}
-use Rattle.exact.specs.Words.{number, modulus, reading, residue, held}
-use Rattle.exact.proofs.Whole.{+ℤ-swap}
-use Rattle.exact.proofs.Words.{Words}
-use Rattle.exact.proofs.Residue.{residue-below, residue-either, residue-add}
-use Rattle.exact.proofs.Held.{modulus-words, number-below, held-is, held-number, reading-residue}
+use Rattle.words.specs.Words.{number, modulus, reading, residue, held}
+use Rattle.words.proofs.Whole.{+ℤ-swap}
+use Rattle.words.proofs.Words.{Words}
+use Rattle.words.proofs.Residue.{residue-below, residue-either, residue-add}
+use Rattle.words.proofs.Held.{modulus-words, number-below, held-is, held-number, reading-residue}
 
 -- a ± t = b ± k: with t added to a, or taken away, there is b, and k is still to be added, or taken away
 abbrev pub Moved : Bool → ℕ → ℕ → ℕ → ℕ → Type 0

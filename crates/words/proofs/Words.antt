@@ -13,7 +13,7 @@ use denote.Plain.{UInt}
 use denote.Laws.{Is}
 use denote.Array.{Array, each}
 use denote.Shadow.{shadow}
-use Rattle.exact.specs.Words.{number, wordsOf}
+use Rattle.words.specs.Words.{number, wordsOf}
 
 -- every element is a word
 abbrev pub Words : List ℕ → Type 0

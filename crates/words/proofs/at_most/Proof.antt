@@ -1,4 +1,4 @@
--- `exact::at_most` meets its contract. The invariant: from place i on the words are the same. The measure is i. Assumes nothing.
+-- `words::at_most` meets its contract. The invariant: from place i on the words are the same. The measure is i. Assumes nothing.
 use Prim.Native.Nat.{ℕ, suc, _-_, _≤_, _<_}
 use mathlib.Core.Path.{_≡_, sym, ap, ap₂, _∙_, subst}
 use mathlib.Core.Logic.{⊎-elim}
@@ -12,13 +12,13 @@ use lib.Arith.{lt-of-le-ne}
 use lib.Seq.{drop-cons}
 use lib.Dec.{leb, ltb}
 use lib.Signed.{leZ}
-use Rattle.exact.specs.Words.{number, reading}
-use Rattle.exact.proofs.Whole.{either-lt}
-use Rattle.exact.proofs.Words.{Words, are-words, their-length}
-use Rattle.exact.proofs.Held.{number-below}
-use Rattle.exact.proofs.Order.{number-less, unlike-tests, like-tests, unlike-signs, like-signs}
-use Rattle.exact.proofs.at_most.Statement.{statement}
-use Rattle.exact.proofs.at_most.Tie as tie
+use Rattle.words.specs.Words.{number, reading}
+use Rattle.words.proofs.Whole.{either-lt}
+use Rattle.words.proofs.Words.{Words, are-words, their-length}
+use Rattle.words.proofs.Held.{number-below}
+use Rattle.words.proofs.Order.{number-less, unlike-tests, like-tests, unlike-signs, like-signs}
+use Rattle.words.proofs.at_most.Statement.{statement}
+use Rattle.words.proofs.at_most.Tie as tie
 
 abbrev Inv-loop : tie.InvT-loop
 Inv-loop a b below i₀ i =

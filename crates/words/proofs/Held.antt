@@ -1,5 +1,5 @@
 -- What 67 words hold: `held` and `reading` undo each other, modulo 2^4288 always and entirely below 2^4287. Assumes nothing.
-use Rattle.exact.proofs.Whole.{pos--ℤ-pos, subℕ-lt}
+use Rattle.words.proofs.Whole.{pos--ℤ-pos, subℕ-lt}
 use Prim.Native.Nat.{ℕ, suc, _-_, _*_, _^_, _≤_, _<_}
 use native.Mathlib.Nat.{mod-eq-of-lt, one-mul, zero-mul}
 use native.Mathlib.Omega.{arith}
@@ -10,9 +10,9 @@ use borrow.Author.Tests.{lt-ltb, le-ltb}
 use lib.ListN.{length, replicate}
 use lib.Dec.{ltb}
 use lib.IntN.{ℤ, pos, negsuc, negℤ, natAbs, _+ℤ_, _-ℤ_, +ℤ-idr, -ℤ-+ℤ-cancel}
-use Rattle.exact.specs.Words.{number, wordsOf, modulus, half, reading, residue, held}
-use Rattle.exact.proofs.Words.{Words, number-lt, length-wordsOf, words-wordsOf, number-wordsOf, wordsOf-number}
-use Rattle.exact.proofs.Residue.{two-halves, residue-lt, residue-below, same-residue, residue-add, residue-again, residue-negℤ}
+use Rattle.words.specs.Words.{number, wordsOf, modulus, half, reading, residue, held}
+use Rattle.words.proofs.Words.{Words, number-lt, length-wordsOf, words-wordsOf, number-wordsOf, wordsOf-number}
+use Rattle.words.proofs.Residue.{two-halves, residue-lt, residue-below, same-residue, residue-add, residue-again, residue-negℤ}
 
 pub modulus-words : 2 ^ (64 * 67) ≡ modulus
 unfolding modulus

@@ -1,12 +1,12 @@
--- `exact::magnitude` meets its contract: minus a number below zero, and any other as it is. Assumes nothing.
+-- `words::magnitude` meets its contract: minus a number below zero, and any other as it is. Assumes nothing.
 use mathlib.Core.Path.{sym, ap, _∙_}
 use borrow.Author.Needs.{needs}
-use Rattle.exact.specs.Words.{reading, held}
-use Rattle.exact.proofs.Whole.{abs-negative, abs-other}
-use Rattle.exact.proofs.Words.{are-words, their-length}
-use Rattle.exact.proofs.Held.{held-reading}
-use Rattle.exact.proofs.magnitude.Statement.{statement}
-use Rattle.exact.proofs.magnitude.Tie as tie
+use Rattle.words.specs.Words.{reading, held}
+use Rattle.words.proofs.Whole.{abs-negative, abs-other}
+use Rattle.words.proofs.Words.{are-words, their-length}
+use Rattle.words.proofs.Held.{held-reading}
+use Rattle.words.proofs.magnitude.Statement.{statement}
+use Rattle.words.proofs.magnitude.Tie as tie
 
 is-negative-requires : tie.Need-is-negative-requires
 is-negative-requires c κs = search needs

@@ -8,8 +8,8 @@ use mathlib.Core.Bool.{Bool, true, false}
 use lib.Pow.{pow-pos}
 use lib.IntN.{ℤ, pos, negsuc, negℤ, subℕ, _+ℤ_, _-ℤ_, +ℤ-assoc, +ℤ-idr, +ℤ-idl, +ℤ-invr, -ℤ-+ℤ-cancel}
 use Rattle.ieee.specs.Values.{signed}
-use Rattle.exact.specs.Words.{modulus, half, residue}
-use Rattle.exact.proofs.Whole.{subℕ-ge, subℕ-lt, +ℤ-swap, either-lt}
+use Rattle.words.specs.Words.{modulus, half, residue}
+use Rattle.words.proofs.Whole.{subℕ-ge, subℕ-lt, +ℤ-swap, either-lt}
 
 pub modulus-pos : 0 < modulus
 unfolding modulus

@@ -12,10 +12,10 @@ use lib.Signed.{leZ, nonNeg}
 use lib.ListN.{length, getD, take, drop}
 use lib.Seq.{take-all, length-take-le}
 use lib.IntN.{ℤ, pos, negsuc}
-use Rattle.exact.specs.Words.{number, modulus, half, reading}
-use Rattle.exact.proofs.Whole.{pos--ℤ-pos, subℕ-lt, either-lt}
-use Rattle.exact.proofs.Words.{Words, place-suc, number-lt}
-use Rattle.exact.proofs.Held.{number-below}
+use Rattle.words.specs.Words.{number, modulus, half, reading}
+use Rattle.words.proofs.Whole.{pos--ℤ-pos, subℕ-lt, either-lt}
+use Rattle.words.proofs.Words.{Words, place-suc, number-lt}
+use Rattle.words.proofs.Held.{number-below}
 
 -- ---- a word more
 

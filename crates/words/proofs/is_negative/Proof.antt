@@ -1,9 +1,9 @@
--- `exact::is_negative` meets its contract: the highest bit is the sign. Assumes nothing.
+-- `words::is_negative` meets its contract: the highest bit is the sign. Assumes nothing.
 use borrow.Author.Needs.{needs}
-use Rattle.exact.proofs.Words.{are-words, their-length}
-use Rattle.exact.proofs.Order.{sign-of-words}
-use Rattle.exact.proofs.is_negative.Statement.{statement}
-use Rattle.exact.proofs.is_negative.Tie as tie
+use Rattle.words.proofs.Words.{are-words, their-length}
+use Rattle.words.proofs.Order.{sign-of-words}
+use Rattle.words.proofs.is_negative.Statement.{statement}
+use Rattle.words.proofs.is_negative.Tie as tie
 
 array-read-result : tie.Need-array-read-result
 array-read-result c = search needs

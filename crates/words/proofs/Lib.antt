@@ -1,0 +1,6 @@
+pub mod Whole
+pub mod Words
+pub mod Residue
+pub mod Held
+pub mod Carries
+pub mod Order
