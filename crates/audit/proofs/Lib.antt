@@ -3,3 +3,5 @@ pub mod Rows
 pub mod TrendSums
 pub mod Verdict
 pub mod Same
+pub mod Row
+pub mod Scan

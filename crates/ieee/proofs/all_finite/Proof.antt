@@ -3,9 +3,10 @@ use Prim.Native.Nat.{ℕ, _+_, _-_, _≤_, _<_}
 use native.Mathlib.Numerals.{add-one}
 use native.Mathlib.Omega.{arith}
 use mathlib.Core.Path.{_≡_, refl, sym, ap, _∙_}
-use mathlib.Core.Bool.{Bool, true, false, not, _&&_}
+use mathlib.Core.Bool.{Bool, _&&_}
 use mathlib.Core.List.{List}
 use borrow.Author.Needs.{needs}
+use borrow.Author.Tests.{not-true, not-false}
 use lib.ListN.{length, getD, drop, drop-of-length-le}
 use lib.Seq.{drop-cons}
 use lib.Ieee.{Float, nan}
@@ -24,14 +25,6 @@ abbrev μ-loop : tie.MeasureT-loop
 split : (xs : List Float) (i : ℕ) → i < length xs → allFinite (drop i xs) ≡ (finite (getD xs i nan) && allFinite (drop (i + 1) xs))
 unfolding allFinite
 split xs i h = ap allFinite (drop-cons xs i nan h) ∙ ap (λ (n : ℕ). finite (getD xs i nan) && allFinite (drop n xs)) (sym (add-one i))
-
-not-true : (b : Bool) → not b ≡ true → b ≡ false
-not-true true h = sym h
-not-true false h = refl
-
-not-false : (b : Bool) → not b ≡ false → b ≡ true
-not-false true h = refl
-not-false false h = sym h
 
 -- The states that the needs look back to, in the order of the code: a name takes a later state back to its own.
 abbrev State : (tie.InvT-loop → tie.MeasureT-loop → Type 0) → Type 0
