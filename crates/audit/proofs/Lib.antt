@@ -5,3 +5,4 @@ pub mod Verdict
 pub mod Same
 pub mod Row
 pub mod Scan
+pub mod Listed

@@ -41,7 +41,14 @@ pub fn drift_finite(drift: &[f64], wells: usize, columns: usize) -> bool
 }
 
 // |Σ z_i·x_i − target| ≤ t·(1 + |target|): one row of the audit, with z and a column of numbers whose rows are of that width. Both sides are exact sums.
-fn row_met(weights: &[f64], numbers: &[f64], column: usize, width: usize, target: f64, tolerance: f64) -> bool
+fn row_met(
+    weights: &[f64],
+    numbers: &[f64],
+    column: usize,
+    width: usize,
+    target: f64,
+    tolerance: f64,
+) -> bool
     ensures { λ r. ⌜ r ≡ within tolerance (dotted (now (weights .entry)) (now (numbers .entry)) column width) target ⌝ }
 {
     let sum = exact::dot_product(weights, numbers, column, width);
@@ -53,13 +60,19 @@ fn row_met(weights: &[f64], numbers: &[f64], column: usize, width: usize, target
 
 // Rows 1 to p, which read no value: 255 where a weight, an F entry or an f0 entry is not finite, else the first row missed, else 0.
 // F is the same for every node, so whether it is finite is looked at once, by `drift_finite`.
-pub fn audit_columns(weights: &[f64], drift: &[f64], finite_drift: bool, f0: &[f64], tolerance: f64) -> usize
+pub fn audit_columns(
+    weights: &[f64],
+    drift: &[f64],
+    finite_drift: bool,
+    f0: &[f64],
+    tolerance: f64,
+) -> usize
     ensures { λ r. ⌜ r ≡ columnVerdictGiven «finite_drift» (weighedIn (now (weights .entry)) (now (drift .entry)) (now (f0 .entry)) tolerance) ⌝ }
 {
-    if !finite_drift {
+    if !ieee::all_finite(weights) {
         return 255;
     }
-    if !ieee::all_finite(weights) {
+    if !finite_drift {
         return 255;
     }
     if !ieee::all_finite(f0) {
@@ -75,7 +88,14 @@ pub fn audit_columns(weights: &[f64], drift: &[f64], finite_drift: bool, f0: &[f
 
 // Row p + 1, and the verdict: 255 where the figure is not finite, else that of rows 1 to p where it is not 0, else p + 1 where the row is missed, else 0.
 // Of f0 it takes how many there are, and of F nothing.
-pub fn audit_figure(columns: usize, weights: &[f64], f0: &[f64], values: &[f64], figure: f64, tolerance: f64) -> usize
+pub fn audit_figure(
+    columns: usize,
+    weights: &[f64],
+    f0: &[f64],
+    values: &[f64],
+    figure: f64,
+    tolerance: f64,
+) -> usize
     ensures { λ r. ⌜ r ≡ verdictWith columns (auditedIn (weighedIn (now (weights .entry)) [] (now (f0 .entry)) tolerance) (now (values .entry)) figure) ⌝ }
 {
     if !ieee::is_finite(figure) {
