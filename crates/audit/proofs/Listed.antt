@@ -19,7 +19,7 @@ use Rattle.error.proofs.Tells.{each, passes}
 use Rattle.exact.specs.Units.{units}
 use Rattle.exact.specs.Products.{dotted}
 use Rattle.exact.proofs.Sums.{sumℤ-same}
-use Rattle.audit.specs.Audit.{Weighed, weighted, within, firstMissed, finiteGiven, columnMet, columnVerdictGiven, figureMet, verdictWith}
+use Rattle.audit.specs.Audit.{Weighed, weighted, within, firstMissed, driftFinite, finiteGiven, columnMet, columnVerdictGiven, columnVerdict, figureMet, verdictWith, verdictOf}
 use Rattle.audit.specs.Lists.{numberIn, entryIn, weighedIn, auditedIn}
 
 -- ---- finite lists
@@ -102,3 +102,17 @@ module _ (weights F f0 : List Float) (t : Float) where
   unfolding verdictWith
   joined v values figure =
       ap (λ (b : Bool). cond (finite figure) (cond (eqb v 0) (cond b 0 (length f0 + 1)) v) 255) (figure-row values figure)
+
+-- F is not read there: whichever it is, the verdict is the same
+pub unread : (weights F G f0 : List Float) (t : Float) (v : ℕ) (values : List Float) (figure : Float)
+    → verdictWith v (auditedIn (weighedIn weights F f0 t) values figure) ≡ verdictWith v (auditedIn (weighedIn weights G f0 t) values figure)
+unread weights F G f0 t v values figure = joined weights F f0 t v values figure ∙ sym (joined weights G f0 t v values figure)
+
+-- so the scan, the columns' verdict and the figure's, each as its function answers it, are together the verdict of the audit
+pub in-parts : (weights F f0 : List Float) (t : Float) (values : List Float) (figure : Float)
+    → let w = weighedIn weights F f0 t in
+    verdictWith (columnVerdictGiven (driftFinite (length weights) (length f0) (entryIn F (length f0))) w) (auditedIn (weighedIn weights [] f0 t) values figure)
+    ≡ verdictOf (auditedIn w values figure)
+unfolding verdictOf columnVerdict
+in-parts weights F f0 t values figure =
+    unread weights [] F f0 t (columnVerdictGiven (driftFinite (length weights) (length f0) (entryIn F (length f0))) (weighedIn weights F f0 t)) values figure
