@@ -10,7 +10,7 @@ use lib.Ieee.Scale.{finite}
 use Rattle.error.proofs.Tells.{same-all}
 use Rattle.exact.specs.Units.{units}
 use Rattle.exact.proofs.Sums.{sumℤ-same}
-use Rattle.audit.specs.Audit.{SameWeighed, Weighed, Audited, weighted, within, firstMissed, driftFinite, finiteGiven, columnsFinite, columnMet, columnVerdictGiven, columnVerdict, figureMet, verdictWith, verdictOf}
+use Rattle.audit.specs.Audit.{SameWeighed, Weighed, Audited, weighted, within, firstMissed, driftFinite, finiteGiven, columnMet, columnVerdictGiven, columnVerdict, figureMet, verdictWith, verdictOf}
 
 same-missed : (k j : ℕ) (f g : ℕ → Bool) → ((i : ℕ) → j ≤ i → i < j + k → f i ≡ g i) → firstMissed k j f ≡ firstMissed k j g
 unfolding firstMissed
@@ -41,14 +41,13 @@ module _ {v w : Weighed} (h : SameWeighed v w) where
   same-within x y c d g e =
       ap₂ (λ (t : Float) (z : ℤ). within t z c) (h .tolerance) (same-weighted x y g) ∙ ap (within (w .tolerance) (weighted w y)) e
 
-  same-finite : columnsFinite v ≡ columnsFinite w
-  unfolding columnsFinite finiteGiven
-  same-finite =
-      ap columnsFinite counts
-      ∙ ap₂ (λ (b c : Bool). b && c)
-      (ap₂ (λ (b c : Bool). b && c)
-      (same-all (w .n) _ _ (λ i l. ap finite (h .weight i (rw (h .n) l))))
-      (same-drift (w .n) (w .p) (v .drift) (w .drift) (λ i j l m. h .drift i j (rw (h .n) l) (rw (h .p) m))))
+  -- where both tests of F come out alike
+  same-finite : (b c : Bool) → b ≡ c → finiteGiven b v ≡ finiteGiven c w
+  unfolding finiteGiven
+  same-finite b c e =
+      ap (finiteGiven b) counts
+      ∙ ap₂ (λ (x y : Bool). x && y)
+      (ap₂ (λ (x y : Bool). x && y) (same-all (w .n) _ _ (λ i l. ap finite (h .weight i (rw (h .n) l)))) e)
       (same-all (w .p) _ _ (λ j m. ap finite (h .nodeDrift j (rw (h .p) m))))
 
   same-met : (j : ℕ) → 1 ≤ j → j < 1 + v .p → columnMet v j ≡ columnMet w j
@@ -57,17 +56,28 @@ module _ {v w : Weighed} (h : SameWeighed v w) where
       same-within (λ i. v .drift i (j - 1)) (λ i. w .drift i (j - 1)) (v .nodeDrift (j - 1)) (w .nodeDrift (j - 1))
       (λ i b. h .drift i (j - 1) b (omega arith)) (h .nodeDrift (j - 1) (omega arith))
 
-  pub same-columns : columnVerdict v ≡ columnVerdict w
-  unfolding columnVerdict columnVerdictGiven columnsFinite
-  same-columns =
-      ap₂ (λ (b : Bool) (k : ℕ). cond b k 255) same-finite
+  pub same-given : (b c : Bool) → b ≡ c → columnVerdictGiven b v ≡ columnVerdictGiven c w
+  unfolding columnVerdictGiven
+  same-given b c e =
+      ap₂ (λ (x : Bool) (k : ℕ). cond x k 255) (same-finite b c e)
       (same-missed (v .p) 1 (columnMet v) (columnMet w) same-met ∙ ap (λ (k : ℕ). firstMissed k 1 (columnMet w)) (h .p))
 
+  pub same-columns : columnVerdict v ≡ columnVerdict w
+  unfolding columnVerdict
+  same-columns =
+      same-given (driftFinite (v .n) (v .p) (v .drift)) (driftFinite (w .n) (w .p) (w .drift))
+      (ap (λ (u : Weighed). driftFinite (u .n) (u .p) (u .drift)) counts
+      ∙ same-drift (w .n) (w .p) (v .drift) (w .drift) (λ i j l m. h .drift i j (rw (h .n) l) (rw (h .p) m)))
+
 -- and the same with the values
-pub same-verdict : (a b : Audited) → SameWeighed (a .weighed) (b .weighed) → ((i : ℕ) → i < a .weighed .n → a .value i ≡ b .value i) → a .figure ≡ b .figure
-    → verdictOf a ≡ verdictOf b
-unfolding verdictOf verdictWith figureMet
-same-verdict a b h g e =
-    ap₂ (λ (c : Bool) (k : ℕ). cond c k 255) (ap finite e)
-    (ap₂ (λ (v : ℕ) (last : ℕ). cond (eqb v 0) last v) (same-columns h)
-    (ap₂ (λ (c : Bool) (p : ℕ). cond c 0 (p + 1)) (same-within h (a .value) (b .value) (a .figure) (b .figure) g e) (h .p)))
+module _ (a b : Audited) (h : SameWeighed (a .weighed) (b .weighed)) (g : (i : ℕ) → i < a .weighed .n → a .value i ≡ b .value i) (e : a .figure ≡ b .figure) where
+  pub same-joined : (u v : ℕ) → u ≡ v → verdictWith u a ≡ verdictWith v b
+  unfolding verdictWith figureMet
+  same-joined u v k =
+      ap₂ (λ (c : Bool) (k : ℕ). cond c k 255) (ap finite e)
+      (ap₂ (λ (v : ℕ) (last : ℕ). cond (eqb v 0) last v) k
+      (ap₂ (λ (c : Bool) (p : ℕ). cond c 0 (p + 1)) (same-within h (a .value) (b .value) (a .figure) (b .figure) g e) (h .p)))
+
+  pub same-verdict : verdictOf a ≡ verdictOf b
+  unfolding verdictOf
+  same-verdict = same-joined (columnVerdict (a .weighed)) (columnVerdict (b .weighed)) (same-columns h)

@@ -1,2 +1,3 @@
 pub mod Audit
 pub mod Trend
+pub mod Lists
