@@ -12,11 +12,11 @@ use lib.ListN.{length, getD, replicate}
 use lib.Ieee.{Float, nan, binary64, fits}
 use Rattle.ieee.specs.Floats.{oneFloat, absOf}
 use Rattle.exact.specs.Units.{units}
-use Rattle.exact.specs.Words.{reading, held}
+use Rattle.words.specs.Words.{reading, held}
 use Rattle.exact.specs.Products.{dotted, Terms}
-use Rattle.exact.proofs.Whole.{*ℤ-+ℤ}
+use Rattle.words.proofs.Whole.{*ℤ-+ℤ}
 use Rattle.exact.proofs.Units.{units-one, units-abs}
-use Rattle.exact.proofs.Held.{held-zero, held-add}
+use Rattle.words.proofs.Held.{held-zero, held-add}
 use Rattle.exact.proofs.Exact.{term, terms-add, terms-sub, terms-dotted, exact, exact-dotted, exact-magnitude}
 use Rattle.audit.specs.Audit.{within, unit}
 

@@ -55,7 +55,7 @@ fn row_met(
     let missing = exact::sub_product(sum, target, 1.0);
     let one = exact::add_product([0; 67], tolerance, 1.0);
     let allowed = exact::add_product(one, tolerance, ieee::abs(target));
-    exact::at_most(exact::magnitude(missing), allowed)
+    words::at_most(words::magnitude(missing), allowed)
 }
 
 // Rows 1 to p, which read no value: 255 where a weight, an F entry or an f0 entry is not finite, else the first row missed, else 0.

@@ -8,7 +8,7 @@ use lib.IntN.{_+ℤ_, _*ℤ_}
 use lib.Ieee.{Float, fits, binary64}
 use Rattle.ieee.proofs.Zero.{holds}
 use Rattle.exact.specs.Units.{units}
-use Rattle.exact.specs.Words.{reading, held}
+use Rattle.words.specs.Words.{reading, held}
 use Rattle.audit.proofs.Row.{row-is}
 use Rattle.audit.proofs.row_met.Statement.{statement}
 use Rattle.audit.proofs.row_met.Tie as tie
