@@ -1,15 +1,14 @@
 -- An audit over lists: its tests of finite numbers and its sums, as the functions of exact and ieee answer them; and the rows in turn. Assumes nothing.
-use Prim.Native.Nat.{ℕ, zero, suc, _+_, _-_, _*_, _≤_, _<_}
-use native.Mathlib.Nat.{add-comm, le-of-suc-le-suc}
-use native.Mathlib.Numerals.{add-one}
+use Prim.Native.Nat.{ℕ, suc, _+_, _-_, _*_, _<_}
+use native.Mathlib.Nat.{add-comm}
 use native.Mathlib.Omega.{arith}
 use mathlib.Core.Path.{_≡_, refl, sym, ap, ap₂, _∙_}
 use mathlib.Core.Bool.{Bool, true, false, _&&_, cond}
 use mathlib.Core.List.{List, [], _∷_}
 use lib.Dec.{T, eqb}
 use lib.IntN.{ℤ, _*ℤ_}
-use lib.ListN.{length, getD}
-use lib.Ieee.{Float, nan}
+use lib.ListN.{length}
+use lib.Ieee.{Float}
 use lib.Ieee.Fits.{and-i}
 use lib.Ieee.Scale.{finite}
 use Rattle.ieee.specs.Finite.{allFinite}
@@ -19,7 +18,8 @@ use Rattle.error.proofs.Tells.{each, passes}
 use Rattle.exact.specs.Units.{units}
 use Rattle.exact.specs.Products.{dotted}
 use Rattle.exact.proofs.Sums.{sumℤ-same}
-use Rattle.audit.specs.Audit.{Weighed, weighted, within, firstMissed, driftFinite, finiteGiven, columnMet, columnVerdictGiven, columnVerdict, figureMet, verdictWith, verdictOf}
+use Rattle.audit.specs.Audit.{Weighed, weighted, within, firstMissed, driftFinite, finiteGiven, columnMet}
+use Rattle.audit.specs.Audit.{columnVerdictGiven, columnVerdict, figureMet, verdictWith, verdictOf}
 use Rattle.audit.specs.Lists.{numberIn, entryIn, weighedIn, auditedIn}
 
 -- ---- finite lists

@@ -1,19 +1,17 @@
 -- One row of an audit in words: what the exact sums hold on both sides is the row itself, since nothing wraps. Assumes nothing.
-use Prim.Native.Nat.{ℕ, _+_, _*_, _^_, _≤_, _<_}
+use Prim.Native.Nat.{ℕ, _+_, _^_, _<_}
 use native.Mathlib.Omega.{arith}
-use native.Mathlib.Nat.{add-comm}
 use mathlib.Core.Path.{_≡_, sym, ap, ap₂, _∙_}
-use mathlib.Core.Bool.{Bool}
 use mathlib.Core.List.{List}
 use lib.Dec.{T}
 use lib.IntN.{ℤ, pos, natAbs, _+ℤ_, _-ℤ_, _*ℤ_, +ℤ-idl}
 use lib.Signed.{leZ}
-use lib.ListN.{length, getD, replicate}
-use lib.Ieee.{Float, nan, binary64, fits}
+use lib.ListN.{length, replicate}
+use lib.Ieee.{Float, binary64, fits}
 use Rattle.ieee.specs.Floats.{oneFloat, absOf}
 use Rattle.exact.specs.Units.{units}
 use Rattle.words.specs.Words.{reading, held}
-use Rattle.exact.specs.Products.{dotted, Terms}
+use Rattle.exact.specs.Products.{dotted}
 use Rattle.words.proofs.Whole.{*ℤ-+ℤ}
 use Rattle.exact.proofs.Units.{units-one, units-abs}
 use Rattle.words.proofs.Held.{held-zero, held-add}
@@ -37,7 +35,9 @@ module _ (t target : Float) where
       → reading allowed ≡ allowance
   allowance-held one allowed e g =
       ap reading
-      (g ∙ ap (λ (ws : List ℕ). held (reading ws +ℤ units t *ℤ units (absOf target))) first ∙ held-add (units t *ℤ units oneFloat) (units t *ℤ units (absOf target)))
+      (g
+      ∙ ap (λ (ws : List ℕ). held (reading ws +ℤ units t *ℤ units (absOf target))) first
+      ∙ held-add (units t *ℤ units oneFloat) (units t *ℤ units (absOf target)))
       ∙ exact {k = 1 + 1} (omega arith) (terms-add (term t oneFloat) (term t (absOf target)))
     where
       first : one ≡ held (units t *ℤ units oneFloat)

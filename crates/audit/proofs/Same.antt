@@ -10,7 +10,8 @@ use lib.Ieee.Scale.{finite}
 use Rattle.error.proofs.Tells.{same-all}
 use Rattle.exact.specs.Units.{units}
 use Rattle.exact.proofs.Sums.{sumℤ-same}
-use Rattle.audit.specs.Audit.{SameWeighed, Weighed, Audited, weighted, within, firstMissed, driftFinite, finiteGiven, columnMet, columnVerdictGiven, columnVerdict, figureMet, verdictWith, verdictOf}
+use Rattle.audit.specs.Audit.{SameWeighed, Weighed, Audited, weighted, within, firstMissed, driftFinite}
+use Rattle.audit.specs.Audit.{finiteGiven, columnMet, columnVerdictGiven, columnVerdict, figureMet, verdictWith, verdictOf}
 
 same-missed : (k j : ℕ) (f g : ℕ → Bool) → ((i : ℕ) → j ≤ i → i < j + k → f i ≡ g i) → firstMissed k j f ≡ firstMissed k j g
 unfolding firstMissed
@@ -70,7 +71,11 @@ module _ {v w : Weighed} (h : SameWeighed v w) where
       ∙ same-drift (w .n) (w .p) (v .drift) (w .drift) (λ i j l m. h .drift i j (rw (h .n) l) (rw (h .p) m)))
 
 -- and the same with the values
-module _ (a b : Audited) (h : SameWeighed (a .weighed) (b .weighed)) (g : (i : ℕ) → i < a .weighed .n → a .value i ≡ b .value i) (e : a .figure ≡ b .figure) where
+module _
+    (a b : Audited)
+    (h : SameWeighed (a .weighed) (b .weighed))
+    (g : (i : ℕ) → i < a .weighed .n → a .value i ≡ b .value i)
+    (e : a .figure ≡ b .figure) where
   pub same-joined : (u v : ℕ) → u ≡ v → verdictWith u a ≡ verdictWith v b
   unfolding verdictWith figureMet
   same-joined u v k =

@@ -1,17 +1,17 @@
 -- The scan of F, entry after entry: what a row more says, and what one bad entry says of them all. Assumes nothing.
-use Prim.Native.Nat.{ℕ, zero, suc, _+_, _*_, _≤_, _<_}
+use Prim.Native.Nat.{ℕ, zero, suc, _+_, _≤_, _<_}
 use native.Mathlib.Numerals.{add-one}
 use native.Mathlib.Decide.{decLt}
 use native.Mathlib.Omega.{arith}
 use mathlib.Core.Path.{_≡_, refl, sym, ap, ap₂, _∙_, subst}
-use mathlib.Core.Bool.{Bool, true, false, not, _&&_}
+use mathlib.Core.Bool.{Bool, true, false, _&&_}
 use mathlib.Core.List.{List}
 use lib.Dec.{T}
 use lib.ListN.{length, List·getD-eq-default}
 use lib.Ieee.{Float, nan}
 use lib.Ieee.Scale.{finite}
 use Rattle.error.specs.Tests.{all}
-use Rattle.error.proofs.Tells.{affirm, refute, each, passes}
+use Rattle.error.proofs.Tells.{refute, each, passes}
 use Rattle.audit.specs.Audit.{driftFinite}
 use Rattle.audit.specs.Lists.{numberIn, entryIn}
 

@@ -1,9 +1,7 @@
 // The audit of one node: which numbers are finite, which rows are met, the verdict. What it answers is defined in specs/.
 ghost use mathlib.Core.Path.{_≡_};
 ghost use mathlib.Core.List.{[]};
-ghost use lib.Ieee.{nan};
 ghost use lib.Ieee.Scale.{finite};
-ghost use lib.ListN.{getD};
 ghost use Rattle.exact.specs.Products.{dotted};
 ghost use Rattle.audit.specs.Audit.{within, driftFinite, columnVerdictGiven, verdictWith};
 ghost use Rattle.audit.specs.Lists.{numberIn, entryIn, weighedIn, auditedIn};

@@ -1,6 +1,6 @@
 -- `audit::audit_columns` meets its contract. The invariant: the verdict is that of the rows from row j + 1 on, since those before it are met.
 -- The measure is what is left of f0. Assumes nothing.
-use Prim.Native.Nat.{ℕ, _+_, _-_, _≤_, _<_}
+use Prim.Native.Nat.{ℕ, _+_, _-_, _≤_}
 use native.Mathlib.Omega.{arith}
 use mathlib.Core.Path.{_≡_, refl, sym, ap, ap₂, _∙_}
 use mathlib.Core.Bool.{Bool, true, false, _&&_, cond}
@@ -8,7 +8,7 @@ use borrow.Author.Needs.{needs}
 use borrow.Author.Tests.{not-true, not-false}
 use lib.ListN.{length}
 use Rattle.ieee.specs.Finite.{allFinite}
-use Rattle.audit.specs.Audit.{Weighed, columnMet, columnVerdictGiven}
+use Rattle.audit.specs.Audit.{columnMet, columnVerdictGiven}
 use Rattle.audit.specs.Lists.{weighedIn}
 use Rattle.audit.proofs.Listed.{missedFrom, row-missed, row-passed, rows-end, column-row, given}
 use Rattle.audit.proofs.audit_columns.Statement.{statement}
@@ -26,8 +26,11 @@ abbrev μ-loop : tie.MeasureT-loop
 abbrev State : (tie.InvT-loop → tie.MeasureT-loop → Type 0) → Type 0
 State S = S Inv-loop μ-loop
 
+abbrev at-known : State tie.After-all-finite → State tie.After-shared-slice-known
+at-known c = c .before .before .before
+
 abbrev at-entry : State tie.After-all-finite → State tie.Start
-at-entry c = let known = c .before in known .before .before .before
+at-entry c = at-known c .before
 
 abbrev at-weights : State tie.After-all-finite2 → State tie.After-all-finite
 at-weights c = c .before .before .before

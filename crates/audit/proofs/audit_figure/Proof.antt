@@ -1,5 +1,5 @@
 -- `audit::audit_figure` meets its contract, by what each test that came before leaves of the verdict. Assumes nothing.
-use Prim.Native.Nat.{ℕ, _+_}
+use Prim.Native.Nat.{_+_}
 use mathlib.Core.Path.{_≡_, refl, sym, ap, ap₂, _∙_}
 use mathlib.Core.Bool.{Bool, true, false, cond}
 use mathlib.Core.List.{[]}
@@ -16,8 +16,11 @@ use Rattle.audit.proofs.audit_figure.Statement.{statement}
 use Rattle.audit.proofs.audit_figure.Tie as tie
 
 -- The states that the needs look back to: a name takes a later state back to its own.
+abbrev at-known : tie.After-is-finite → tie.After-shared-slice-known
+at-known c = c .before .before .before
+
 abbrev at-entry : tie.After-is-finite → tie.Start
-at-entry c = let known = c .before in known .before .before .before
+at-entry c = at-known c .before
 
 abbrev at-figure : tie.After-row-met → tie.After-is-finite
 at-figure c = c .before .before .before
@@ -31,8 +34,9 @@ by-tests : (c : tie.Start) (x y z : Bool)
 by-tests c x y z e g h =
     let a = c .args in
     let last = length (a .f0 .now) + 1 in
+    let met = within (a .tolerance) (dotted (a .weights .now) (a .values .now) 0 1) (a .figure) in
     joined (a .weights .now) [] (a .f0 .now) (a .tolerance) (a .columns) (a .values .now) (a .figure)
-    ∙ ap₂ (λ (u v : Bool). cond u (cond v (cond (within (a .tolerance) (dotted (a .weights .now) (a .values .now) 0 1) (a .figure)) 0 last) (a .columns)) 255) e g
+    ∙ ap₂ (λ (u v : Bool). cond u (cond v (cond met 0 last) (a .columns)) 255) e g
     ∙ ap (λ (v : Bool). cond x (cond y (cond v 0 last) (a .columns)) 255) h
 
 -- past the first two tests the figure is finite and the verdict of rows 1 to p is 0

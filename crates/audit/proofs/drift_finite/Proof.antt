@@ -3,7 +3,7 @@
 use Prim.Native.Nat.{ℕ, _+_, _-_, _*_, _≤_, _<_}
 use native.Mathlib.Omega.{arith}
 use mathlib.Core.Path.{_≡_, refl, sym, ap, _∙_, subst}
-use mathlib.Core.Bool.{Bool, true, false, not}
+use mathlib.Core.Bool.{true}
 use borrow.Author.Needs.{needs}
 use borrow.Author.Tests.{not-true, not-false}
 use lib.ListN.{length}
@@ -102,7 +102,8 @@ loop-again c =
     let a = at-entry w .args in
     let v = h .loop .inv in
     let f = c .before .finite-at in
-    let row = one-more (h .loop .j) (λ j. finite (entryIn (a .drift .now) (a .columns) (w .wells .i) j)) (v .6) (sym (looked (c .before)) ∙ not-false (f .result) (c .if2 .left)) in
+    let good = sym (looked (c .before)) ∙ not-false (f .result) (c .if2 .left) in
+    let row = one-more (h .loop .j) (λ j. finite (entryIn (a .drift .now) (a .columns) (w .wells .i) j)) (v .6) good in
     (omega arith, omega arith, omega arith, omega (arith, inside c), v .4, v .5, row)
 
 -- 'wells: for i in 0..wells

@@ -61,11 +61,12 @@ returns c =
     let s = at-entry (at-sum one) in
     let a = s .args in
     let few : length (a .weights .now) * 8 < 2 ^ 63 = s .good .0 .1 in
-    let size = ap (λ (y : Float). held (reading (one .add-product .result) +ℤ units (a .tolerance) *ℤ units y)) (m .before .before .abs .ensures) in
+    let same = ap (λ (y : Float). held (reading (one .add-product .result) +ℤ units (a .tolerance) *ℤ units y)) (m .before .before .abs .ensures) in
     c .at-most .ensures
-    ∙ row-is (a .weights .now) (a .numbers .now) (a .column) (a .width) (a .target) (omega arith) (a .tolerance) (holds (fits binary64 (a .target)) (s .good .1 .1 .1 .1 .0 .1))
+    ∙ row-is (a .weights .now) (a .numbers .now) (a .column) (a .width) (a .target) (omega arith) (a .tolerance)
+    (holds (fits binary64 (a .target)) (s .good .1 .1 .1 .1 .0 .1))
     (sum .result) (missing .result) (m .magnitude .result) (one .add-product .result) (allowed .result)
-    (sum .ensures) (missing .ensures) (m .magnitude .ensures) (one .add-product .ensures) (allowed .ensures ∙ size)
+    (sum .ensures) (missing .ensures) (m .magnitude .ensures) (one .add-product .ensures) (allowed .ensures ∙ same)
 
 pub row-met-spec : {M : Type 1} → statement M
 row-met-spec =

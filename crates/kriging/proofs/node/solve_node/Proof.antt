@@ -1,0 +1,100 @@
+-- `kriging::node::solve_node` meets its contract: each part is what the call behind it answers. Assumes nothing.
+use mathlib.Core.Path.{_≡_, ap, sym, _∙_}
+use native.Mathlib.Omega.{arith}
+use borrow.Author.Needs.{needs}
+use mathlib.Core.List.{List}
+use lib.ListN.{length, take}
+use lib.Seq.{length-take-le}
+use lib.Ieee.{Float, nan}
+use Rattle.area.proofs.Tables.{take-start}
+use Rattle.ieee.specs.Floats.{zeroFloat, maxOf}
+use Rattle.kriging.specs.Node.{zOf, varianceOf}
+use Rattle.kriging.proofs.node.solve_node.Statement.{statement}
+use Rattle.kriging.proofs.node.solve_node.Tie as tie
+
+-- The states that the needs look back to, in the order of the code: a name takes a later state back to its own.
+abbrev at-entry : tie.After-fill-z → tie.Start
+at-entry c = c .before .before .before .before .before
+
+abbrev at-z : tie.After-z4 → tie.After-fill-z
+at-z c = c .before .before .before .before .before
+
+-- src/node.rt:98:27
+slice-aggregate-fill-z : tie.Need-slice-aggregate-fill-z
+slice-aggregate-fill-z c = search needs
+
+-- src/node.rt:98:5
+fill-z-requires : tie.Need-fill-z-requires
+fill-z-requires c κs = search needs
+
+-- src/node.rt:99:43
+slice-aggregate-weighted-sum : tie.Need-slice-aggregate-weighted-sum
+slice-aggregate-weighted-sum c = search needs
+
+-- src/node.rt:99:30
+weighted-sum-requires : tie.Need-weighted-sum-requires
+weighted-sum-requires c κs = search needs
+
+-- src/node.rt:99:9
+max-requires : tie.Need-max-requires
+max-requires c κs = search needs
+
+-- src/node.rt:100:40
+array-share-prefix-z : tie.Need-array-share-prefix-z
+array-share-prefix-z c = search needs
+
+-- z has its 60 places
+long : (c : tie.After-z4) → length (at-z c .fill-z .last .1 .1 .1 .0) ≡ 60
+long c = at-z c .fill-z .kept .1 .1 .1 .0
+
+-- src/node.rt:100:40
+slice-aggregate-audit-columns : tie.Need-slice-aggregate-audit-columns
+slice-aggregate-audit-columns c = sym (length-take-le _ _ (omega (arith, long c)))
+
+-- src/node.rt:100:70
+mul-audit-columns : tie.Need-mul-audit-columns
+mul-audit-columns c = search needs
+
+-- src/node.rt:100:70
+sub-audit-columns : tie.Need-sub-audit-columns
+sub-audit-columns c = search needs
+
+-- src/node.rt:100:70
+part-audit-columns-start : tie.Need-part-audit-columns-start
+part-audit-columns-start c = search needs
+
+-- src/node.rt:100:70
+part-audit-columns-end : tie.Need-part-audit-columns-end
+part-audit-columns-end c = search needs
+
+-- src/node.rt:100:9
+audit-columns-requires : tie.Need-audit-columns-requires
+audit-columns-requires c κs = search needs
+
+-- src/node.rt:90:1
+returns : tie.Need-returns
+unfolding zOf varianceOf
+returns c =
+    let z = at-z (c .before .before) in
+    let a = at-entry z .args in (
+      ap (λ (zs : List Float). take (length (a .b .now)) zs) (z .fill-z .ensures) ∙ take-start (length (a .b .now)) _ _ nan (omega (arith, at-entry z .pre)),
+      (c .before .before .before .max .ensures ∙ ap (λ (x : Float). maxOf x zeroFloat) (c .before .before .before .before .weighted-sum .ensures), c .audit-columns .ensures),
+    )
+
+pub solve-node-spec : {M : Type 1} → statement M
+solve-node-spec =
+    tie.close
+    (tie.spec
+    slice-aggregate-fill-z
+    fill-z-requires
+    slice-aggregate-weighted-sum
+    weighted-sum-requires
+    max-requires
+    array-share-prefix-z
+    slice-aggregate-audit-columns
+    mul-audit-columns
+    sub-audit-columns
+    part-audit-columns-start
+    part-audit-columns-end
+    audit-columns-requires
+    returns)
