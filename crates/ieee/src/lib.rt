@@ -5,6 +5,7 @@ ghost use mathlib.Core.Bool.{true, false};
 ghost use lib.Dec.{T};
 ghost use lib.Ieee.Scale.{finite};
 ghost use lib.Ieee.Positive.{positive};
+ghost use Rattle.ieee.specs.Finite.{allFinite};
 ghost use Rattle.ieee.specs.Floats.{absOf, maxOf, minOf, floorOf};
 ghost use Rattle.ieee.specs.Values.{multiple, signOf};
 ghost use Rattle.ieee.specs.Root.{wholeRoot, rootOf, sqrtOf, Normalised};
@@ -15,6 +16,18 @@ pub fn is_finite(x: f64) -> bool
     ensures { λ r. ⌜ r ≡ finite x ⌝ }
 {
     x - x == 0.0
+}
+
+// Whether every number of a list is finite. The first that is not decides.
+pub fn all_finite(xs: &[f64]) -> bool
+    ensures { λ r. ⌜ r ≡ allFinite (now (xs .entry)) ⌝ }
+{
+    for i in 0..xs.len() {
+        if !is_finite(xs[i]) {
+            return false;
+        }
+    }
+    true
 }
 
 // The magnitude of x: its sign is cleared, a zero's too. A NaN stays one.
