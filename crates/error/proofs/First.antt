@@ -2,7 +2,7 @@
 use Prim.Native.Nat.{ℕ, _<_}
 use mathlib.Core.Path.{_≡_, refl, sym, ap, _∙_}
 use mathlib.Core.Logic.{_≢_}
-use mathlib.Core.Bool.{Bool, true, false, _&&_, cond}
+use mathlib.Core.Bool.{Bool, true, false, _&&_, _||_, cond}
 use mathlib.Core.List.{List, [], _∷_, _++_}
 use native.Mathlib.Omega.{arith}
 use lib.Dec.{T, ltb, ltb→lt}
@@ -26,6 +26,20 @@ past k ts h = rw h
 pub none : firstOf [] ≡ 0
 unfolding firstOf
 none = refl
+
+-- a condition that is one of two
+pub one : {a : Bool} (b : Bool) → a ≡ true → (a || b) ≡ true
+one b h = rw h
+
+pub other : {a : Bool} (b : Bool) → a ≡ false → (a || b) ≡ b
+other b h = rw h
+
+-- a condition that is two at once
+pub also : {a : Bool} (b : Bool) → a ≡ true → (a && b) ≡ b
+also b h = rw h
+
+pub not-even : {a : Bool} (b : Bool) → a ≡ false → (a && b) ≡ false
+not-even b h = rw h
 
 -- ---- part after part
 -- 0 is no test's number

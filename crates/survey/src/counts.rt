@@ -1,8 +1,8 @@
 // The counts of a survey that its basis codes give: drift columns p, and external columns k.
 ghost use mathlib.Core.Path.{_≡_};
 ghost use Prim.Native.Nat.{_*_};
-ghost use lib.Dec.{eqb};
-ghost use Rattle.survey.specs.Survey.{codeColumns, externalCount, columnsHeld};
+ghost use lib.Dec.{eqb, ltb};
+ghost use Rattle.survey.specs.Survey.{codeColumns, columnSum, externalCount, columnsHeld};
 
 // Counted columns stop here: more wells than a list of f64 can have.
 const MOST: usize = 0x1000_0000_0000_0000;
@@ -32,6 +32,21 @@ pub fn drift_columns(bases: &[u8]) -> usize
         }
     }
     p
+}
+
+// Whether the codes give more columns than `most`. What is left of `most` is counted down, so that p itself need not fit a word, and no code is read past it.
+pub fn more_columns(bases: &[u8], most: usize) -> bool
+    ensures { λ r. ⌜ r ≡ ltb most (columnSum (now (bases .entry))) ⌝ }
+{
+    let mut left = most;
+    for i in 0..bases.len() {
+        let columns = drift_basis_columns(bases[i]);
+        if left < columns {
+            return true;
+        }
+        left -= columns;
+    }
+    false
 }
 
 // k, the count of code 4.
