@@ -1,13 +1,13 @@
 // What turns a survey away, 1 to 12, in the parts that calls join. How many nodes there are, m, and their externals stand apart from the survey's own lists.
+use crate::Limits;
+use crate::UniversalKrigingOptions;
+use crate::counts::external_columns;
+use crate::counts::is_product;
+use crate::counts::more_columns;
 use error::Judgement;
 use error::Refusal;
 use variogram::Variogram;
 use variogram::VariogramModel;
-use crate::UniversalKrigingOptions;
-use crate::Limits;
-use crate::counts::external_columns;
-use crate::counts::is_product;
-use crate::counts::more_columns;
 ghost use mathlib.Core.Path.{_≡_};
 ghost use lib.Ieee.{Float};
 ghost use Rattle.error.specs.Numbers.{judged};
@@ -161,7 +161,15 @@ pub fn number_refusal(
     if bad_amount(tolerance) {
         return Judgement::Refused(Refusal::Tolerance);
     }
-    if number_not_finite(values, coords, bases, external, nodes, node_external, options) {
+    if number_not_finite(
+        values,
+        coords,
+        bases,
+        external,
+        nodes,
+        node_external,
+        options,
+    ) {
         return Judgement::Refused(Refusal::NotFinite);
     }
     Judgement::Accepted
@@ -196,7 +204,16 @@ pub fn survey_refusal(
         (surveyOf (now (values .entry)) (now (coords .entry)) (now (bases .entry)) (now (external .entry)) (now (nodes .entry)) (now («node_external» .entry)) options tolerance) ⌝ }
 {
     let m = nodes.len() / 2;
-    let lists = list_refusal(values, coords, bases, external, nodes, m, node_external, options);
+    let lists = list_refusal(
+        values,
+        coords,
+        bases,
+        external,
+        nodes,
+        m,
+        node_external,
+        options,
+    );
     if let Judgement::Refused(_) = lists {
         return lists;
     }
@@ -204,7 +221,16 @@ pub fn survey_refusal(
     if let Judgement::Refused(_) = limit {
         return limit;
     }
-    let numbers = number_refusal(values, coords, bases, external, nodes, node_external, options, tolerance);
+    let numbers = number_refusal(
+        values,
+        coords,
+        bases,
+        external,
+        nodes,
+        node_external,
+        options,
+        tolerance,
+    );
     if let Judgement::Refused(_) = numbers {
         return numbers;
     }

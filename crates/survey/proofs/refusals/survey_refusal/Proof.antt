@@ -58,13 +58,21 @@ enum-told : tie.Need-enum-told
 enum-told c = search needs
 
 returns : tie.Need-returns
-returns c = ?
+returns c =
+    let h = c .before .before in
+    let s = at-lists h in
+    refused (h .list-refusal .result) _ (lists s) (limit s ++ (numbers s ++ model s)) (c .enum-told .given .1) (h .list-refusal .ensures (s .args .tolerance))
+    ∙ sym (parts s)
 
 enum-told-2 : tie.Need-enum-told-2
 enum-told-2 c = search needs
 
 past-lists : (c : tie.After-enum-told2) → let s = at-lists (c .before .before) in whole s ≡ firstOf (limit s ++ (numbers s ++ model s))
-past-lists c = ?
+past-lists c =
+    let h = c .before .before in
+    let s = at-lists h in
+    let e = h .list-refusal .ensures (s .args .tolerance) in
+    parts s ∙ accepted (h .list-refusal .result) (lists s) (limit s ++ (numbers s ++ model s)) tt (c .enum-told2 .given .1) e
 
 -- let limit = limit_refusal(limits, values.len(), bases, m);
 limit-refusal-requires : tie.Need-limit-refusal-requires
@@ -75,10 +83,21 @@ enum-told-3 : tie.Need-enum-told-3
 enum-told-3 c = search needs
 
 returns-2 : tie.Need-returns-2
-returns-2 c = ?
+returns-2 c =
+    let h = c .before .before in
+    let s = at-limit h in
+    refused (h .limit-refusal .result) _ (limit s) (numbers s ++ model s) (c .enum-told3 .given .1) (h .limit-refusal .ensures (survey s) refl refl)
+    ∙ sym (past-lists (h .before))
 
 enum-told-4 : tie.Need-enum-told-4
 enum-told-4 c = search needs
+
+past-limit : (c : tie.After-enum-told4) → let s = at-limit (c .before .before) in whole s ≡ firstOf (numbers s ++ model s)
+past-limit c =
+    let h = c .before .before in
+    let s = at-limit h in
+    let e = h .limit-refusal .ensures (survey s) refl refl in
+    past-lists (h .before) ∙ accepted (h .limit-refusal .result) (limit s) (numbers s ++ model s) tt (c .enum-told4 .given .1) e
 
 -- let numbers = number_refusal(values, coords, bases, external, nodes, node_external, options, tolerance);
 number-refusal-requires : tie.Need-number-refusal-requires
@@ -89,7 +108,10 @@ enum-told-5 : tie.Need-enum-told-5
 enum-told-5 c = search needs
 
 returns-3 : tie.Need-returns-3
-returns-3 c = ?
+returns-3 c =
+    let h = c .before .before in
+    let s = at-numbers h in
+    refused (h .number-refusal .result) _ (numbers s) (model s) (c .enum-told5 .given .1) (h .number-refusal .ensures) ∙ sym (past-limit (h .before))
 
 enum-told-6 : tie.Need-enum-told-6
 enum-told-6 c = search needs
@@ -99,7 +121,12 @@ model-refusal-requires : tie.Need-model-refusal-requires
 model-refusal-requires c κs = search needs
 
 returns-4 : tie.Need-returns-4
-returns-4 c = ?
+returns-4 c =
+    let g = c .before in
+    let h = g .before .before in
+    let s = at-numbers h in
+    c .model-refusal .ensures
+    ∙ sym (past-limit (h .before) ∙ accepted (h .number-refusal .result) (numbers s) (model s) tt (g .enum-told6 .given .1) (h .number-refusal .ensures))
 
 pub survey-refusal-spec : {M : Type 1} → statement M
 survey-refusal-spec =
