@@ -1,2 +1,3 @@
 pub mod Tells
 pub mod Rules
+pub mod First

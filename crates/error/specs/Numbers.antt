@@ -1,5 +1,7 @@
 -- The numbers of paper 01, "What turns a call away": a refusal carries only its number. Assumes nothing.
 use Prim.Native.Nat.{ℕ}
+use Rattle.error.specs.declared.Judgement.{Judgement}
+use Rattle.error.specs.declared.Judgement.the-variants.{Accepted, Refused}
 use Rattle.error.specs.declared.Refusal.{Refusal}
 use Rattle.error.specs.declared.Refusal.the-variants.{CoordinatesLength, NodesLength, NoBasis, BasisCode, Regularization, ExternalLength, TooFewWells, NodeExternalLength, TooMany, Tolerance, NotFinite, Model, Dimension, TooFewSamples, Bins, SurveyFile, WorkArea, AnswerArea, Singular}
 
@@ -24,3 +26,8 @@ numberOf SurveyFile = 16
 numberOf WorkArea = 17
 numberOf AnswerArea = 18
 numberOf Singular = 19
+
+-- what tests come to: 0 where none holds, else the number of the first that does
+abbrev pub judged : Judgement → ℕ
+judged Accepted = 0
+judged (Refused r) = numberOf r

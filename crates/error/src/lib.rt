@@ -45,6 +45,12 @@ pub enum Refusal {
     Singular,
 }
 
+// What the tests of a call come to: no refusal, or the first one that applies.
+pub enum Judgement {
+    Accepted,
+    Refused(Refusal),
+}
+
 // The error kinds of error.rs that the three calls use, and one for the numbers that are added here.
 pub enum ErrorKind {
     InvalidInput,

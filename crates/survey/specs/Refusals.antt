@@ -6,13 +6,13 @@ use lib.Dec.{ltb, eqb}
 use lib.ListN.{length}
 use lib.Ieee.{Float, lt}
 use lib.Ieee.Scale.{finite}
-use Rattle.error.specs.Tests.{Test, test, any}
+use Rattle.error.specs.Tests.{Test, test, any, firstOf}
 use Rattle.ieee.specs.Floats.{zeroFloat}
 use Rattle.ieee.specs.Finite.{allFinite}
 use Rattle.variogram.specs.declared.Variogram.{Variogram}
 use Rattle.variogram.specs.Model.{notOffered}
 use Rattle.survey.specs.declared.Limits.{Limits}
-use Rattle.survey.specs.Survey.{Survey, wells, columns, externals}
+use Rattle.survey.specs.Survey.{Survey, wells, nodeCount, columns, externals}
 
 abbrev pub differ : ℕ → ℕ → Bool
 differ a b = not (eqb a b)
@@ -95,3 +95,8 @@ modelTests v = test 12 (wrongModel v) ∷ []
 unfoldable pub surveyTests : Limits → Survey → ℕ → List Float → List Test
 unfolding numberNotFinite
 surveyTests limits s m e = listTests s m e ++ (limitTests limits s m ++ (numberTests s e ++ modelTests (s .options .variogram)))
+
+-- the number of the first that holds of a survey with its own nodes, and 0 where none does
+unfoldable pub surveyRefusal : Limits → Survey → ℕ
+unfolding surveyTests firstOf
+surveyRefusal limits s = firstOf (surveyTests limits s (nodeCount s) (s .nodeExternal))

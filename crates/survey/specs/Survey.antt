@@ -1,5 +1,5 @@
 -- A survey: paper 01, "Lists". Every function here speaks of lists of any length. Assumes nothing.
-use Prim.Native.Nat.{ℕ, _+_, _*_, _/_}
+use Prim.Native.Nat.{ℕ, _+_, _*_, _/_, _^_, min}
 use mathlib.Core.Bool.{cond}
 use mathlib.Core.List.{List, [], _∷_}
 use lib.Dec.{eqb}
@@ -18,6 +18,19 @@ pub record Survey : Type 0 where
   pub nodeExternal : List Float
   pub options : UniversalKrigingOptions
   pub tolerance : Float
+
+-- the survey with these lists and numbers
+abbrev pub surveyOf : List Float → List Float → List ℕ → List Float → List Float → List Float → UniversalKrigingOptions → Float → Survey
+surveyOf values coords bases external nodes nodeExternal options tolerance = record {
+  values = values;
+  coords = coords;
+  bases = bases;
+  external = external;
+  nodes = nodes;
+  nodeExternal = nodeExternal;
+  options = options;
+  tolerance = tolerance;
+}
 
 -- ---- counts
 
@@ -40,6 +53,11 @@ columnSum (c ∷ cs) = codeColumns c + columnSum cs
 
 abbrev pub columns : Survey → ℕ
 columns s = columnSum (s .bases)
+
+-- p as a machine word holds it. The codes are a list of any length, so p may pass every word: it is counted up to 2^60, which is more than the wells of any
+-- list in memory, so that "n < p" reads the same; and no smaller p is changed.
+abbrev pub columnsHeld : List ℕ → ℕ
+columnsHeld bases = min (columnSum bases) (2 ^ 60)
 
 -- "k the count of code 4"
 abbrev pub externalCount : List ℕ → ℕ

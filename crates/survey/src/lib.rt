@@ -1,4 +1,7 @@
-// A survey besides its lists: the options of a fit, and what a call takes at most.
+// A survey besides its lists: the options of a fit, and what a call takes at most. Its counts and what turns it away stand in files of their own.
+pub mod counts; // counts.rt: drift columns p and external columns k
+pub mod refusals; // refusals.rt: 1 to 12
+
 use variogram::Variogram;
 use variogram::VariogramModel;
 ghost use mathlib.Core.Path.{_≡_};
