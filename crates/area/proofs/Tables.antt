@@ -1,14 +1,16 @@
 -- Laws of `table` and of two lists joined, place by place. Assumes nothing.
-use Prim.Native.Nat.{ℕ, zero, suc, _+_, _<_}
+use Prim.Native.Nat.{ℕ, zero, suc, _+_, _≤_, _<_}
 use native.Mathlib.Nat.{not-suc-le-zero}
 use native.Mathlib.Numerals.{add-one}
 use native.Mathlib.Decide.{decLt}
 use native.Mathlib.Omega.{arith}
 use mathlib.Core.Path.{_≡_, refl, ap, ap₂, sym, _∙_}
 use mathlib.Core.List.{List, [], _∷_, _++_}
-use lib.ListN.{length, getD, length-append, List·getD-append}
-use lib.Seq.{getD-append-add, getD-at}
-use Rattle.area.specs.Area.{table}
+use lib.ListN.{length, getD, take, length-append, List·getD-append}
+use lib.Seq.{getD-append-add, getD-at, getD-take, length-take-le, ext-getD}
+use Rattle.area.specs.Area.{written, table}
+use Rattle.area.proofs.Turns.{length-written}
+use Rattle.area.proofs.Start.{from-start}
 
 pub table-length : {A : Type 0} (k : ℕ) (f : ℕ → A) → length (table k f) ≡ k
 table-length zero f = refl
@@ -35,3 +37,15 @@ pub same-table : {A : Type 0} (k : ℕ) (f g : ℕ → A) → ((i : ℕ) → i <
 same-table zero f g h = refl
 same-table {A} (suc k) f g h =
     ap₂ (λ (xs : List A) (x : A). xs ++ (x ∷ [])) (same-table k f g (λ i b. h i (omega arith))) (h k (omega arith))
+
+-- what a fill from the first place on wrote is the table of its values
+pub take-start : {A : Type 0} (k : ℕ) (f : ℕ → A) (xs : List A) (d : A) → k ≤ length xs → take k (written 0 k f xs) ≡ table k f
+take-start k f xs d long =
+    let inside : k ≤ length (written 0 k f xs) = omega (arith, length-written 0 k f xs) in
+    let len = length-take-le k (written 0 k f xs) inside in
+    ext-getD
+    d
+    (take k (written 0 k f xs))
+    (table k f)
+    (len ∙ sym (table-length k f))
+    (λ i b. let h : i < k = omega (arith, len) in getD-take k (written 0 k f xs) i d h ∙ from-start k f xs i d long h ∙ sym (table-at k f i d h))

@@ -8,3 +8,4 @@ pub mod SystemDiagonal
 pub mod Nodes
 pub mod NodesAlone
 pub mod Values
+pub mod DriftRows

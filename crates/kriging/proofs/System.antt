@@ -19,7 +19,7 @@ use Rattle.kriging.specs.Drift.{drift, nodeRow}
 use Rattle.kriging.specs.Assembly.{between, joined, entry, assembled}
 use Rattle.ieee.specs.Sums.{runningSum}
 use Rattle.area.specs.Area.{table}
-use Rattle.kriging.specs.Node.{rightHand}
+use Rattle.kriging.specs.Node.{rightHandOf, rightHand}
 use Rattle.kriging.specs.System.{nodePlace, variogramOf, Index, Well, Drift, Within, coefficientOf, rightOf, varianceSum, rowOf}
 use Rattle.kriging.proofs.SystemDrift.{drift-well, drift-node, node-row-length}
 use Rattle.area.proofs.Tables.{table-length, joined-at, joined-past}
@@ -74,11 +74,11 @@ module _ (s : Survey) (work : List Float) (d : Float) (long : 2 * size s * size 
 
 -- ---- the right-hand side and the variance of a node
 pub right-length : (s : Survey) (q : ℕ) → length (rightHand s q) ≡ size s
-unfolding rightHand
+unfolding rightHand rightHandOf
 right-length s q = length-append (table (wells s) _) (nodeRow s q) ∙ ap₂ (λ (m n : ℕ). m + n) (table-length (wells s) _) (node-row-length s q)
 
 pub right-is : (s : Survey) (q : ℕ) (u : Index) → Within s u → getD (rightHand s q) (rowOf s u) nan ≡ rightOf s (nodePlace s q) u
-unfolding rightHand rightOf variogramOf
+unfolding rightHand rightHandOf rightOf variogramOf
 right-is s q (Well i) h = joined-at (wells s) _ (nodeRow s q) i nan h
 right-is s q (Drift l) h = joined-past (wells s) _ (nodeRow s q) l nan ∙ drift-node s q l
 

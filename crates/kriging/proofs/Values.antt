@@ -14,7 +14,7 @@ use Rattle.survey.specs.Survey.{Survey, wells, columns, wellX, wellY, nodeX, no
 use Rattle.audit.specs.Audit.{columnVerdict}
 use Rattle.kriging.specs.Drift.{driftRow, drift, nodeRow}
 use Rattle.kriging.specs.Assembly.{between, joined, entry}
-use Rattle.kriging.specs.Node.{gammaTo, rightHand, zOf, varianceOf, Solution, solutionOf}
+use Rattle.kriging.specs.Node.{gammaTo, rightHandOf, rightHand, zOf, varianceOf, Solution, solutionOf}
 use Rattle.kriging.specs.Alike.{SameButValues}
 
 -- t with s's values
@@ -50,7 +50,7 @@ abbrev entryBy : Survey → ℕ → ℕ → ℕ → (ℕ → ℕ → Float) → 
 entryBy t i j n D = joined n (between (t .options) (t .coords)) D i j
 
 abbrev rightBy : Survey → ℕ → ℕ → List Float
-rightBy t q n = table n (gammaTo (t .options .variogram) (t .coords) (nodeX t q) (nodeY t q)) ++ nodeRow t q
+rightBy t q n = rightHandOf n (gammaTo (t .options .variogram) (t .coords) (nodeX t q) (nodeY t q)) (nodeRow t q)
 
 abbrev solutionBy : Survey → List Float → ℕ → ℕ → (ℕ → ℕ → Float) → Solution
 solutionBy t work q n D =

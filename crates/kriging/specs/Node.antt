@@ -19,10 +19,13 @@ unfoldable pub gammaTo : Variogram → List Float → Float → Float → ℕ �
 unfolding semivariance distance2d
 gammaTo variogram coords x y i = semivariance variogram (distance2d (xOf coords i) (yOf coords i) x y)
 
--- "then the node's drift entries f0"
+-- "then the node's drift entries f0": to n wells
+unfoldable pub rightHandOf : ℕ → (ℕ → Float) → List Float → List Float
+rightHandOf n gamma f0 = table n gamma ++ f0
+
 unfoldable pub rightHand : Survey → ℕ → List Float
-unfolding gammaTo
-rightHand s q = table (wells s) (gammaTo (s .options .variogram) (s .coords) (nodeX s q) (nodeY s q)) ++ nodeRow s q
+unfolding gammaTo rightHandOf
+rightHand s q = rightHandOf (wells s) (gammaTo (s .options .variogram) (s .coords) (nodeX s q) (nodeY s q)) (nodeRow s q)
 
 -- "z = inverse times b"
 unfoldable pub zOf : ℕ → List Float → List Float → List Float

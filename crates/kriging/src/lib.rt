@@ -1,6 +1,7 @@
 // Universal kriging with external drift: the answer of a fit. What the fit answers is defined in specs/.
 use error::Refusal;
 
+mod drift;
 mod node; // node.rt: one node
 
 // How a fit ends.

@@ -2,12 +2,16 @@
 use variogram::Variogram;
 ghost use mathlib.Core.Path.{_≡_};
 ghost use Prim.Native.Nat.{_+_, _*_, _≤_, _<_};
-ghost use lib.ListN.{length, getD};
+ghost use lib.ListN.{length, getD, take, drop};
 ghost use lib.Ieee.{nan, binary64, mul};
 ghost use Rattle.area.specs.Area.{written};
 ghost use Rattle.ieee.specs.Sums.{runningSum};
 ghost use Rattle.elimination.specs.Inverse.{timesInverse};
-ghost use Rattle.kriging.specs.Node.{gammaTo};
+ghost use Rattle.audit.specs.Audit.{columnVerdictGiven, verdictWith};
+ghost use Rattle.audit.specs.Lists.{weighedIn, auditedIn};
+ghost use Rattle.survey.specs.Survey.{columnSum, externalCount, xOf, yOf};
+ghost use Rattle.kriging.specs.Drift.{driftRow};
+ghost use Rattle.kriging.specs.Node.{gammaTo, rightHandOf, zOf, varianceOf};
 
 // The variogram from a place to each of the n wells.
 fn fill_gamma(coords: &[f64], variogram: Variogram, x: f64, y: f64, n: usize, b: &mut [f64])
@@ -53,4 +57,50 @@ fn weighted_sum(z: &[f64], numbers: &[f64], count: usize) -> f64
         acc += z[i] * numbers[i];
     }
     acc
+}
+
+// b of node q: the variogram to each of the n wells, then f0.
+fn fill_right_hand(
+    coords: &[f64],
+    bases: &[u8],
+    variogram: Variogram,
+    nodes: &[f64],
+    node_external: &[f64],
+    n: usize,
+    k: usize,
+    q: usize,
+    b: &mut [f64],
+)
+    requires { ⌜ (2 * n ≤ length (now coords)) × (2 * q + 1 < length (now nodes)) × (externalCount (now bases) ≡ k) × (q * k + k ≤ length (now «node_external»)) × (n + columnSum (now bases) ≤ length (now b)) ⌝ }
+    ensures { λ _. ⌜ take (n + columnSum (now (bases .entry))) (now (b .exit)) ≡ rightHandOf n (gammaTo variogram (now (coords .entry)) (xOf (now (nodes .entry)) q) (yOf (now (nodes .entry)) q)) (driftRow (now (bases .entry)) (xOf (now (nodes .entry)) q) (yOf (now (nodes .entry)) q) (λ c. getD (now («node_external» .entry)) (q * k + c) nan) 0) ⌝ }
+{
+    let x = nodes[2 * q];
+    let y = nodes[2 * q + 1];
+    fill_gamma(coords, variogram, x, y, n, b);
+    crate::drift::fill_query_drift_row(bases, node_external, k, q, x, y, b, n);
+}
+
+// A node without the values: z, its variance, and the verdict of rows 1 to p.
+struct Solution {
+    z: [f64; 60],
+    variance: f64,
+    columns: usize,
+}
+
+fn solve_node(work: &[f64], b: &[f64], drift: &[f64], finite_drift: bool, n: usize, tolerance: f64) -> Solution
+    requires { ⌜ (n ≤ length (now b)) × (length (now b) ≤ 60) × (2 * length (now b) * length (now b) ≤ length (now work)) ⌝ }
+    ensures z { λ r. ⌜ take (length (now (b .entry))) (r .z) ≡ zOf (length (now (b .entry))) (now (work .entry)) (now (b .entry)) ⌝ }
+    ensures variance { λ r. ⌜ r .variance ≡ varianceOf (length (now (b .entry))) (r .z) (now (b .entry)) ⌝ }
+    ensures columns { λ r. ⌜ r .columns ≡ columnVerdictGiven «finite_drift» (weighedIn (take n (r .z)) (now (drift .entry)) (drop n (now (b .entry))) tolerance) ⌝ }
+{
+    let size = b.len();
+    let mut z = [0.0; 60];
+    fill_z(work, size, b, &mut z);
+    let variance = ieee::max(weighted_sum(&z, b, size), 0.0);
+    let columns = audit::audit_columns(&z[..n], drift, finite_drift, &b[n..], tolerance);
+    Solution {
+        z: z,
+        variance: variance,
+        columns: columns,
+    }
 }

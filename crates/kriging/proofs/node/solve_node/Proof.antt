@@ -1,16 +1,23 @@
 -- `kriging::node::solve_node` meets its contract: each part is what the call behind it answers. Assumes nothing.
+use Prim.Native.Nat.{ℕ, _-_}
 use mathlib.Core.Path.{_≡_, ap, sym, _∙_}
 use native.Mathlib.Omega.{arith}
 use borrow.Author.Needs.{needs}
 use mathlib.Core.List.{List}
-use lib.ListN.{length, take}
-use lib.Seq.{length-take-le}
+use lib.ListN.{length, take, drop, length-drop}
+use lib.Seq.{length-take-le, take-length}
 use lib.Ieee.{Float, nan}
 use Rattle.area.proofs.Tables.{take-start}
 use Rattle.ieee.specs.Floats.{zeroFloat, maxOf}
+use Rattle.audit.specs.Audit.{columnVerdictGiven}
+use Rattle.audit.specs.Lists.{weighedIn}
 use Rattle.kriging.specs.Node.{zOf, varianceOf}
 use Rattle.kriging.proofs.node.solve_node.Statement.{statement}
 use Rattle.kriging.proofs.node.solve_node.Tie as tie
+
+-- the part of a list from a place on
+rest-of : (xs : List Float) (n : ℕ) → take (length xs - n) (drop n xs) ≡ drop n xs
+rest-of xs n = ap (λ (k : ℕ). take k (drop n xs)) (sym (length-drop n xs)) ∙ take-length (drop n xs)
 
 -- The states that the needs look back to, in the order of the code: a name takes a later state back to its own.
 abbrev at-entry : tie.After-fill-z → tie.Start
@@ -78,7 +85,8 @@ returns c =
     let z = at-z (c .before .before) in
     let a = at-entry z .args in (
       ap (λ (zs : List Float). take (length (a .b .now)) zs) (z .fill-z .ensures) ∙ take-start (length (a .b .now)) _ _ nan (omega (arith, at-entry z .pre)),
-      (c .before .before .before .max .ensures ∙ ap (λ (x : Float). maxOf x zeroFloat) (c .before .before .before .before .weighted-sum .ensures), c .audit-columns .ensures),
+      (c .before .before .before .max .ensures ∙ ap (λ (x : Float). maxOf x zeroFloat) (c .before .before .before .before .weighted-sum .ensures)
+      , c .audit-columns .ensures ∙ ap (λ (f0 : List Float). columnVerdictGiven (a .finite-drift) (weighedIn (take (a .n) (z .fill-z .last .1 .1 .1 .0)) (a .drift .now) f0 (a .tolerance))) (rest-of (a .b .now) (a .n))),
     )
 
 pub solve-node-spec : {M : Type 1} → statement M
