@@ -1,0 +1,21 @@
+use borrow.Author.Needs.{needs}
+use Rattle.kriging.proofs.drift.fill_drift_row.Statement.{statement}
+use Rattle.kriging.proofs.drift.fill_drift_row.Tie as tie
+use Rattle.kriging.proofs.drift.fill_drift_row.Reads as reads
+use Rattle.kriging.proofs.drift.fill_drift_row.Lts as lts
+use Rattle.kriging.proofs.drift.fill_row.Reads as fill-row-reads
+
+-- src/drift.rt:89:5
+fill-row-requires : tie.Need-fill-row-requires
+fill-row-requires c κs = ?
+
+-- src/drift.rt:85:1
+same-length : tie.Need-same-length
+same-length c = search needs
+
+-- src/drift.rt:85:1
+returns : tie.Need-returns
+returns c = ?
+
+pub fill-drift-row-spec : {M : Type 1} → statement M
+fill-drift-row-spec = tie.close (tie.spec fill-row-requires same-length returns)
