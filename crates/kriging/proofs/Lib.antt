@@ -2,6 +2,7 @@ pub mod Refusals
 pub mod Exit
 pub mod Trend
 pub mod SystemDrift
+pub mod DriftRows
 pub mod System
 pub mod SystemNode
 pub mod SystemDiagonal

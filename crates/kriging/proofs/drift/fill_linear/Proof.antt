@@ -1,48 +1,47 @@
+-- `kriging::fill_linear` meets its contract: three stores are what `written` of three values is. Assumes nothing.
+use Prim.Native.Nat.{ℕ}
+use native.Mathlib.Nat.{add-zero}
+use native.Mathlib.Omega.{arith}
+use mathlib.Core.Path.{ap, sym}
+use lib.ListN.{set, length-set}
 use borrow.Author.Needs.{needs}
+use Rattle.ieee.specs.Floats.{oneFloat}
 use Rattle.kriging.proofs.drift.fill_linear.Statement.{statement}
 use Rattle.kriging.proofs.drift.fill_linear.Tie as tie
-use Rattle.kriging.proofs.drift.fill_linear.Reads as reads
-use Rattle.kriging.proofs.drift.fill_linear.Lts as lts
 
--- src/drift.rt:30:5
+-- row[col] = 1.0;
 mul-row : tie.Need-mul-row
 mul-row c = search needs
 
--- src/drift.rt:30:5
 slice-write-row : tie.Need-slice-write-row
 slice-write-row c = search needs
 
--- src/drift.rt:31:9
+-- row[col + 1] = x;
 add-row : tie.Need-add-row
 add-row c = search needs
 
--- src/drift.rt:31:5
 mul-row-2 : tie.Need-mul-row-2
 mul-row-2 c = search needs
 
--- src/drift.rt:31:5
 slice-write-row-2 : tie.Need-slice-write-row-2
-slice-write-row-2 c = ?
+slice-write-row-2 c = simp length-set (omega arith)
 
--- src/drift.rt:32:9
+-- row[col + 2] = y;
 add-row-2 : tie.Need-add-row-2
 add-row-2 c = search needs
 
--- src/drift.rt:32:5
 mul-row-3 : tie.Need-mul-row-3
 mul-row-3 c = search needs
 
--- src/drift.rt:32:5
 slice-write-row-3 : tie.Need-slice-write-row-3
-slice-write-row-3 c = ?
+slice-write-row-3 c = simp length-set (omega arith)
 
--- src/drift.rt:26:1
+-- fn fill_linear(row: &mut [f64], col: usize, x: f64, y: f64)
 same-length : tie.Need-same-length
 same-length c = search needs
 
--- src/drift.rt:26:1
 returns : tie.Need-returns
-returns c = ?
+returns c = rw add-zero
 
 pub fill-linear-spec : {M : Type 1} → statement M
 fill-linear-spec =
