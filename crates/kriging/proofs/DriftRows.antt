@@ -5,7 +5,7 @@ use native.Mathlib.Numerals.{add-one}
 use native.Mathlib.Omega.{arith}
 use mathlib.Core.Path.{_≡_, refl, ap, ap₂, sym, _∙_}
 use mathlib.Core.Logic.{_≢_}
-use mathlib.Core.Bool.{cond}
+use mathlib.Core.Bool.{Bool, true, false, cond}
 use mathlib.Core.List.{List, [], _∷_, _++_}
 use borrow.Author.Tests.{ne-eqb}
 use lib.Dec.{eqb}
@@ -14,6 +14,7 @@ use lib.Seq.{drop-cons, drop-length, getD-append-add}
 use lib.Ieee.{Float, nan}
 use Rattle.ieee.specs.Floats.{oneFloat}
 use Rattle.area.specs.Area.{written}
+use Rattle.area.proofs.Turns.{length-written}
 use Rattle.area.proofs.Places.{same-values, written-add}
 use Rattle.survey.specs.Survey.{codeColumns, columnSum, externalCount}
 use Rattle.kriging.specs.Drift.{block, driftRow}
@@ -22,6 +23,9 @@ use Rattle.kriging.proofs.SystemDrift.{block-length}
 -- a row after the columns of the code c are stored from `col` on
 abbrev pub coded : ℕ → Float → Float → Float → ℕ → List Float → List Float
 coded c x y e col row = written col (codeColumns c) (λ j. getD (block c x y e) j nan) row
+
+pub length-coded : (c : ℕ) (x y e : Float) (col : ℕ) (row : List Float) → length (coded c x y e col row) ≡ length row
+length-coded c x y e col row = length-written col (codeColumns c) (λ j. getD (block c x y e) j nan) row
 
 -- a code that is none of the four stores nothing
 pub coded-none : (c : ℕ) (x y e : Float) (col : ℕ) (row : List Float) → c ≢ 1 → c ≢ 2 → c ≢ 3 → c ≢ 4 → row ≡ coded c x y e col row
@@ -33,3 +37,66 @@ coded-one x y e col row = rw add-zero
 
 pub coded-external : (x y e : Float) (col : ℕ) (row : List Float) → set row col e ≡ coded 4 x y e col row
 coded-external x y e col row = rw add-zero
+
+-- where the code is not 4, the external value is not looked at
+pub coded-any : (c : ℕ) (x y d e : Float) (col : ℕ) (row : List Float) → c ≢ 4 → coded c x y d col row ≡ coded c x y e col row
+coded-any c x y d e col row h = rw (ne-eqb c 4 h)
+
+-- ---- a row: the columns of every code, from `col` on, where `used` external columns are taken already
+
+abbrev pub rowed : List ℕ → Float → Float → (ℕ → Float) → ℕ → ℕ → List Float → List Float
+rowed cs x y external used col row = written col (columnSum cs) (λ j. getD (driftRow cs x y external used) j nan) row
+
+-- the first code's columns, and then the others'
+pub rowed-cons : (c : ℕ) (cs : List ℕ) (x y : Float) (external : ℕ → Float) (used col : ℕ) (row next : List Float)
+    → next ≡ coded c x y (external used) col row
+    → rowed (c ∷ cs) x y external used col row ≡ rowed cs x y external (used + cond (eqb c 4) 1 0) (col + codeColumns c) next
+rowed-cons c cs x y external used col row next h =
+    let b : List Float = block c x y (external used) in
+    let r : List Float = driftRow cs x y external (used + cond (eqb c 4) 1 0) in
+    let n : ℕ = codeColumns c in
+    let l : length b ≡ n = block-length c x y (external used) in
+    written-add col n (columnSum cs) (λ j. getD (b ++ r) j nan) row
+    ∙ same-values (col + n) (columnSum cs) (λ j. getD (b ++ r) (n + j) nan) (λ j. getD r j nan) (written col n (λ j. getD (b ++ r) j nan) row)
+    (λ j k. ap (λ (m : ℕ). getD (b ++ r) (m + j) nan) (sym l) ∙ getD-append-add b r j nan)
+    ∙ ap (λ (ys : List Float). written (col + n) (columnSum cs) (λ j. getD r j nan) ys)
+    (same-values col n (λ j. getD (b ++ r) j nan) (λ j. getD b j nan) row (λ j k. List·getD-append b r nan j (omega arith)) ∙ sym h)
+
+-- ---- the same, by the place of the code in the list
+
+-- the codes from place i on
+from-place : (bases : List ℕ) (i : ℕ) → i < length bases → drop i bases ≡ getD bases i 0 ∷ drop (i + 1) bases
+from-place bases i h = rw (add-one, drop-cons bases i 0)
+
+pub columns-from : (bases : List ℕ) (i : ℕ) → i < length bases
+    → columnSum (drop i bases) ≡ codeColumns (getD bases i 0) + columnSum (drop (i + 1) bases)
+columns-from bases i h = ap columnSum (from-place bases i h)
+
+pub externals-from : (bases : List ℕ) (i : ℕ) → i < length bases
+    → externalCount (drop i bases) ≡ cond (eqb (getD bases i 0) 4) 1 0 + externalCount (drop (i + 1) bases)
+externals-from bases i h = ap externalCount (from-place bases i h)
+
+pub rowed-from : (bases : List ℕ) (i : ℕ) → i < length bases
+    → (x y : Float) (external : ℕ → Float) (used col : ℕ) (row next : List Float)
+    → next ≡ coded (getD bases i 0) x y (external used) col row
+    → rowed (drop i bases) x y external used col row
+    ≡ rowed (drop (i + 1) bases) x y external (used + cond (eqb (getD bases i 0) 4) 1 0) (col + codeColumns (getD bases i 0)) next
+rowed-from bases i h x y external used col row next e =
+    ap (λ (cs : List ℕ). rowed cs x y external used col row) (from-place bases i h)
+    ∙ rowed-cons (getD bases i 0) (drop (i + 1) bases) x y external used col row next e
+
+-- there are no more of code 4 than codes
+one-at-most : (b : Bool) → cond b 1 0 ≤ 1
+one-at-most true = omega arith
+one-at-most false = omega arith
+
+pub externals-at-most : (cs : List ℕ) → externalCount cs ≤ length cs
+externals-at-most [] = omega arith
+externals-at-most (c ∷ cs) = omega (arith, one-at-most (eqb c 4), externals-at-most cs)
+
+-- past the last code nothing is stored
+pub rowed-end : (bases : List ℕ) (i : ℕ) → i ≡ length bases
+    → (x y : Float) (external : ℕ → Float) (used col : ℕ) (row : List Float)
+    → row ≡ rowed (drop i bases) x y external used col row
+rowed-end bases i h x y external used col row =
+    sym (ap (λ (cs : List ℕ). rowed cs x y external used col row) (ap (λ (k : ℕ). drop k bases) h ∙ drop-length bases))
