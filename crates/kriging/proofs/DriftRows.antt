@@ -19,6 +19,7 @@ use Rattle.area.proofs.Places.{same-values, written-add}
 use Rattle.survey.specs.Survey.{codeColumns, columnSum, externalCount}
 use Rattle.kriging.specs.Drift.{block, driftRow}
 use Rattle.kriging.proofs.SystemDrift.{block-length}
+use Rattle.kriging.proofs.Nodes.{row-same}
 
 -- a row after the columns of the code c are stored from `col` on
 abbrev pub coded : ℕ → Float → Float → Float → ℕ → List Float → List Float
@@ -100,3 +101,9 @@ pub rowed-end : (bases : List ℕ) (i : ℕ) → i ≡ length bases
     → row ≡ rowed (drop i bases) x y external used col row
 rowed-end bases i h x y external used col row =
     sym (ap (λ (cs : List ℕ). rowed cs x y external used col row) (ap (λ (k : ℕ). drop k bases) h ∙ drop-length bases))
+
+-- rows with the same external values are the same
+pub rowed-same : (cs : List ℕ) (x y : Float) (e f : ℕ → Float) (used col : ℕ) (row : List Float)
+    → ((c : ℕ) → e c ≡ f c) → rowed cs x y e used col row ≡ rowed cs x y f used col row
+rowed-same cs x y e f used col row h =
+    ap (λ (r : List Float). written col (columnSum cs) (λ j. getD r j nan) row) (row-same cs x y e f used (λ c l b. h c))

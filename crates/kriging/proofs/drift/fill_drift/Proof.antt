@@ -1,74 +1,116 @@
+-- `kriging::fill_drift` meets its contract: after i turns the area holds the first i rows of F. Assumes nothing.
+use Prim.Native.Nat.{ℕ, _+_, _*_, _-_, _≤_}
+use native.Mathlib.Omega.{arith}
+use mathlib.Core.Path.{_≡_, refl, ap, sym, _∙_}
+use mathlib.Core.List.{List}
+use lib.Ieee.{Float, nan}
+use lib.ListN.{length, getD}
+use borrow.Author.Needs.{needs}
+use Rattle.area.specs.Area.{written, filled}
+use Rattle.area.proofs.Rows.{row-end}
+use Rattle.area.proofs.Filled.{next-row}
+use Rattle.survey.specs.Survey.{columnSum, xOf, yOf}
+use Rattle.kriging.specs.Drift.{driftRow}
 use Rattle.kriging.proofs.drift.fill_drift.Statement.{statement}
 use Rattle.kriging.proofs.drift.fill_drift.Tie as tie
-use Rattle.kriging.proofs.drift.fill_drift.Reads as reads
-use Rattle.kriging.proofs.drift.fill_drift.Lts as lts
-use Rattle.kriging.proofs.drift.fill_drift_row.Reads as fill-drift-row-reads
+
+-- the entry of F in row i and column j
+abbrev entry : List ℕ → List Float → List Float → ℕ → ℕ → ℕ → Float
+entry bases external coords n i j = getD (driftRow bases (xOf coords i) (yOf coords i) (λ c. getD external (c * n + i) nan) 0) j nan
 
 abbrev Inv-loop : tie.InvT-loop
-Inv-loop bases external coords n p drift₀ i₀ drift i = ?
+Inv-loop bases external coords n p drift₀ i₀ drift i =
+    (i ≤ n) × (length drift ≡ length drift₀) × (drift ≡ filled p i (entry bases external coords n) drift₀)
 
 abbrev μ-loop : tie.MeasureT-loop
-μ-loop bases external coords n p drift₀ i₀ drift i = ?
+μ-loop bases external coords n p drift₀ i₀ drift i = n - i
 
--- src/drift.rt:105:5
+-- The states that the needs look back to, in the order of the code: a name takes a later state back to its own.
+abbrev State : (tie.InvT-loop → tie.MeasureT-loop → Type 0) → Type 0
+State S = S Inv-loop μ-loop
+
+abbrev at-lent : State tie.At-loop → State tie.After-shared-slice-known3
+at-lent c = c .before .before
+
+abbrev at-entry : State tie.At-loop → State tie.Start
+at-entry c = at-lent c .before .before .before
+
+abbrev at-turn : State tie.After-fill-drift-row-arg → State tie.In-loop
+at-turn c = c .before .before .before
+
+-- The needs, grouped below the lines of src/ that they are for.
+
+-- for i in 0..n
 loop-holds : tie.Need-loop-holds Inv-loop μ-loop
-loop-holds c = ?
+loop-holds c = (omega arith, refl, refl)
 
--- src/drift.rt:106:54
+-- row i lies inside
+in-row : (c : State tie.In-loop) → let l = c .before .loop in let a = at-entry (c .before) .args in l .i * a .p + a .p ≤ length (l .drift)
+in-row c =
+    let l = c .before .loop in
+    let a = at-entry (c .before) .args in
+    let e = row-end (a .p) (l .i) (a .n) (c .loop-test .taken) in
+    omega arith
+
+-- fill_drift_row(bases, external, n, i, coords[2 * i], coords[2 * i + 1], drift, i * p);
 mul-fill-drift-row : tie.Need-mul-fill-drift-row Inv-loop μ-loop
-mul-fill-drift-row c = ?
+mul-fill-drift-row c = omega arith
 
--- src/drift.rt:106:47
 mul-fill-drift-row-2 : tie.Need-mul-fill-drift-row-2 Inv-loop μ-loop
-mul-fill-drift-row-2 c = ?
+mul-fill-drift-row-2 c = omega arith
 
--- src/drift.rt:106:47
 shared-slice-read-fill-drift-row : tie.Need-shared-slice-read-fill-drift-row Inv-loop μ-loop
-shared-slice-read-fill-drift-row c = ?
+shared-slice-read-fill-drift-row c = omega arith
 
--- src/drift.rt:106:69
 mul-fill-drift-row-3 : tie.Need-mul-fill-drift-row-3 Inv-loop μ-loop
-mul-fill-drift-row-3 c = ?
+mul-fill-drift-row-3 c = omega arith
 
--- src/drift.rt:106:69
 add-fill-drift-row : tie.Need-add-fill-drift-row Inv-loop μ-loop
-add-fill-drift-row c = ?
+add-fill-drift-row c = omega arith
 
--- src/drift.rt:106:62
 mul-fill-drift-row-4 : tie.Need-mul-fill-drift-row-4 Inv-loop μ-loop
-mul-fill-drift-row-4 c = ?
+mul-fill-drift-row-4 c = omega arith
 
--- src/drift.rt:106:62
 shared-slice-read-fill-drift-row-2 : tie.Need-shared-slice-read-fill-drift-row-2 Inv-loop μ-loop
-shared-slice-read-fill-drift-row-2 c = ?
+shared-slice-read-fill-drift-row-2 c = omega arith
 
--- src/drift.rt:106:88
 mul-fill-drift-row-5 : tie.Need-mul-fill-drift-row-5 Inv-loop μ-loop
-mul-fill-drift-row-5 c = ?
+mul-fill-drift-row-5 c = omega (arith, in-row (at-turn c))
 
--- src/drift.rt:106:9
 fill-drift-row-requires : tie.Need-fill-drift-row-requires Inv-loop μ-loop
-fill-drift-row-requires c κs = ?
+fill-drift-row-requires c κs = (omega (arith, in-row (at-turn c)), omega arith, omega arith)
 
--- src/drift.rt:105:9
+-- for i in 0..n
 add-i : tie.Need-add-i Inv-loop μ-loop
-add-i c = ?
+add-i c = omega arith
 
--- src/drift.rt:105:5
 loop-less : tie.Need-loop-less Inv-loop μ-loop
-loop-less c = ?
+loop-less c = omega arith
 
--- src/drift.rt:105:5
 loop-again : tie.Need-loop-again Inv-loop μ-loop
-loop-again c = ?
+loop-again c =
+    let f = c .before .before in
+    let t = at-turn (f .before) in
+    let l = t .before .loop in
+    let s = at-entry (t .before) in
+    let a = s .args in
+    let e = entry (a .bases .now) (a .external .now) (a .coords .now) (a .n) in
+    let wide = ap (λ (w : ℕ). written (l .i * a .p) w (e (l .i)) (l .drift)) (s .pre .0) in (
+      omega arith,
+      f .fill-drift-row .kept .1 .1 .1 .1 .1 .1 .0 ∙ l .inv .1,
+      next-row (a .p) (l .i) e (a .drift .now) (l .drift) _ (l .inv .2) (f .fill-drift-row .ensures ∙ wide),
+    )
 
--- src/drift.rt:101:1
+-- pub fn fill_drift(bases: &[u8], external: &[f64], coords: &[f64], n: usize, p: usize, drift: &mut [f64])
 same-length : tie.Need-same-length Inv-loop μ-loop
-same-length c = ?
+same-length c = search needs
 
--- src/drift.rt:101:1
 returns : tie.Need-returns Inv-loop μ-loop
-returns c = ?
+returns c =
+    let l = c .before .loop in
+    let a = at-entry (c .before) .args in
+    let all : l .i ≡ a .n = omega arith in
+    l .inv .2 ∙ ap (λ (k : ℕ). filled (a .p) k (entry (a .bases .now) (a .external .now) (a .coords .now) (a .n)) (a .drift .now)) all
 
 pub fill-drift-spec : {M : Type 1} → statement M
 fill-drift-spec =
