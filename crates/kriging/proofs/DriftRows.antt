@@ -102,8 +102,8 @@ pub rowed-end : (bases : List ℕ) (i : ℕ) → i ≡ length bases
 rowed-end bases i h x y external used col row =
     sym (ap (λ (cs : List ℕ). rowed cs x y external used col row) (ap (λ (k : ℕ). drop k bases) h ∙ drop-length bases))
 
--- rows with the same external values are the same
-pub rowed-same : (cs : List ℕ) (x y : Float) (e f : ℕ → Float) (used col : ℕ) (row : List Float)
-    → ((c : ℕ) → e c ≡ f c) → rowed cs x y e used col row ≡ rowed cs x y f used col row
-rowed-same cs x y e f used col row h =
-    ap (λ (r : List Float). written col (columnSum cs) (λ j. getD r j nan) row) (row-same cs x y e f used (λ c l b. h c))
+-- a row with the same external values is the same
+pub rowed-same : (cs : List ℕ) (x y : Float) (e f : ℕ → Float) (used col : ℕ) (row : List Float) {next : List Float}
+    → ((c : ℕ) → e c ≡ f c) → next ≡ rowed cs x y e used col row → next ≡ rowed cs x y f used col row
+rowed-same cs x y e f used col row h g =
+    g ∙ ap (λ (r : List Float). written col (columnSum cs) (λ j. getD r j nan) row) (row-same cs x y e f used (λ c l b. h c))

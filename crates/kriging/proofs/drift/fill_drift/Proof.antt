@@ -94,11 +94,10 @@ loop-again c =
     let l = t .before .loop in
     let s = at-entry (t .before) in
     let a = s .args in
-    let e = entry (a .bases .now) (a .external .now) (a .coords .now) (a .n) in
-    let wide = ap (λ (w : ℕ). written (l .i * a .p) w (e (l .i)) (l .drift)) (s .pre .0) in (
+    let e = entry (a .bases .now) (a .external .now) (a .coords .now) (a .n) in (
       omega arith,
       f .fill-drift-row .kept .1 .1 .1 .1 .1 .1 .0 ∙ l .inv .1,
-      next-row (a .p) (l .i) e (a .drift .now) (l .drift) _ (l .inv .2) (f .fill-drift-row .ensures ∙ wide),
+      next-row (a .p) (l .i) e (a .drift .now) (l .drift) _ (l .inv .2) (rw (s .pre .0) at (f .fill-drift-row .ensures)),
     )
 
 -- pub fn fill_drift(bases: &[u8], external: &[f64], coords: &[f64], n: usize, p: usize, drift: &mut [f64])

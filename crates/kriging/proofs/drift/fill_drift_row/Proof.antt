@@ -2,7 +2,7 @@
 use Prim.Native.Nat.{ℕ, _+_, _*_}
 use native.Mathlib.Nat.{add-comm}
 use native.Mathlib.Omega.{arith}
-use mathlib.Core.Path.{ap, _∙_}
+use mathlib.Core.Path.{ap}
 use lib.Ieee.{nan}
 use lib.ListN.{getD}
 use borrow.Author.Needs.{needs}
@@ -34,9 +34,9 @@ returns c =
     let f = c .before .before in
     let a = at-entry (f .before) .args in
     let e = a .external .now in
-    f .fill-row .ensures
-    ∙ rowed-same (a .bases .now) (a .x) (a .y) (λ k. getD e (a .sample-index + k * a .n) nan) (λ k. getD e (k * a .n + a .sample-index) nan)
+    rowed-same (a .bases .now) (a .x) (a .y) (λ k. getD e (a .sample-index + k * a .n) nan) (λ k. getD e (k * a .n + a .sample-index) nan)
     0 (a .start) (a .row .now) (λ k. ap (λ (m : ℕ). getD e m nan) (add-comm (a .sample-index) (k * a .n)))
+    (f .fill-row .ensures)
 
 pub fill-drift-row-spec : {M : Type 1} → statement M
 fill-drift-row-spec = tie.close (tie.spec fill-row-requires same-length returns)

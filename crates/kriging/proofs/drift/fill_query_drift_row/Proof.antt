@@ -2,7 +2,7 @@
 use Prim.Native.Nat.{ℕ, _+_, _*_}
 use native.Mathlib.Nat.{mul-one}
 use native.Mathlib.Omega.{arith}
-use mathlib.Core.Path.{ap, _∙_}
+use mathlib.Core.Path.{ap}
 use lib.Ieee.{nan}
 use lib.ListN.{getD}
 use borrow.Author.Needs.{needs}
@@ -33,9 +33,9 @@ returns c =
     let f = c .before .before in
     let a = at-entry (f .before) .args in
     let e = a .external .now in
-    f .fill-row .ensures
-    ∙ rowed-same (a .bases .now) (a .x) (a .y) (λ k. getD e (a .q * a .k + k * 1) nan) (λ k. getD e (a .q * a .k + k) nan)
+    rowed-same (a .bases .now) (a .x) (a .y) (λ k. getD e (a .q * a .k + k * 1) nan) (λ k. getD e (a .q * a .k + k) nan)
     0 (a .start) (a .row .now) (λ k. ap (λ (m : ℕ). getD e (a .q * a .k + m) nan) (mul-one k))
+    (f .fill-row .ensures)
 
 pub fill-query-drift-row-spec : {M : Type 1} → statement M
 fill-query-drift-row-spec = tie.close (tie.spec mul-fill-row fill-row-requires same-length returns)
