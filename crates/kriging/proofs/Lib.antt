@@ -3,6 +3,7 @@ pub mod Exit
 pub mod Trend
 pub mod SystemDrift
 pub mod DriftRows
+pub mod MatrixEntries
 pub mod System
 pub mod SystemNode
 pub mod SystemDiagonal

@@ -1,7 +1,7 @@
 // The matrix of a fit beside the identity, in the lent work area.
 use survey::UniversalKrigingOptions;
 ghost use mathlib.Core.Path.{_≡_};
-ghost use Prim.Native.Nat.{_+_, _*_, _≤_, _<_};
+ghost use Prim.Native.Nat.{_+_, _*_, _^_, _≤_, _<_};
 ghost use lib.ListN.{length, getD};
 ghost use lib.Ieee.{nan};
 ghost use Rattle.area.specs.Area.{written};
@@ -37,19 +37,30 @@ fn matrix_entry(coords: &[f64], options: UniversalKrigingOptions, drift: &[f64],
     0.0
 }
 
+// The entry in row i and column j of the matrix beside the identity.
+fn entry_beside(coords: &[f64], options: UniversalKrigingOptions, drift: &[f64], n: usize, p: usize, i: usize, j: usize) -> f64
+    requires { ⌜ (i < n + p) × (2 * (n + p) < 2 ^ 64) × (2 * n ≤ length (now coords)) × (n * p ≤ length (now drift)) ⌝ }
+    ensures { λ r. ⌜ r ≡ besideIdentity (n + p) (joined n (between options (now (coords .entry))) (λ i j. getD (now (drift .entry)) (i * p + j) nan)) i j ⌝ }
+{
+    let size = n + p;
+    if j < size {
+        return matrix_entry(coords, options, drift, n, p, i, j);
+    }
+    if j == size + i {
+        return 1.0;
+    }
+    0.0
+}
+
 // Row i of the matrix, and of the identity beside it.
 fn fill_matrix_row(coords: &[f64], options: UniversalKrigingOptions, drift: &[f64], n: usize, p: usize, i: usize, work: &mut [f64])
     requires { ⌜ (i < n + p) × (2 * n ≤ length (now coords)) × (n * p ≤ length (now drift)) × (i * (2 * (n + p)) + 2 * (n + p) ≤ length (now work)) ⌝ }
     ensures { λ _. ⌜ now (work .exit) ≡ written (i * (2 * (n + p))) (2 * (n + p)) (besideIdentity (n + p) (joined n (between options (now (coords .entry))) (λ i j. getD (now (drift .entry)) (i * p + j) nan)) i) (now (work .entry)) ⌝ }
 {
-    let size = n + p;
-    let row = i * (2 * size);
-    for j in 0..2 * size {
-        if j < size {
-            work[row + j] = matrix_entry(coords, options, drift, n, p, i, j);
-        } else {
-            work[row + j] = if j == size + i { 1.0 } else { 0.0 };
-        }
+    let width = 2 * (n + p);
+    let row = i * width;
+    for j in 0..width {
+        work[row + j] = entry_beside(coords, options, drift, n, p, i, j);
     }
 }
 
