@@ -1,10 +1,11 @@
 -- The entries of a fit's matrix by the part that they stand in: between wells, F, its transpose, zeros; and the identity beside them. Assumes nothing.
 use Prim.Native.Nat.{ℕ, _+_, _*_, _-_, _<_, _≤_}
-use mathlib.Core.Path.{_≡_, refl, sym}
+use mathlib.Core.Path.{_≡_, _∙_}
 use mathlib.Core.Logic.{_≢_}
 use mathlib.Core.List.{List}
 use borrow.Author.Tests.{lt-ltb, le-ltb, eq-eqb, ne-eqb}
-use lib.Ieee.{Float, binary64, add}
+use lib.Ieee.{Float, nan, binary64, add}
+use lib.ListN.{getD}
 use Rattle.ieee.specs.Floats.{zeroFloat, oneFloat}
 use Rattle.variogram.specs.Model.{semivariance}
 use Rattle.variogram.specs.Distance.{distance2d}
@@ -12,6 +13,10 @@ use Rattle.elimination.specs.Inverse.{besideIdentity}
 use Rattle.survey.specs.declared.UniversalKrigingOptions.{UniversalKrigingOptions}
 use Rattle.survey.specs.Survey.{xOf, yOf}
 use Rattle.kriging.specs.Assembly.{between, joined}
+
+-- the matrix of n wells by its entries, where F has p columns and lies row after row
+abbrev pub matrix : List Float → UniversalKrigingOptions → List Float → ℕ → ℕ → ℕ → ℕ → Float
+matrix coords options drift n p = joined n (between options coords) (λ i j. getD drift (i * p + j) nan)
 
 module _ (options : UniversalKrigingOptions) (coords : List Float) (i j : ℕ) where
   pub between-own : i ≡ j → add binary64 zeroFloat (options .regularization) ≡ between options coords i j
@@ -41,9 +46,9 @@ module _ (n : ℕ) (gamma f : ℕ → ℕ → Float) (i j : ℕ) where
   lower-right hi hj = rw (le-ltb i n hi, le-ltb j n hj)
 
 module _ (s : ℕ) (entry : ℕ → ℕ → Float) (i c : ℕ) where
-  pub beside-left : c < s → entry i c ≡ besideIdentity s entry i c
+  pub beside-left : {v : Float} → c < s → v ≡ entry i c → v ≡ besideIdentity s entry i c
   unfolding besideIdentity
-  beside-left h = rw (lt-ltb c s h)
+  beside-left h e = e ∙ rw (lt-ltb c s h)
 
   pub beside-one : s ≤ c → c ≡ s + i → oneFloat ≡ besideIdentity s entry i c
   unfolding besideIdentity

@@ -16,12 +16,25 @@ fn gamma(coords: &[f64], options: UniversalKrigingOptions, i: usize, j: usize) -
     if i == j {
         return 0.0 + options.regularization;
     }
-    let h = variogram::distance_2d(coords[2 * i], coords[2 * i + 1], coords[2 * j], coords[2 * j + 1]);
+    let h = variogram::distance_2d(
+        coords[2 * i],
+        coords[2 * i + 1],
+        coords[2 * j],
+        coords[2 * j + 1],
+    );
     options.variogram.evaluate(h)
 }
 
 // The entry in row i and column j of the matrix, where F lies row after row in `drift`.
-fn matrix_entry(coords: &[f64], options: UniversalKrigingOptions, drift: &[f64], n: usize, p: usize, i: usize, j: usize) -> f64
+fn matrix_entry(
+    coords: &[f64],
+    options: UniversalKrigingOptions,
+    drift: &[f64],
+    n: usize,
+    p: usize,
+    i: usize,
+    j: usize,
+) -> f64
     requires { ⌜ (i < n + p) × (j < n + p) × (2 * n ≤ length (now coords)) × (n * p ≤ length (now drift)) ⌝ }
     ensures { λ r. ⌜ r ≡ joined n (between options (now (coords .entry))) (λ i j. getD (now (drift .entry)) (i * p + j) nan) i j ⌝ }
 {
@@ -38,7 +51,15 @@ fn matrix_entry(coords: &[f64], options: UniversalKrigingOptions, drift: &[f64],
 }
 
 // The entry in row i and column j of the matrix beside the identity.
-fn entry_beside(coords: &[f64], options: UniversalKrigingOptions, drift: &[f64], n: usize, p: usize, i: usize, j: usize) -> f64
+fn entry_beside(
+    coords: &[f64],
+    options: UniversalKrigingOptions,
+    drift: &[f64],
+    n: usize,
+    p: usize,
+    i: usize,
+    j: usize,
+) -> f64
     requires { ⌜ (i < n + p) × (2 * (n + p) < 2 ^ 64) × (2 * n ≤ length (now coords)) × (n * p ≤ length (now drift)) ⌝ }
     ensures { λ r. ⌜ r ≡ besideIdentity (n + p) (joined n (between options (now (coords .entry))) (λ i j. getD (now (drift .entry)) (i * p + j) nan)) i j ⌝ }
 {
@@ -53,7 +74,15 @@ fn entry_beside(coords: &[f64], options: UniversalKrigingOptions, drift: &[f64],
 }
 
 // Row i of the matrix, and of the identity beside it.
-fn fill_matrix_row(coords: &[f64], options: UniversalKrigingOptions, drift: &[f64], n: usize, p: usize, i: usize, work: &mut [f64])
+fn fill_matrix_row(
+    coords: &[f64],
+    options: UniversalKrigingOptions,
+    drift: &[f64],
+    n: usize,
+    p: usize,
+    i: usize,
+    work: &mut [f64],
+)
     requires { ⌜ (i < n + p) × (2 * n ≤ length (now coords)) × (n * p ≤ length (now drift)) × (i * (2 * (n + p)) + 2 * (n + p) ≤ length (now work)) ⌝ }
     ensures { λ _. ⌜ now (work .exit) ≡ written (i * (2 * (n + p))) (2 * (n + p)) (besideIdentity (n + p) (joined n (between options (now (coords .entry))) (λ i j. getD (now (drift .entry)) (i * p + j) nan)) i) (now (work .entry)) ⌝ }
 {
@@ -65,7 +94,14 @@ fn fill_matrix_row(coords: &[f64], options: UniversalKrigingOptions, drift: &[f6
 }
 
 // The matrix beside the identity.
-pub fn assemble(coords: &[f64], options: UniversalKrigingOptions, drift: &[f64], n: usize, p: usize, work: &mut [f64])
+pub fn assemble(
+    coords: &[f64],
+    options: UniversalKrigingOptions,
+    drift: &[f64],
+    n: usize,
+    p: usize,
+    work: &mut [f64],
+)
     requires { ⌜ (2 * n ≤ length (now coords)) × (n * p ≤ length (now drift)) × (2 * (n + p) * (n + p) ≤ length (now work)) ⌝ }
     ensures { λ _. ⌜ now (work .exit) ≡ laid (n + p) (joined n (between options (now (coords .entry))) (λ i j. getD (now (drift .entry)) (i * p + j) nan)) (now (work .entry)) ⌝ }
 {

@@ -63,7 +63,16 @@ fn fill_powers(code: u8, x: f64, y: f64, row: &mut [f64], col: usize)
 }
 
 // The columns of every code at one place, in basis order, from `start` on. The c-th code 4 takes the external value at first + c·step.
-fn fill_row(bases: &[u8], x: f64, y: f64, external: &[f64], first: usize, step: usize, row: &mut [f64], start: usize)
+fn fill_row(
+    bases: &[u8],
+    x: f64,
+    y: f64,
+    external: &[f64],
+    first: usize,
+    step: usize,
+    row: &mut [f64],
+    start: usize,
+)
     requires { ⌜ (start + columnSum (now bases) ≤ length (now row)) × ((c : ℕ) → c < externalCount (now bases) → first + c * step < length (now external)) ⌝ }
     ensures { λ _. ⌜ now (row .exit) ≡ written start (columnSum (now (bases .entry))) (λ j. getD (driftRow (now (bases .entry)) x y (λ c. getD (now (external .entry)) (first + c * step) nan) 0) j nan) (now (row .entry)) ⌝ }
 {
@@ -82,7 +91,16 @@ fn fill_row(bases: &[u8], x: f64, y: f64, external: &[f64], first: usize, step: 
 }
 
 // Row `sample_index` of F: the external columns of the n wells lie column after column.
-fn fill_drift_row(bases: &[u8], external: &[f64], n: usize, sample_index: usize, x: f64, y: f64, row: &mut [f64], start: usize)
+fn fill_drift_row(
+    bases: &[u8],
+    external: &[f64],
+    n: usize,
+    sample_index: usize,
+    x: f64,
+    y: f64,
+    row: &mut [f64],
+    start: usize,
+)
     requires { ⌜ (start + columnSum (now bases) ≤ length (now row)) × («sample_index» < n) × (externalCount (now bases) * n ≤ length (now external)) ⌝ }
     ensures { λ _. ⌜ now (row .exit) ≡ written start (columnSum (now (bases .entry))) (λ j. getD (driftRow (now (bases .entry)) x y (λ c. getD (now (external .entry)) (c * n + «sample_index») nan) 0) j nan) (now (row .entry)) ⌝ }
 {
@@ -90,7 +108,16 @@ fn fill_drift_row(bases: &[u8], external: &[f64], n: usize, sample_index: usize,
 }
 
 // f0 of node q: the k external values of the nodes lie node after node.
-fn fill_query_drift_row(bases: &[u8], external: &[f64], k: usize, q: usize, x: f64, y: f64, row: &mut [f64], start: usize)
+fn fill_query_drift_row(
+    bases: &[u8],
+    external: &[f64],
+    k: usize,
+    q: usize,
+    x: f64,
+    y: f64,
+    row: &mut [f64],
+    start: usize,
+)
     requires { ⌜ (start + columnSum (now bases) ≤ length (now row)) × (externalCount (now bases) ≡ k) × (q * k + k ≤ length (now external)) ⌝ }
     ensures { λ _. ⌜ now (row .exit) ≡ written start (columnSum (now (bases .entry))) (λ j. getD (driftRow (now (bases .entry)) x y (λ c. getD (now (external .entry)) (q * k + c) nan) 0) j nan) (now (row .entry)) ⌝ }
 {
@@ -98,11 +125,27 @@ fn fill_query_drift_row(bases: &[u8], external: &[f64], k: usize, q: usize, x: f
 }
 
 // F, row after row: the drift columns at each of the n wells.
-pub fn fill_drift(bases: &[u8], external: &[f64], coords: &[f64], n: usize, p: usize, drift: &mut [f64])
+pub fn fill_drift(
+    bases: &[u8],
+    external: &[f64],
+    coords: &[f64],
+    n: usize,
+    p: usize,
+    drift: &mut [f64],
+)
     requires { ⌜ (columnSum (now bases) ≡ p) × (externalCount (now bases) * n ≤ length (now external)) × (2 * n ≤ length (now coords)) × (n * p ≤ length (now drift)) ⌝ }
     ensures { λ _. ⌜ now (drift .exit) ≡ filled p n (λ i j. getD (driftRow (now (bases .entry)) (xOf (now (coords .entry)) i) (yOf (now (coords .entry)) i) (λ c. getD (now (external .entry)) (c * n + i) nan) 0) j nan) (now (drift .entry)) ⌝ }
 {
     for i in 0..n {
-        fill_drift_row(bases, external, n, i, coords[2 * i], coords[2 * i + 1], drift, i * p);
+        fill_drift_row(
+            bases,
+            external,
+            n,
+            i,
+            coords[2 * i],
+            coords[2 * i + 1],
+            drift,
+            i * p,
+        );
     }
 }

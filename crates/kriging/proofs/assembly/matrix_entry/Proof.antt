@@ -1,61 +1,99 @@
+-- `kriging::matrix_entry` meets its contract: by the part of the matrix that the entry stands in. Assumes nothing.
+use Prim.Native.Nat.{ℕ, _+_, _*_, _-_, _<_}
+use native.Mathlib.Omega.{arith}
+use mathlib.Core.Path.{_∙_}
+use lib.Ieee.{Float, nan}
+use lib.ListN.{length, getD}
 use borrow.Author.Needs.{needs}
+use Rattle.area.proofs.Rows.{row-end}
+use Rattle.kriging.specs.Assembly.{between}
+use Rattle.kriging.proofs.MatrixEntries.{upper-left, upper-right, lower-left, lower-right}
 use Rattle.kriging.proofs.assembly.matrix_entry.Statement.{statement}
 use Rattle.kriging.proofs.assembly.matrix_entry.Tie as tie
-use Rattle.kriging.proofs.assembly.matrix_entry.Reads as reads
-use Rattle.kriging.proofs.assembly.matrix_entry.Lts as lts
-use Rattle.kriging.proofs.assembly.gamma.Reads as gamma-reads
 
--- src/assembly.rt:30:13
+-- The states that the needs look back to, in the order of the code: a name takes a later state back to its own.
+abbrev above : tie.Then1 → tie.Start
+above c = c .before .before .before
+
+abbrev below : tie.Else1 → tie.Start
+below c = c .before .before .before
+
+-- what stands between two wells, and F
+abbrev gamma-of : tie.Start → ℕ → ℕ → Float
+gamma-of s = between (s .args .options) (s .args .coords .now)
+
+abbrev drift-of : tie.Start → ℕ → ℕ → Float
+drift-of s i j = getD (s .args .drift .now) (i * s .args .p + j) nan
+
+-- The needs, grouped below the lines of src/ that they are for.
+
+-- return gamma(coords, options, i, j);
 gamma-requires : tie.Need-gamma-requires
 gamma-requires c κs = search needs
 
--- src/assembly.rt:30:13
 returns : tie.Need-returns
-returns c = ?
+returns c =
+    let t = c .before in
+    let s = above (t .before) in
+    c .gamma .ensures ∙ upper-left (s .args .n) (gamma-of s) (drift-of s) (s .args .i) (s .args .j) (t .before .if1 .taken) (t .if2 .taken)
 
--- src/assembly.rt:32:22
+-- the entry of F lies inside
+inside : (c : tie.Else2) → let a = above (c .before) .args in a .i * a .p + (a .j - a .n) < length (a .drift .now)
+inside c =
+    let a = above (c .before) .args in
+    let e = row-end (a .p) (a .i) (a .n) (c .before .if1 .taken) in
+    omega arith
+
+-- return drift[i * p + (j - n)];
 mul-result : tie.Need-mul-result
-mul-result c = ?
+mul-result c = omega (arith, inside c)
 
--- src/assembly.rt:32:22
 add-result : tie.Need-add-result
-add-result c = ?
+add-result c = omega (arith, inside c)
 
--- src/assembly.rt:32:16
 mul-result-2 : tie.Need-mul-result-2
-mul-result-2 c = ?
+mul-result-2 c = omega (arith, inside c)
 
--- src/assembly.rt:32:16
 shared-slice-read-result : tie.Need-shared-slice-read-result
-shared-slice-read-result c = ?
+shared-slice-read-result c = inside (c .before)
 
--- src/assembly.rt:32:9
 returns-2 : tie.Need-returns-2
-returns-2 c = ?
+returns-2 c =
+    let t = c .before in
+    let s = above (t .before) in
+    upper-right (s .args .n) (gamma-of s) (drift-of s) (s .args .i) (s .args .j) (t .before .if1 .taken) (t .if2 .left)
 
--- src/assembly.rt:35:22
+-- and that of its transpose
+inside-below : (c : tie.Then3) → let a = below (c .before) .args in a .j * a .p + (a .i - a .n) < length (a .drift .now)
+inside-below c =
+    let a = below (c .before) .args in
+    let e = row-end (a .p) (a .j) (a .n) (c .if3 .taken) in
+    omega arith
+
+-- return drift[j * p + (i - n)];
 mul-result-3 : tie.Need-mul-result-3
-mul-result-3 c = ?
+mul-result-3 c = omega (arith, inside-below c)
 
--- src/assembly.rt:35:22
 add-result-2 : tie.Need-add-result-2
-add-result-2 c = ?
+add-result-2 c = omega (arith, inside-below c)
 
--- src/assembly.rt:35:16
 mul-result-4 : tie.Need-mul-result-4
-mul-result-4 c = ?
+mul-result-4 c = omega (arith, inside-below c)
 
--- src/assembly.rt:35:16
 shared-slice-read-result-2 : tie.Need-shared-slice-read-result-2
-shared-slice-read-result-2 c = ?
+shared-slice-read-result-2 c = inside-below (c .before)
 
--- src/assembly.rt:35:9
 returns-3 : tie.Need-returns-3
-returns-3 c = ?
+returns-3 c =
+    let t = c .before in
+    let s = below (t .before) in
+    lower-left (s .args .n) (gamma-of s) (drift-of s) (s .args .i) (s .args .j) (t .before .if1 .left) (t .if3 .taken)
 
--- src/assembly.rt:24:1
+-- 0.0
 returns-4 : tie.Need-returns-4
-returns-4 c = ?
+returns-4 c =
+    let s = below (c .before) in
+    lower-right (s .args .n) (gamma-of s) (drift-of s) (s .args .i) (s .args .j) (c .before .if1 .left) (c .if3 .left)
 
 pub matrix-entry-spec : {M : Type 1} → statement M
 matrix-entry-spec =
