@@ -84,7 +84,9 @@ fn fill_matrix_row(
     work: &mut [f64],
 )
     requires { ⌜ (i < n + p) × (2 * n ≤ length (now coords)) × (n * p ≤ length (now drift)) × (i * (2 * (n + p)) + 2 * (n + p) ≤ length (now work)) ⌝ }
-    ensures { λ _. ⌜ now (work .exit) ≡ written (i * (2 * (n + p))) (2 * (n + p)) (besideIdentity (n + p) (joined n (between options (now (coords .entry))) (λ i j. getD (now (drift .entry)) (i * p + j) nan)) i) (now (work .entry)) ⌝ }
+    ensures { λ _. ⌜ now (work .exit) ≡ written (i * (2 * (n + p))) (2 * (n + p))
+        (besideIdentity (n + p) (joined n (between options (now (coords .entry))) (λ i j. getD (now (drift .entry)) (i * p + j) nan)) i)
+        (now (work .entry)) ⌝ }
 {
     let width = 2 * (n + p);
     let row = i * width;
@@ -103,7 +105,9 @@ pub fn assemble(
     work: &mut [f64],
 )
     requires { ⌜ (2 * n ≤ length (now coords)) × (n * p ≤ length (now drift)) × (2 * (n + p) * (n + p) ≤ length (now work)) ⌝ }
-    ensures { λ _. ⌜ now (work .exit) ≡ laid (n + p) (joined n (between options (now (coords .entry))) (λ i j. getD (now (drift .entry)) (i * p + j) nan)) (now (work .entry)) ⌝ }
+    ensures { λ _. ⌜ now (work .exit) ≡ laid (n + p)
+        (joined n (between options (now (coords .entry))) (λ i j. getD (now (drift .entry)) (i * p + j) nan))
+        (now (work .entry)) ⌝ }
 {
     for i in 0..n + p {
         fill_matrix_row(coords, options, drift, n, p, i, work);

@@ -1,10 +1,9 @@
 // The drift columns: F at the wells, and f0 at a node.
 ghost use mathlib.Core.Path.{_≡_};
 ghost use mathlib.Core.Logic.{_≢_};
-ghost use mathlib.Core.List.{[], _∷_};
 ghost use Prim.Native.Nat.{ℕ, _+_, _*_, _≤_, _<_};
 ghost use lib.ListN.{length, getD};
-ghost use lib.Ieee.{nan, binary64, mul};
+ghost use lib.Ieee.{nan};
 ghost use Rattle.area.specs.Area.{written, filled};
 ghost use Rattle.survey.specs.Survey.{codeColumns, columnSum, externalCount, xOf, yOf};
 ghost use Rattle.kriging.specs.Drift.{block, driftRow};
@@ -74,7 +73,9 @@ fn fill_row(
     start: usize,
 )
     requires { ⌜ (start + columnSum (now bases) ≤ length (now row)) × ((c : ℕ) → c < externalCount (now bases) → first + c * step < length (now external)) ⌝ }
-    ensures { λ _. ⌜ now (row .exit) ≡ written start (columnSum (now (bases .entry))) (λ j. getD (driftRow (now (bases .entry)) x y (λ c. getD (now (external .entry)) (first + c * step) nan) 0) j nan) (now (row .entry)) ⌝ }
+    ensures { λ _. ⌜ now (row .exit) ≡ written start (columnSum (now (bases .entry)))
+        (λ j. getD (driftRow (now (bases .entry)) x y (λ c. getD (now (external .entry)) (first + c * step) nan) 0) j nan)
+        (now (row .entry)) ⌝ }
 {
     let mut col = start;
     let mut external_used = 0;
@@ -102,7 +103,9 @@ fn fill_drift_row(
     start: usize,
 )
     requires { ⌜ (start + columnSum (now bases) ≤ length (now row)) × («sample_index» < n) × (externalCount (now bases) * n ≤ length (now external)) ⌝ }
-    ensures { λ _. ⌜ now (row .exit) ≡ written start (columnSum (now (bases .entry))) (λ j. getD (driftRow (now (bases .entry)) x y (λ c. getD (now (external .entry)) (c * n + «sample_index») nan) 0) j nan) (now (row .entry)) ⌝ }
+    ensures { λ _. ⌜ now (row .exit) ≡ written start (columnSum (now (bases .entry)))
+        (λ j. getD (driftRow (now (bases .entry)) x y (λ c. getD (now (external .entry)) (c * n + «sample_index») nan) 0) j nan)
+        (now (row .entry)) ⌝ }
 {
     fill_row(bases, x, y, external, sample_index, n, row, start)
 }
@@ -119,7 +122,9 @@ fn fill_query_drift_row(
     start: usize,
 )
     requires { ⌜ (start + columnSum (now bases) ≤ length (now row)) × (externalCount (now bases) ≡ k) × (q * k + k ≤ length (now external)) ⌝ }
-    ensures { λ _. ⌜ now (row .exit) ≡ written start (columnSum (now (bases .entry))) (λ j. getD (driftRow (now (bases .entry)) x y (λ c. getD (now (external .entry)) (q * k + c) nan) 0) j nan) (now (row .entry)) ⌝ }
+    ensures { λ _. ⌜ now (row .exit) ≡ written start (columnSum (now (bases .entry)))
+        (λ j. getD (driftRow (now (bases .entry)) x y (λ c. getD (now (external .entry)) (q * k + c) nan) 0) j nan)
+        (now (row .entry)) ⌝ }
 {
     fill_row(bases, x, y, external, q * k, 1, row, start)
 }
@@ -133,8 +138,12 @@ pub fn fill_drift(
     p: usize,
     drift: &mut [f64],
 )
-    requires { ⌜ (columnSum (now bases) ≡ p) × (externalCount (now bases) * n ≤ length (now external)) × (2 * n ≤ length (now coords)) × (n * p ≤ length (now drift)) ⌝ }
-    ensures { λ _. ⌜ now (drift .exit) ≡ filled p n (λ i j. getD (driftRow (now (bases .entry)) (xOf (now (coords .entry)) i) (yOf (now (coords .entry)) i) (λ c. getD (now (external .entry)) (c * n + i) nan) 0) j nan) (now (drift .entry)) ⌝ }
+    requires { ⌜ (columnSum (now bases) ≡ p) × (externalCount (now bases) * n ≤ length (now external))
+        × (2 * n ≤ length (now coords)) × (n * p ≤ length (now drift)) ⌝ }
+    ensures { λ _. ⌜ now (drift .exit) ≡ filled p n
+        (λ i j. getD (driftRow (now (bases .entry)) (xOf (now (coords .entry)) i) (yOf (now (coords .entry)) i)
+        (λ c. getD (now (external .entry)) (c * n + i) nan) 0) j nan)
+        (now (drift .entry)) ⌝ }
 {
     for i in 0..n {
         fill_drift_row(

@@ -1,6 +1,5 @@
 -- `kriging::entry_beside` meets its contract: the matrix on the left, the identity on the right. Assumes nothing.
 use Prim.Native.Nat.{ℕ, _+_}
-use native.Mathlib.Omega.{arith}
 use lib.Ieee.{Float}
 use borrow.Author.Needs.{needs}
 use Rattle.kriging.proofs.MatrixEntries.{matrix, beside-left, beside-one, beside-zero}

@@ -1,15 +1,15 @@
 -- `kriging::fill_drift` meets its contract: after i turns the area holds the first i rows of F. Assumes nothing.
 use Prim.Native.Nat.{ℕ, _+_, _*_, _-_, _≤_}
 use native.Mathlib.Omega.{arith}
-use mathlib.Core.Path.{_≡_, refl, ap, sym, _∙_}
+use mathlib.Core.Path.{_≡_, refl, ap, _∙_}
 use mathlib.Core.List.{List}
 use lib.Ieee.{Float, nan}
 use lib.ListN.{length, getD}
 use borrow.Author.Needs.{needs}
-use Rattle.area.specs.Area.{written, filled}
+use Rattle.area.specs.Area.{filled}
 use Rattle.area.proofs.Rows.{row-end}
 use Rattle.area.proofs.Filled.{next-row}
-use Rattle.survey.specs.Survey.{columnSum, xOf, yOf}
+use Rattle.survey.specs.Survey.{xOf, yOf}
 use Rattle.kriging.specs.Drift.{driftRow}
 use Rattle.kriging.proofs.drift.fill_drift.Statement.{statement}
 use Rattle.kriging.proofs.drift.fill_drift.Tie as tie

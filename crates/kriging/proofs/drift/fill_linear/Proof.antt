@@ -1,11 +1,8 @@
 -- `kriging::fill_linear` meets its contract: three stores are what `written` of three values is. Assumes nothing.
-use Prim.Native.Nat.{ℕ}
 use native.Mathlib.Nat.{add-zero}
 use native.Mathlib.Omega.{arith}
-use mathlib.Core.Path.{ap, sym}
-use lib.ListN.{set, length-set}
+use lib.ListN.{length-set}
 use borrow.Author.Needs.{needs}
-use Rattle.ieee.specs.Floats.{oneFloat}
 use Rattle.kriging.proofs.drift.fill_linear.Statement.{statement}
 use Rattle.kriging.proofs.drift.fill_linear.Tie as tie
 

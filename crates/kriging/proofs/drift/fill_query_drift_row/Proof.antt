@@ -1,7 +1,6 @@
 -- `kriging::fill_query_drift_row` meets its contract: the external values of a node lie side by side. Assumes nothing.
 use Prim.Native.Nat.{ℕ, _+_, _*_}
 use native.Mathlib.Nat.{mul-one}
-use native.Mathlib.Omega.{arith}
 use mathlib.Core.Path.{ap}
 use lib.Ieee.{nan}
 use lib.ListN.{getD}
