@@ -2,6 +2,8 @@ pub mod Refusals
 pub mod Exit
 pub mod Trend
 pub mod SystemDrift
+pub mod DriftRows
+pub mod MatrixEntries
 pub mod System
 pub mod SystemNode
 pub mod SystemDiagonal

@@ -24,7 +24,7 @@ block-same c x y e f h = by (eqb c 4) refl
     by true g = ap (block c x y) (h g)
     by false g = rw g
 
-row-same : (cs : List ℕ) (x y : Float) (e f : ℕ → Float) (used : ℕ) → ((c : ℕ) → used ≤ c → c < used + externalCount cs → e c ≡ f c)
+pub row-same : (cs : List ℕ) (x y : Float) (e f : ℕ → Float) (used : ℕ) → ((c : ℕ) → used ≤ c → c < used + externalCount cs → e c ≡ f c)
     → driftRow cs x y e used ≡ driftRow cs x y f used
 row-same [] x y e f used h = refl
 row-same (c ∷ cs) x y e f used h =

@@ -17,7 +17,7 @@ length-cond : {A : Type 0} (b : Bool) (xs ys : List A) (m n : ℕ) → length xs
 length-cond true xs ys m n h k = h
 length-cond false xs ys m n h k = k
 
-block-length : (c : ℕ) (x y e : Float) → length (block c x y e) ≡ codeColumns c
+pub block-length : (c : ℕ) (x y e : Float) → length (block c x y e) ≡ codeColumns c
 block-length c x y e =
     length-cond (eqb c 1) _ _ _ _ refl
     (length-cond (eqb c 2) _ _ _ _ refl (length-cond (eqb c 3) _ _ _ _ refl (length-cond (eqb c 4) _ _ _ _ refl refl)))

@@ -1,7 +1,7 @@
 // Universal kriging with external drift: the answer of a fit. What the fit answers is defined in specs/.
 use error::Refusal;
-
-mod drift;
+mod drift; // drift.rt: the drift columns at the wells and at a node
+mod assembly; // assembly.rt: the matrix beside the identity
 mod node; // node.rt: one node
 
 // How a fit ends.

@@ -1,0 +1,114 @@
+-- `kriging::matrix_entry` meets its contract: by the part of the matrix that the entry stands in. Assumes nothing.
+use Prim.Native.Nat.{ℕ, _+_, _*_, _-_, _<_}
+use native.Mathlib.Omega.{arith}
+use mathlib.Core.Path.{_∙_}
+use lib.Ieee.{Float, nan}
+use lib.ListN.{length, getD}
+use borrow.Author.Needs.{needs}
+use Rattle.area.proofs.Rows.{row-end}
+use Rattle.kriging.specs.Assembly.{between}
+use Rattle.kriging.proofs.MatrixEntries.{upper-left, upper-right, lower-left, lower-right}
+use Rattle.kriging.proofs.assembly.matrix_entry.Statement.{statement}
+use Rattle.kriging.proofs.assembly.matrix_entry.Tie as tie
+
+-- The states that the needs look back to, in the order of the code: a name takes a later state back to its own.
+abbrev above : tie.Then1 → tie.Start
+above c = c .before .before .before
+
+abbrev below : tie.Else1 → tie.Start
+below c = c .before .before .before
+
+-- what stands between two wells, and F
+abbrev gamma-of : tie.Start → ℕ → ℕ → Float
+gamma-of s = between (s .args .options) (s .args .coords .now)
+
+abbrev drift-of : tie.Start → ℕ → ℕ → Float
+drift-of s i j = getD (s .args .drift .now) (i * s .args .p + j) nan
+
+-- The needs, grouped below the lines of src/ that they are for.
+
+-- return gamma(coords, options, i, j);
+gamma-requires : tie.Need-gamma-requires
+gamma-requires c κs = search needs
+
+returns : tie.Need-returns
+returns c =
+    let t = c .before in
+    let s = above (t .before) in
+    c .gamma .ensures ∙ upper-left (s .args .n) (gamma-of s) (drift-of s) (s .args .i) (s .args .j) (t .before .if1 .taken) (t .if2 .taken)
+
+-- the entry of F lies inside
+inside : (c : tie.Else2) → let a = above (c .before) .args in a .i * a .p + (a .j - a .n) < length (a .drift .now)
+inside c =
+    let a = above (c .before) .args in
+    let e = row-end (a .p) (a .i) (a .n) (c .before .if1 .taken) in
+    omega arith
+
+-- return drift[i * p + (j - n)];
+mul-result : tie.Need-mul-result
+mul-result c = omega (arith, inside c)
+
+add-result : tie.Need-add-result
+add-result c = omega (arith, inside c)
+
+mul-result-2 : tie.Need-mul-result-2
+mul-result-2 c = omega (arith, inside c)
+
+shared-slice-read-result : tie.Need-shared-slice-read-result
+shared-slice-read-result c = inside (c .before)
+
+returns-2 : tie.Need-returns-2
+returns-2 c =
+    let t = c .before in
+    let s = above (t .before) in
+    upper-right (s .args .n) (gamma-of s) (drift-of s) (s .args .i) (s .args .j) (t .before .if1 .taken) (t .if2 .left)
+
+-- and that of its transpose
+inside-below : (c : tie.Then3) → let a = below (c .before) .args in a .j * a .p + (a .i - a .n) < length (a .drift .now)
+inside-below c =
+    let a = below (c .before) .args in
+    let e = row-end (a .p) (a .j) (a .n) (c .if3 .taken) in
+    omega arith
+
+-- return drift[j * p + (i - n)];
+mul-result-3 : tie.Need-mul-result-3
+mul-result-3 c = omega (arith, inside-below c)
+
+add-result-2 : tie.Need-add-result-2
+add-result-2 c = omega (arith, inside-below c)
+
+mul-result-4 : tie.Need-mul-result-4
+mul-result-4 c = omega (arith, inside-below c)
+
+shared-slice-read-result-2 : tie.Need-shared-slice-read-result-2
+shared-slice-read-result-2 c = inside-below (c .before)
+
+returns-3 : tie.Need-returns-3
+returns-3 c =
+    let t = c .before in
+    let s = below (t .before) in
+    lower-left (s .args .n) (gamma-of s) (drift-of s) (s .args .i) (s .args .j) (t .before .if1 .left) (t .if3 .taken)
+
+-- 0.0
+returns-4 : tie.Need-returns-4
+returns-4 c =
+    let s = below (c .before) in
+    lower-right (s .args .n) (gamma-of s) (drift-of s) (s .args .i) (s .args .j) (c .before .if1 .left) (c .if3 .left)
+
+pub matrix-entry-spec : {M : Type 1} → statement M
+matrix-entry-spec =
+    tie.close
+    (tie.spec
+    gamma-requires
+    returns
+    mul-result
+    add-result
+    mul-result-2
+    shared-slice-read-result
+    returns-2
+    mul-result-3
+    add-result-2
+    mul-result-4
+    shared-slice-read-result-2
+    returns-3
+    returns-4)
