@@ -10,4 +10,4 @@ pub mod SystemDiagonal
 pub mod Nodes
 pub mod NodesAlone
 pub mod Values
-pub mod DriftRows
+pub mod RightHand

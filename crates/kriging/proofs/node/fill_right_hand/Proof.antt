@@ -3,8 +3,18 @@ use Prim.Native.Nat.{ℕ, _+_, _≤_}
 use mathlib.Core.Path.{_≡_, ap, sym, _∙_}
 use native.Mathlib.Omega.{arith}
 use borrow.Author.Needs.{needs}
+use Rattle.survey.specs.Survey.{columnSum}
+use Rattle.kriging.proofs.SystemDrift.{row-length}
+use Rattle.kriging.proofs.RightHand.{filled-right}
 use Rattle.kriging.proofs.node.fill_right_hand.Statement.{statement}
 use Rattle.kriging.proofs.node.fill_right_hand.Tie as tie
+
+-- The states that the needs look back to, in the order of the code: a name takes a later state back to its own.
+abbrev at-entry : tie.After-fill-gamma → tie.Start
+at-entry c = c .before .before .before .before .before .before .before .before .before
+
+abbrev at-gamma : tie.After-fill-query-drift-row-arg → tie.After-fill-gamma
+at-gamma c = c .before .before .before
 
 -- src/node.rt:77:19
 mul-x : tie.Need-mul-x
@@ -36,11 +46,14 @@ shared-slice-read-y c = omega arith
 
 -- src/node.rt:79:5
 fill-gamma-requires : tie.Need-fill-gamma-requires
-fill-gamma-requires c κs = ?
+fill-gamma-requires c κs = omega arith
 
 -- src/node.rt:80:5
 fill-query-drift-row-requires : tie.Need-fill-query-drift-row-requires
-fill-query-drift-row-requires c κs = ?
+fill-query-drift-row-requires c κs =
+    let g = at-gamma c in
+    let p = at-entry g .pre in
+    (omega (arith, p .4, g .fill-gamma .kept .1 .1 .1 .1 .1 .0), p .2, p .3)
 
 -- src/node.rt:63:1
 same-length : tie.Need-same-length
@@ -48,7 +61,20 @@ same-length c = search needs
 
 -- src/node.rt:63:1
 returns : tie.Need-returns
-returns c = ?
+returns c =
+    let d = c .before .before in
+    let g = at-gamma (d .before) in
+    let a = at-entry g .args in
+    filled-right
+    (a .n)
+    (columnSum (a .bases .now))
+    _
+    _
+    (a .b .now)
+    (row-length (a .bases .now) _ _ _ 0)
+    (at-entry g .pre .4)
+    (g .fill-gamma .ensures)
+    (d .fill-query-drift-row .ensures)
 
 pub fill-right-hand-spec : {M : Type 1} → statement M
 fill-right-hand-spec =
