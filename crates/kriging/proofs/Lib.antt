@@ -11,3 +11,4 @@ pub mod Nodes
 pub mod NodesAlone
 pub mod Values
 pub mod RightHand
+pub mod NodeParts

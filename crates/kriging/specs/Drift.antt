@@ -1,12 +1,13 @@
 -- The drift columns: F at the wells and f0 at a node. Assumes nothing.
-use Prim.Native.Nat.{ℕ, _+_}
+use Prim.Native.Nat.{ℕ, _+_, _*_, _<_}
+use mathlib.Core.Path.{_≡_}
 use mathlib.Core.Bool.{cond}
 use mathlib.Core.List.{List, [], _∷_, _++_}
 use lib.Dec.{eqb}
 use lib.ListN.{getD}
 use lib.Ieee.{Float, nan, binary64, mul}
 use Rattle.ieee.specs.Floats.{oneFloat}
-use Rattle.survey.specs.Survey.{Survey, wellX, wellY, wellExternal, nodeX, nodeY, nodeExternalAt}
+use Rattle.survey.specs.Survey.{Survey, wells, columns, wellX, wellY, wellExternal, nodeX, nodeY, nodeExternalAt}
 
 -- "1; 1, x, y; 1, x, y, x², xy, y²; or the external value": the columns of one code at x, y with the external value e
 abbrev pub block : ℕ → Float → Float → Float → List Float
@@ -32,3 +33,7 @@ nodeRow s q = driftRow (s .bases) (nodeX s q) (nodeY s q) (nodeExternalAt s q) 0
 -- F_ij, at well i and column j
 abbrev pub drift : Survey → ℕ → ℕ → Float
 drift s i j = getD (wellRow s i) j nan
+
+-- F as it lies in a list, row after row
+abbrev pub DriftIn : Survey → List Float → Type 0
+DriftIn s F = (i j : ℕ) → i < wells s → j < columns s → getD F (i * columns s + j) nan ≡ drift s i j

@@ -1,0 +1,74 @@
+-- A node's parts as the code has them, z in the first places of a longer list and F row after row in another: they are the parts of the paper's node. Assumes nothing.
+use Prim.Native.Nat.{ℕ, _+_, _-_, _*_, _≤_, _<_}
+use native.Mathlib.Omega.{arith}
+use mathlib.Core.Path.{_≡_, refl, ap, ap₂, sym, _∙_}
+use mathlib.Core.Bool.{Bool}
+use mathlib.Core.List.{List, []}
+use lib.ListN.{length, getD, take, drop}
+use lib.Seq.{getD-take, length-take-le, drop-at}
+use lib.Ieee.{Float, nan, binary64, mul}
+use Rattle.area.specs.Area.{table}
+use Rattle.area.proofs.Tables.{table-length}
+use Rattle.ieee.specs.Floats.{notBelowZero}
+use Rattle.ieee.specs.Sums.{runningSum}
+use Rattle.ieee.proofs.Sums.{same-sum}
+use Rattle.audit.specs.Audit.{Weighed, driftFinite, columnVerdictGiven, columnVerdict, verdictWith, SameWeighed}
+use Rattle.audit.specs.Lists.{entryIn, weighedIn, auditedIn}
+use Rattle.audit.proofs.Same.{same-drift, same-given, same-joined}
+use Rattle.audit.proofs.Listed.{unread}
+use Rattle.survey.specs.Survey.{Survey, wells, columns, size}
+use Rattle.kriging.specs.Drift.{DriftIn, drift, nodeRow}
+use Rattle.kriging.specs.Node.{rightHandOf, rightHand, zOf, varianceOf, figureOf, weighedOf, auditOf, Solution, solutionOf, Node, nodeWith, nodeOf}
+use Rattle.kriging.proofs.SystemDrift.{node-row-length}
+
+module _ (s : Survey) (work : List Float) (q : ℕ) where
+  -- f0 is what stands in b past the wells
+  pub f0-is : drop (wells s) (rightHand s q) ≡ nodeRow s q
+  unfolding rightHand rightHandOf
+  f0-is = drop-at (table (wells s) _) (nodeRow s q) (wells s) (table-length (wells s) _)
+
+  module _ (zs F : List Float) (given : Bool) (long : size s ≤ length zs) (hz : take (size s) zs ≡ zOf (size s) work (rightHand s q))
+      (hF : DriftIn s F) (hg : given ≡ driftFinite (wells s) (columns s) (entryIn F (columns s))) where
+    -- the paper's z
+    abbrev z : List Float
+    z = zOf (size s) work (rightHand s q)
+
+    z-at : (i : ℕ) → i < size s → getD zs i nan ≡ getD z i nan
+    z-at i h = sym (getD-take (size s) zs i nan h) ∙ ap (λ (l : List Float). getD l i nan) hz
+
+    pub z-is : take (size s) zs ≡ nodeOf s work q .z
+    unfolding nodeOf nodeWith solutionOf
+    z-is = hz
+
+    pub variance-is : varianceOf (size s) zs (rightHand s q) ≡ nodeOf s work q .variance
+    unfolding nodeOf nodeWith solutionOf varianceOf
+    variance-is = ap notBelowZero (same-sum (size s) _ _ (λ i h. ap (λ (x : Float). mul binary64 x (getD (rightHand s q) i nan)) (z-at i h)))
+
+    pub figure-is : runningSum (wells s) (λ i. mul binary64 (getD zs i nan) (getD (s .values) i nan)) ≡ nodeOf s work q .figure
+    unfolding nodeOf nodeWith solutionOf figureOf
+    figure-is = same-sum (wells s) _ _ (λ i h. ap (λ (x : Float). mul binary64 x (getD (s .values) i nan)) (z-at i (omega arith)))
+
+    -- what the code's audit reads is what the paper's reads
+    same : SameWeighed (weighedIn (take (wells s) zs) F (nodeRow s q) (s .tolerance)) (weighedOf s q z)
+    same =
+        let len = length-take-le (wells s) zs (omega arith) in
+        record {
+          n = len;
+          p = node-row-length s q;
+          tolerance = refl;
+          weight = λ i h. let l : i < wells s = omega (arith, len) in getD-take (wells s) zs i nan l ∙ z-at i (omega arith);
+          drift = λ i j h k.
+            ap (λ (p : ℕ). getD F (i * p + j) nan) (node-row-length s q) ∙ hF i j (omega (arith, len)) (omega (arith, node-row-length s q));
+          nodeDrift = λ j h. refl;
+        }
+
+    pub columns-is : columnVerdictGiven given (weighedIn (take (wells s) zs) F (nodeRow s q) (s .tolerance)) ≡ solutionOf s work q .columns
+    unfolding solutionOf columnVerdict
+    columns-is = same-given same given _ (hg ∙ same-drift (wells s) (columns s) (entryIn F (columns s)) (drift s) hF)
+
+    pub verdict-is : {c : ℕ} {g : Float} → c ≡ solutionOf s work q .columns → g ≡ nodeOf s work q .figure
+        → verdictWith c (auditedIn (weighedIn (take (wells s) zs) [] (nodeRow s q) (s .tolerance)) (s .values) g) ≡ nodeOf s work q .verdict
+    unfolding nodeOf nodeWith
+    verdict-is {c} {g} e f =
+        unread (take (wells s) zs) [] F (nodeRow s q) (s .tolerance) c (s .values) g
+        ∙ same-joined (auditedIn (weighedIn (take (wells s) zs) F (nodeRow s q) (s .tolerance)) (s .values) g) (auditOf s q z _) same (λ i h. refl) f c _ e
