@@ -1,7 +1,7 @@
 -- A node's parts as the code has them, z in the first places of a longer list and F row after row in another: they are the parts of the paper's node. Assumes nothing.
 use Prim.Native.Nat.{ℕ, _+_, _-_, _*_, _≤_, _<_}
 use native.Mathlib.Omega.{arith}
-use mathlib.Core.Path.{_≡_, refl, ap, ap₂, sym, _∙_}
+use mathlib.Core.Path.{_≡_, refl, ap, sym, _∙_, subst}
 use mathlib.Core.Bool.{Bool}
 use mathlib.Core.List.{List, []}
 use lib.ListN.{length, getD, take, drop}
@@ -20,6 +20,7 @@ use Rattle.survey.specs.Survey.{Survey, wells, columns, size}
 use Rattle.kriging.specs.Drift.{DriftIn, drift, nodeRow}
 use Rattle.kriging.specs.Node.{rightHandOf, rightHand, zOf, varianceOf, figureOf, weighedOf, auditOf, Solution, solutionOf, Node, nodeWith, nodeOf}
 use Rattle.kriging.proofs.SystemDrift.{node-row-length}
+use Rattle.kriging.proofs.System.{right-length}
 
 module _ (s : Survey) (work : List Float) (q : ℕ) where
   -- f0 is what stands in b past the wells
@@ -58,7 +59,7 @@ module _ (s : Survey) (work : List Float) (q : ℕ) where
           tolerance = refl;
           weight = λ i h. let l : i < wells s = omega (arith, len) in getD-take (wells s) zs i nan l ∙ z-at i (omega arith);
           drift = λ i j h k.
-            ap (λ (p : ℕ). getD F (i * p + j) nan) (node-row-length s q) ∙ hF i j (omega (arith, len)) (omega (arith, node-row-length s q));
+              ap (λ (p : ℕ). getD F (i * p + j) nan) (node-row-length s q) ∙ hF i j (omega (arith, len)) (omega (arith, node-row-length s q));
           nodeDrift = λ j h. refl;
         }
 
@@ -72,3 +73,37 @@ module _ (s : Survey) (work : List Float) (q : ℕ) where
     verdict-is {c} {g} e f =
         unread (take (wells s) zs) [] F (nodeRow s q) (s .tolerance) c (s .values) g
         ∙ same-joined (auditedIn (weighedIn (take (wells s) zs) F (nodeRow s q) (s .tolerance)) (s .values) g) (auditOf s q z _) same (λ i h. refl) f c _ e
+
+-- What the calls behind a node leave, p being how many columns there are: b in a list, z in the first places of one, and F in another.
+pub record Parts (s : Survey) (work : List Float) (q : ℕ) (b zs F : List Float) (given : Bool) (variance figure : Float) (c v : ℕ) (p : ℕ) : Type 0 where
+  pub long : wells s + p ≤ length zs
+  pub right : b ≡ rightHand s q
+  pub z-of : take (length b) zs ≡ zOf (length b) work b
+  pub variance-of : variance ≡ varianceOf (length b) zs b
+  pub columns-of : c ≡ columnVerdictGiven given (weighedIn (take (wells s) zs) F (drop (wells s) b) (s .tolerance))
+  pub figure-of : figure ≡ runningSum (wells s) (λ i. mul binary64 (getD zs i nan) (getD (s .values) i nan))
+  pub verdict-of : v ≡ verdictWith c (auditedIn (weighedIn (take (wells s) zs) [] (drop (wells s) b) (s .tolerance)) (s .values) figure)
+  pub scanned : given ≡ driftFinite (wells s) p (entryIn F p)
+
+module _ (s : Survey) (work : List Float) (q : ℕ) (b zs F : List Float) (given : Bool) (variance figure : Float) (c v : ℕ) (hF : DriftIn s F) where
+  abbrev Is : Type 0
+  Is = (take (size s) zs ≡ nodeOf s work q .z) × (figure ≡ nodeOf s work q .figure) × (variance ≡ nodeOf s work q .variance) × (v ≡ nodeOf s work q .verdict)
+
+  with-columns : Parts s work q b zs F given variance figure c v (columns s) → Is
+  with-columns h =
+      let len = right-length s q in
+      let hz = subst (λ (k : ℕ). take k zs ≡ zOf k work (rightHand s q)) len (subst (λ (l : List Float). take (length l) zs ≡ zOf (length l) work l) (h .right) (h .z-of)) in
+      let hv = subst (λ (k : ℕ). variance ≡ varianceOf k zs (rightHand s q)) len (subst (λ (l : List Float). variance ≡ varianceOf (length l) zs l) (h .right) (h .variance-of)) in
+      let f0 : drop (wells s) b ≡ nodeRow s q = ap (λ (l : List Float). drop (wells s) l) (h .right) ∙ f0-is s work q in
+      let fig = h .figure-of ∙ figure-is s work q zs F given (h .long) hz hF (h .scanned) in
+      let col = subst (λ (l : List Float). c ≡ columnVerdictGiven given (weighedIn (take (wells s) zs) F l (s .tolerance))) f0 (h .columns-of)
+        ∙ columns-is s work q zs F given (h .long) hz hF (h .scanned) in
+      (z-is s work q zs F given (h .long) hz hF (h .scanned),
+      fig,
+      hv ∙ variance-is s work q zs F given (h .long) hz hF (h .scanned),
+      subst (λ (l : List Float). v ≡ verdictWith c (auditedIn (weighedIn (take (wells s) zs) [] l (s .tolerance)) (s .values) figure)) f0 (h .verdict-of)
+      ∙ verdict-is s work q zs F given (h .long) hz hF (h .scanned) col fig)
+
+  -- they are the paper's node
+  pub node-is : {p : ℕ} → columns s ≡ p → Parts s work q b zs F given variance figure c v p → Is
+  node-is {p} e h = with-columns (subst (λ (k : ℕ). Parts s work q b zs F given variance figure c v k) (sym e) h)

@@ -1,5 +1,6 @@
 // Universal kriging with external drift: the answer of a fit. What the fit answers is defined in specs/.
 use error::Refusal;
+
 mod drift; // drift.rt: the drift columns at the wells and at a node
 mod assembly; // assembly.rt: the matrix beside the identity
 mod node; // node.rt: one node

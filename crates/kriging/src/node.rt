@@ -1,17 +1,19 @@
 // One node: its right-hand side, z, figure, variance and verdict.
+use survey::UniversalKrigingOptions;
 use variogram::Variogram;
 ghost use mathlib.Core.Path.{_≡_};
+ghost use mathlib.Core.List.{List};
 ghost use Prim.Native.Nat.{_+_, _*_, _≤_, _<_};
 ghost use lib.ListN.{length, getD, take, drop};
-ghost use lib.Ieee.{nan, binary64, mul};
+ghost use lib.Ieee.{Float, nan, binary64, mul};
 ghost use Rattle.area.specs.Area.{written};
 ghost use Rattle.ieee.specs.Sums.{runningSum};
 ghost use Rattle.elimination.specs.Inverse.{timesInverse};
-ghost use Rattle.audit.specs.Audit.{columnVerdictGiven, verdictWith};
-ghost use Rattle.audit.specs.Lists.{weighedIn, auditedIn};
-ghost use Rattle.survey.specs.Survey.{columnSum, externalCount, xOf, yOf};
-ghost use Rattle.kriging.specs.Drift.{driftRow};
-ghost use Rattle.kriging.specs.Node.{gammaTo, rightHandOf, zOf, varianceOf};
+ghost use Rattle.audit.specs.Audit.{driftFinite, columnVerdictGiven};
+ghost use Rattle.audit.specs.Lists.{entryIn, weighedIn};
+ghost use Rattle.survey.specs.Survey.{surveyOf, columnSum, externalCount, size, xOf, yOf};
+ghost use Rattle.kriging.specs.Drift.{driftRow, DriftIn};
+ghost use Rattle.kriging.specs.Node.{gammaTo, rightHandOf, zOf, varianceOf, nodeOf};
 
 // The variogram from a place to each of the n wells.
 fn fill_gamma(coords: &[f64], variogram: Variogram, x: f64, y: f64, n: usize, b: &mut [f64])
@@ -87,8 +89,16 @@ struct Solution {
     columns: usize,
 }
 
-fn solve_node(work: &[f64], b: &[f64], drift: &[f64], finite_drift: bool, n: usize, tolerance: f64) -> Solution
+fn solve_node(
+    work: &[f64],
+    b: &[f64],
+    drift: &[f64],
+    finite_drift: bool,
+    n: usize,
+    tolerance: f64,
+) -> Solution
     requires { ⌜ (n ≤ length (now b)) × (length (now b) ≤ 60) × (2 * length (now b) * length (now b) ≤ length (now work)) ⌝ }
+    ensures places { λ r. ⌜ length (r .z) ≡ 60 ⌝ }
     ensures z { λ r. ⌜ take (length (now (b .entry))) (r .z) ≡ zOf (length (now (b .entry))) (now (work .entry)) (now (b .entry)) ⌝ }
     ensures variance { λ r. ⌜ r .variance ≡ varianceOf (length (now (b .entry))) (r .z) (now (b .entry)) ⌝ }
     ensures columns { λ r. ⌜ r .columns ≡ columnVerdictGiven «finite_drift» (weighedIn (take n (r .z)) (now (drift .entry)) (drop n (now (b .entry))) tolerance) ⌝ }
@@ -102,5 +112,74 @@ fn solve_node(work: &[f64], b: &[f64], drift: &[f64], finite_drift: bool, n: usi
         z: z,
         variance: variance,
         columns: columns,
+    }
+}
+
+// What a node gets: z with its weights, its figure, its variance and its verdict.
+pub struct Node {
+    pub z: [f64; 60],
+    pub figure: f64,
+    pub variance: f64,
+    pub verdict: usize,
+}
+
+// Node q, from the finished elimination: first what does not depend on the values, then what does.
+pub fn krige_node(
+    values: &[f64],
+    coords: &[f64],
+    bases: &[u8],
+    options: UniversalKrigingOptions,
+    nodes: &[f64],
+    node_external: &[f64],
+    tolerance: f64,
+    drift: &[f64],
+    finite_drift: bool,
+    p: usize,
+    k: usize,
+    q: usize,
+    work: &[f64],
+) -> Node
+    requires { ⌜ (2 * length (now values) ≤ length (now coords)) × (columnSum (now bases) ≡ p) × (externalCount (now bases) ≡ k)
+        × (length (now values) + p ≤ 60) × (2 * q + 1 < length (now nodes)) × (q * k + k ≤ length (now «node_external»))
+        × (2 * (length (now values) + p) * (length (now values) + p) ≤ length (now work))
+        × («finite_drift» ≡ driftFinite (length (now values)) p (entryIn (now drift) p)) ⌝ }
+    ensures places { λ r. ⌜ length (r .z) ≡ 60 ⌝ }
+    ensures node { λ r. ⌜ ((external : List Float)
+        → let s = surveyOf (now (values .entry)) (now (coords .entry)) (now (bases .entry)) external
+        (now (nodes .entry)) (now («node_external» .entry)) options tolerance in
+        let node = nodeOf s (now (work .entry)) q in
+        DriftIn s (now (drift .entry))
+        → (take (size s) (r .z) ≡ node .z) × (r .figure ≡ node .figure) × (r .variance ≡ node .variance) × (r .verdict ≡ node .verdict)) ⌝ }
+{
+    let n = values.len();
+    let size = n + p;
+    let mut b = [0.0; 60];
+    fill_right_hand(
+        coords,
+        bases,
+        options.variogram,
+        nodes,
+        node_external,
+        n,
+        k,
+        q,
+        &mut b,
+    );
+    let solution = solve_node(work, &b[..size], drift, finite_drift, n, tolerance);
+    let z = solution.z;
+    let figure = weighted_sum(&z, values, n);
+    let verdict = audit::audit_figure(
+        solution.columns,
+        &z[..n],
+        &b[n..size],
+        values,
+        figure,
+        tolerance,
+    );
+    Node {
+        z: z,
+        figure: figure,
+        variance: solution.variance,
+        verdict: verdict,
     }
 }
