@@ -111,7 +111,7 @@ fn fill_drift_row(
 }
 
 // f0 of node q: the k external values of the nodes lie node after node.
-fn fill_query_drift_row(
+pub fn fill_query_drift_row(
     bases: &[u8],
     external: &[f64],
     k: usize,
