@@ -1,4 +1,4 @@
--- `kriging::entry_beside` meets its contract: the matrix on the left, the identity on the right. Assumes nothing.
+-- `kriging::assembly::entry_beside` meets its contract: the matrix on the left, the identity on the right. Assumes nothing.
 use Prim.Native.Nat.{ℕ, _+_}
 use lib.Ieee.{Float}
 use borrow.Author.Needs.{needs}

@@ -1,4 +1,4 @@
--- `kriging::matrix_entry` meets its contract: by the part of the matrix that the entry stands in. Assumes nothing.
+-- `kriging::assembly::matrix_entry` meets its contract: by the part of the matrix that the entry stands in. Assumes nothing.
 use Prim.Native.Nat.{ℕ, _+_, _*_, _-_, _<_}
 use native.Mathlib.Omega.{arith}
 use mathlib.Core.Path.{_∙_}

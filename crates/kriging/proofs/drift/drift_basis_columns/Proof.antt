@@ -1,4 +1,4 @@
--- `kriging::drift_basis_columns` meets its contract: by the code. Assumes nothing.
+-- `kriging::drift::drift_basis_columns` meets its contract: by the code. Assumes nothing.
 use borrow.Author.Tests.{ne-eqb}
 use Rattle.kriging.proofs.drift.drift_basis_columns.Statement.{statement}
 use Rattle.kriging.proofs.drift.drift_basis_columns.Tie as tie

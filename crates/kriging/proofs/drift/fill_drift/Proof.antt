@@ -1,4 +1,4 @@
--- `kriging::fill_drift` meets its contract: after i turns the area holds the first i rows of F. Assumes nothing.
+-- `kriging::drift::fill_drift` meets its contract: after i turns the area holds the first i rows of F. Assumes nothing.
 use Prim.Native.Nat.{ℕ, _+_, _*_, _-_, _≤_}
 use native.Mathlib.Omega.{arith}
 use mathlib.Core.Path.{_≡_, refl, ap, _∙_}

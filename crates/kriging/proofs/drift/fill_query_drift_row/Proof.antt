@@ -1,4 +1,4 @@
--- `kriging::fill_query_drift_row` meets its contract: the external values of a node lie side by side. Assumes nothing.
+-- `kriging::drift::fill_query_drift_row` meets its contract: the external values of a node lie side by side. Assumes nothing.
 use Prim.Native.Nat.{ℕ, _+_, _*_}
 use native.Mathlib.Nat.{mul-one}
 use mathlib.Core.Path.{ap}
@@ -23,7 +23,7 @@ mul-fill-row c = search needs
 fill-row-requires : tie.Need-fill-row-requires
 fill-row-requires c κs = search needs
 
--- fn fill_query_drift_row(bases: &[u8], external: &[f64], k: usize, q: usize, x: f64, y: f64, row: &mut [f64], start: usize)
+-- pub fn fill_query_drift_row(bases: &[u8], external: &[f64], k: usize, q: usize, x: f64, y: f64, row: &mut [f64], start: usize)
 same-length : tie.Need-same-length
 same-length c = search needs
 
