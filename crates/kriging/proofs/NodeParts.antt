@@ -97,12 +97,13 @@ module _ (s : Survey) (work : List Float) (q : ℕ) (b zs F : List Float) (given
       let f0 : drop (wells s) b ≡ nodeRow s q = ap (λ (l : List Float). drop (wells s) l) (h .right) ∙ f0-is s work q in
       let fig = h .figure-of ∙ figure-is s work q zs F given (h .long) hz hF (h .scanned) in
       let col = subst (λ (l : List Float). c ≡ columnVerdictGiven given (weighedIn (take (wells s) zs) F l (s .tolerance))) f0 (h .columns-of)
-        ∙ columns-is s work q zs F given (h .long) hz hF (h .scanned) in
-      (z-is s work q zs F given (h .long) hz hF (h .scanned),
-      fig,
-      hv ∙ variance-is s work q zs F given (h .long) hz hF (h .scanned),
-      subst (λ (l : List Float). v ≡ verdictWith c (auditedIn (weighedIn (take (wells s) zs) [] l (s .tolerance)) (s .values) figure)) f0 (h .verdict-of)
-      ∙ verdict-is s work q zs F given (h .long) hz hF (h .scanned) col fig)
+      ∙ columns-is s work q zs F given (h .long) hz hF (h .scanned) in (
+        z-is s work q zs F given (h .long) hz hF (h .scanned),
+        fig,
+        hv ∙ variance-is s work q zs F given (h .long) hz hF (h .scanned),
+        subst (λ (l : List Float). v ≡ verdictWith c (auditedIn (weighedIn (take (wells s) zs) [] l (s .tolerance)) (s .values) figure)) f0 (h .verdict-of)
+            ∙ verdict-is s work q zs F given (h .long) hz hF (h .scanned) col fig,
+      )
 
   -- they are the paper's node
   pub node-is : {p : ℕ} → columns s ≡ p → Parts s work q b zs F given variance figure c v p → Is

@@ -1,12 +1,43 @@
+-- `kriging::node::krige_node` meets its contract: what the calls leave are the parts of the paper's node. Assumes nothing.
+use Prim.Native.Nat.{ℕ, _+_, _-_, _*_, _≤_}
+use mathlib.Core.Path.{_≡_, refl, ap, sym, _∙_, subst}
+use mathlib.Core.List.{List, []}
+use native.Mathlib.Omega.{arith}
 use borrow.Author.Needs.{needs}
+use lib.ListN.{length, getD, take, drop}
+use lib.Seq.{length-take-le, take-add, drop-at}
+use lib.Ieee.{Float, nan}
+use Rattle.audit.specs.Audit.{verdictWith}
+use Rattle.audit.specs.Lists.{weighedIn, auditedIn}
+use Rattle.survey.specs.Survey.{Survey, surveyOf, wells, nodeX, nodeY}
+use Rattle.kriging.specs.Drift.{driftRow}
+use Rattle.kriging.specs.Node.{gammaTo, rightHandOf, rightHand}
+use Rattle.kriging.proofs.NodeParts.{node-is}
 use Rattle.kriging.proofs.node.krige_node.Statement.{statement}
 use Rattle.kriging.proofs.node.krige_node.Tie as tie
-use Rattle.kriging.proofs.node.krige_node.Reads as reads
-use Rattle.kriging.proofs.node.krige_node.Lts as lts
-use Rattle.audit.proofs.audit_figure.Reads as audit-figure-reads
-use Rattle.kriging.proofs.node.fill_right_hand.Reads as fill-right-hand-reads
-use Rattle.kriging.proofs.node.solve_node.Reads as solve-node-reads
-use Rattle.kriging.proofs.node.weighted_sum.Reads as weighted-sum-reads
+
+-- the part of a list between two places, said in both ways
+part-is : (n p : ℕ) (xs : List Float) → n ≤ length xs → take (n + p - n) (drop n xs) ≡ drop n (take (n + p) xs)
+part-is n p xs h =
+    let e : n + p - n ≡ p = omega arith in
+    ap (λ (k : ℕ). take k (drop n xs)) e
+    ∙ sym (ap (λ (l : List Float). drop n l) (take-add n p xs) ∙ drop-at (take n xs) (take p (drop n xs)) n (length-take-le n xs h))
+
+-- The states that the needs look back to, in the order of the code: a name takes a later state back to its own.
+abbrev at-entry : tie.After-fill-right-hand → tie.Start
+at-entry c = c .before .before .before .before .before .before .before .before .before
+
+abbrev at-right : tie.After-b3 → tie.After-fill-right-hand
+at-right c = c .before .before
+
+abbrev at-b : tie.After-solve-node → tie.After-b3
+at-b c = c .before
+
+abbrev at-solved : tie.After-z3 → tie.After-solve-node
+at-solved c = c .before .before .before .before
+
+abbrev size-of : tie.Start → ℕ
+size-of c = length (c .args .values .now) + c .args .p
 
 -- src/node.rt:153:16
 add-size : tie.Need-add-size
@@ -24,13 +55,23 @@ fill-right-hand-requires c κs = search needs
 array-share-prefix-b : tie.Need-array-share-prefix-b
 array-share-prefix-b c = search needs
 
+-- b has its 60 places, and so the part of it that is lent has size ones
+b-length : (c : tie.After-b3) → length (take (size-of (at-entry (at-right c))) (at-right c .fill-right-hand .last .1 .1 .1 .1 .1 .1 .1 .1 .0)) ≡ size-of (at-entry (at-right c))
+b-length c =
+    let r = at-right c in
+    length-take-le (size-of (at-entry r)) (r .fill-right-hand .last .1 .1 .1 .1 .1 .1 .1 .1 .0) (omega (arith, r .fill-right-hand .kept .1 .1 .1 .1 .1 .1 .1 .1 .0, at-entry r .pre .3))
+
 -- src/node.rt:166:37
 slice-aggregate-solve-node : tie.Need-slice-aggregate-solve-node
-slice-aggregate-solve-node c = ?
+slice-aggregate-solve-node c = sym (b-length c)
 
 -- src/node.rt:166:9
 solve-node-requires : tie.Need-solve-node-requires
-solve-node-requires c κs = ?
+solve-node-requires c κs = let p = at-entry (at-right c) .pre in (omega (arith, b-length c), omega (arith, b-length c, p .3), subst (λ (l : ℕ). 2 * l * l ≤ length (at-entry (at-right c) .args .work .now)) (sym (b-length c)) (p .6))
+
+-- z has its 60 places
+z-inside : (c : tie.After-solve-node) → length (at-entry (at-right (at-b c)) .args .values .now) ≤ length (c .solve-node .result .z)
+z-inside c = omega (arith, c .solve-node .ensures .0, at-entry (at-right (at-b c)) .pre .3)
 
 -- src/node.rt:168:31
 slice-aggregate-weighted-sum : tie.Need-slice-aggregate-weighted-sum
@@ -38,15 +79,15 @@ slice-aggregate-weighted-sum c = search needs
 
 -- src/node.rt:168:9
 weighted-sum-requires : tie.Need-weighted-sum-requires
-weighted-sum-requires c κs = c .before .before .solve-node .ok
+weighted-sum-requires c κs = (z-inside (c .before .before), omega arith)
 
 -- src/node.rt:171:9
 array-share-prefix-z : tie.Need-array-share-prefix-z
-array-share-prefix-z c = ?
+array-share-prefix-z c = z-inside (c .before .before .before)
 
 -- src/node.rt:171:9
 slice-aggregate-audit-figure : tie.Need-slice-aggregate-audit-figure
-slice-aggregate-audit-figure c = ?
+slice-aggregate-audit-figure c = sym (length-take-le _ _ (z-inside (at-solved c)))
 
 -- src/node.rt:172:9
 mul-audit-figure : tie.Need-mul-audit-figure
@@ -70,7 +111,35 @@ audit-figure-requires c κs = search needs
 
 -- src/node.rt:126:1
 returns : tie.Need-returns
-returns c = ?
+unfolding rightHand
+returns c =
+    let v = at-solved (c .before .before .before) in
+    let r = at-right (at-b v) in
+    let a = at-entry r .args in
+    let pre = at-entry r .pre in
+    let bs = r .fill-right-hand .last .1 .1 .1 .1 .1 .1 .1 .1 .0 in (
+      v .solve-node .ensures .0,
+      λ external hF.
+          let s : Survey = surveyOf (a .values .now) (a .coords .now) (a .bases .now) external (a .nodes .now) (a .node-external .now) (a .options) (a .tolerance) in
+          node-is s (a .work .now) (a .q) (take (size-of (at-entry r)) bs) (v .solve-node .result .z) (a .drift .now) (a .finite-drift) _ _ _ _ hF (pre .1) (record {
+            long = omega (arith, v .solve-node .ensures .0, pre .3);
+            right =
+                ap (λ (p : ℕ). take (length (a .values .now) + p) bs) (sym (pre .1))
+                ∙ r .fill-right-hand .ensures
+                ∙ ap (λ (k : ℕ). rightHandOf (wells s) (gammaTo (a .options .variogram) (a .coords .now) (nodeX s (a .q)) (nodeY s (a .q)))
+                (driftRow (a .bases .now) (nodeX s (a .q)) (nodeY s (a .q)) (λ c. getD (a .node-external .now) (a .q * k + c) nan) 0)) (sym (pre .2));
+            z-of = v .solve-node .ensures .1 .0;
+            variance-of = v .solve-node .ensures .1 .1 .0;
+            columns-of = v .solve-node .ensures .1 .1 .1;
+            figure-of = c .before .before .before .before .weighted-sum .ensures;
+            verdict-of =
+                c .audit-figure .ensures
+                ∙ ap
+                (λ (f0 : List Float). verdictWith (v .solve-node .result .columns) (auditedIn (weighedIn (take (length (a .values .now)) (v .solve-node .result .z)) [] f0 (a .tolerance)) (a .values .now) (c .before .before .before .before .weighted-sum .result)))
+                (part-is (length (a .values .now)) (a .p) bs (omega (arith, r .fill-right-hand .kept .1 .1 .1 .1 .1 .1 .1 .1 .0, pre .3)));
+            scanned = pre .7;
+          }),
+    )
 
 pub krige-node-spec : {M : Type 1} → statement M
 krige-node-spec =
