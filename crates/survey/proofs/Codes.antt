@@ -51,7 +51,8 @@ columns-next cs i l = ap columnSum (from-next cs i l)
 pub columns-end : (cs : List ℕ) (i : ℕ) → length cs ≤ i → columnSum (drop i cs) ≡ 0
 columns-end cs i l = ap columnSum (drop-of-length-le cs l)
 
-pub externals-next : (cs : List ℕ) (i : ℕ) → i < length cs → externalCount (drop i cs) ≡ cond (eqb (getD cs i 0) 4) 1 0 + externalCount (drop (i + 1) cs)
+pub externals-next : (cs : List ℕ) (i : ℕ) → i < length cs
+    → externalCount (drop i cs) ≡ cond (eqb (getD cs i 0) 4) 1 0 + externalCount (drop (i + 1) cs)
 externals-next cs i l = ap externalCount (from-next cs i l)
 
 pub externals-end : (cs : List ℕ) (i : ℕ) → length cs ≤ i → externalCount (drop i cs) ≡ 0

@@ -1,4 +1,5 @@
--- `survey::counts::drift_columns` meets its contract. The invariant: the columns counted and those of the codes left are p. The measure is the codes left. Assumes nothing.
+-- `survey::counts::drift_columns` meets its contract. The invariant: the columns counted and those of the codes left are p.
+-- The measure is the codes left. Assumes nothing.
 use Prim.Native.Nat.{ℕ, _+_, _-_, _^_, _≤_, _<_}
 use mathlib.Core.Path.{_≡_, refl, sym, ap, _∙_}
 use mathlib.Core.List.{List}

@@ -1,5 +1,5 @@
--- `survey::counts::more_columns` meets its contract. The invariant: what is left of `most` and the columns of all codes are `most` and the columns of the codes left.
--- The measure is the codes left. Assumes nothing.
+-- `survey::counts::more_columns` meets its contract.
+-- The invariant: what is left of `most` and the columns of all codes are `most` and the columns of the codes left. The measure is the codes left. Assumes nothing.
 use Prim.Native.Nat.{ℕ, _+_, _-_, _≤_, _<_}
 use mathlib.Core.Path.{_≡_, refl, sym}
 use mathlib.Core.List.{List}

@@ -1,4 +1,5 @@
--- `survey::refusals::has_bad_code` meets its contract. The invariant: whether a code is bad is whether one from place i on is. The measure is the codes left. Assumes nothing.
+-- `survey::refusals::has_bad_code` meets its contract. The invariant: whether a code is bad is whether one from place i on is.
+-- The measure is the codes left. Assumes nothing.
 use Prim.Native.Nat.{ℕ, _+_, _-_, _≤_, _<_}
 use mathlib.Core.Path.{_≡_, refl, sym, ap, _∙_}
 use mathlib.Core.Bool.{Bool, true, false, _||_}
