@@ -1,5 +1,5 @@
 -- What a survey that no rule turns away has, as the calls that take it use it. Assumes nothing.
-use Prim.Native.Nat.{ℕ, _^_, _≤_, _<_}
+use Prim.Native.Nat.{_^_, _≤_, _<_}
 use native.Mathlib.Omega.{arith}
 use mathlib.Core.Path.{_≡_, refl}
 use Rattle.error.specs.Tests.{firstOf}

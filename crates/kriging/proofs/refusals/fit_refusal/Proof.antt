@@ -1,4 +1,5 @@
--- `kriging::refusals::fit_refusal` meets its contract: past the survey's refusals the columns counted are p itself, and the areas are held to it. Assumes nothing.
+-- `kriging::refusals::fit_refusal` meets its contract.
+-- Past the survey's refusals the columns counted are p itself, and the areas are held to it. Assumes nothing.
 use Prim.Native.Nat.{ℕ, _+_, _*_, _^_, _<_}
 use native.Mathlib.Omega.{arith}
 use mathlib.Core.Path.{_≡_, refl, sym, ap, _∙_}
