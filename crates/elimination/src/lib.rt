@@ -56,8 +56,8 @@ fn eliminate(work: &mut [f64], size: usize, skip: bool) -> Elimination
     Elimination::Done
 }
 
-// Whether `len` numbers are fewer than 2 * size * size, which need not fit a word: by division.
-fn too_short(len: usize, size: usize) -> bool
+// 17: whether `len` numbers are fewer than 2 * size * size, which need not fit a word: by division.
+pub fn too_short(len: usize, size: usize) -> bool
     ensures { λ r. ⌜ r ≡ ltb len (2 * size * size) ⌝ }
 {
     if size == 0 {

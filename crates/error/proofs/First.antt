@@ -10,7 +10,9 @@ use lib.Ieee.Fits.{and-l, and-r}
 use Rattle.error.specs.declared.Judgement.{Judgement}
 use Rattle.error.specs.declared.Judgement.the-variants.{Accepted, Refused}
 use Rattle.error.specs.declared.Refusal.{Refusal}
-use Rattle.error.specs.declared.Refusal.the-variants.{CoordinatesLength, NodesLength, NoBasis, BasisCode, Regularization, ExternalLength, TooFewWells, NodeExternalLength, TooMany, Tolerance, NotFinite, Model, Dimension, TooFewSamples, Bins, SurveyFile, WorkArea, AnswerArea, Singular}
+use Rattle.error.specs.declared.Refusal.the-variants.{CoordinatesLength, NodesLength, NoBasis, BasisCode, Regularization, ExternalLength}
+use Rattle.error.specs.declared.Refusal.the-variants.{TooFewWells, NodeExternalLength, TooMany, Tolerance, NotFinite, Model}
+use Rattle.error.specs.declared.Refusal.the-variants.{Dimension, TooFewSamples, Bins, SurveyFile, WorkArea, AnswerArea, Singular}
 use Rattle.error.specs.Numbers.{numberOf, judged}
 use Rattle.error.specs.Tests.{Test, test, firstOf}
 

@@ -1,4 +1,4 @@
-pub mod Refusals
+pub mod Endings
 pub mod Exit
 pub mod Trend
 pub mod SystemDrift

@@ -16,7 +16,7 @@ use Rattle.kriging.specs.Assembly.{entry, assembled}
 use Rattle.kriging.specs.Node.{rightHand, zOf, Node, solutionOf, nodeWith, nodeOf}
 use Rattle.kriging.specs.Fit.{worked, fitted}
 use Rattle.kriging.specs.Alike.{SameWells, SameNode, SameAnswer}
-use Rattle.kriging.proofs.Refusals.{work-long}
+use Rattle.kriging.proofs.Endings.{work-long}
 use Rattle.kriging.proofs.Nodes.{node-alone, size-same, assembled-same}
 use Rattle.kriging.proofs.Exit.{figure-at, variance-at, verdict-at, weight-at}
 

@@ -15,7 +15,7 @@ use Rattle.kriging.specs.Areas.{Areas}
 use Rattle.kriging.specs.Node.{auditOf, solutionOf, nodeWith, nodeOf}
 use Rattle.kriging.specs.Fit.{worked, fitted}
 use Rattle.kriging.specs.Trend.{TrendKept, atExit, verdictAtExit}
-use Rattle.kriging.proofs.Refusals.{few-columns, finite-tolerance, finite-values}
+use Rattle.kriging.proofs.Endings.{few-columns, finite-tolerance, finite-values}
 use Rattle.kriging.proofs.Exit.{figure-at, verdict-at, weight-at}
 
 module _ (limits : Limits) (s : Survey) (a : Areas) where

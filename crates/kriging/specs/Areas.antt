@@ -12,6 +12,17 @@ pub record Areas : Type 0 where
   pub weights : List Float
   pub coefficients : List Float
 
+-- these areas
+abbrev pub areasOf : List Float → List Float → List Float → List ℕ → List Float → List Float → Areas
+areasOf work predicted variance verdicts weights coefficients = record {
+  work = work;
+  predicted = predicted;
+  variance = variance;
+  verdicts = verdicts;
+  weights = weights;
+  coefficients = coefficients;
+}
+
 -- the same areas with another work area
 abbrev pub withWork : Areas → List Float → Areas
 withWork a work = record {

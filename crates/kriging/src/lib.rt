@@ -1,4 +1,6 @@
 // Universal kriging with external drift: the answer of a fit. What the fit answers is defined in specs/.
+mod refusals; // refusals.rt: 1 to 12, 17, 18
+
 use error::Refusal;
 
 mod drift; // drift.rt: the drift columns at the wells and at a node

@@ -1,12 +1,12 @@
 -- Laws of the counts that basis codes give, as a pass over the codes uses them. Assumes nothing.
-use Prim.Native.Nat.{ℕ, suc, _+_, _*_, _/_, _%_, _^_, _≤_, _<_, min}
+use Prim.Native.Nat.{ℕ, _+_, _*_, _/_, _%_, _^_, _≤_, _<_}
 use native.Mathlib.Nat.{min-eq-left, min-eq-right, div-add-mod', mul-div-cancel, mul-mod-left}
 use native.Mathlib.Numerals.{add-one}
 use native.Mathlib.Decide.{ℕ-discrete, decLt}
 use native.Mathlib.Omega.{arith}
-use mathlib.Core.Path.{_≡_, refl, sym, ap, _∙_}
+use mathlib.Core.Path.{_≡_, sym, ap, _∙_}
 use mathlib.Core.Bool.{Bool, true, false, cond, _||_}
-use mathlib.Core.List.{List, [], _∷_}
+use mathlib.Core.List.{List, _∷_}
 use borrow.Author.Tests.{lt-ltb, le-ltb, eq-eqb, ne-eqb}
 use lib.Dec.{eqb, ltb}
 use lib.ListN.{length, getD, drop, drop-of-length-le}
@@ -51,7 +51,8 @@ columns-next cs i l = ap columnSum (from-next cs i l)
 pub columns-end : (cs : List ℕ) (i : ℕ) → length cs ≤ i → columnSum (drop i cs) ≡ 0
 columns-end cs i l = ap columnSum (drop-of-length-le cs l)
 
-pub externals-next : (cs : List ℕ) (i : ℕ) → i < length cs → externalCount (drop i cs) ≡ cond (eqb (getD cs i 0) 4) 1 0 + externalCount (drop (i + 1) cs)
+pub externals-next : (cs : List ℕ) (i : ℕ) → i < length cs
+    → externalCount (drop i cs) ≡ cond (eqb (getD cs i 0) 4) 1 0 + externalCount (drop (i + 1) cs)
 externals-next cs i l = ap externalCount (from-next cs i l)
 
 pub externals-end : (cs : List ℕ) (i : ℕ) → length cs ≤ i → externalCount (drop i cs) ≡ 0
@@ -78,14 +79,6 @@ held-tells cs n l =
       | no b ↦
           let m : 2 ^ 60 ≤ columnSum cs = omega arith in
           ap (ltb n) (held-most cs m) ∙ lt-ltb n (2 ^ 60) l ∙ sym (lt-ltb n (columnSum cs) (omega arith))
-    ]
-
--- and a p that does not pass the wells is p itself
-pub held-is : (cs : List ℕ) (n : ℕ) → n < 2 ^ 60 → columnsHeld cs ≤ n → columnsHeld cs ≡ columnSum cs
-held-is cs n l h =
-    elim (decLt (columnSum cs) (2 ^ 60)) [
-      | yes b ↦ held-exact cs b
-      | no b ↦ let m : 2 ^ 60 ≤ columnSum cs = omega arith in let e = held-most cs m in absurd (omega arith)
     ]
 
 -- ---- a product by division

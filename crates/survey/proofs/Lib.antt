@@ -1,3 +1,4 @@
 pub mod Told
 pub mod Places
 pub mod Codes
+pub mod Accepted

@@ -34,7 +34,8 @@ pub fn drift_columns(bases: &[u8]) -> usize
     p
 }
 
-// Whether the codes give more columns than `most`. What is left of `most` is counted down, so that p itself need not fit a word, and no code is read past it.
+// Whether the codes give more columns than `most`. What is left of `most` is counted down: p itself need not fit a word, and the rest of the codes is not read
+// once it is passed.
 pub fn more_columns(bases: &[u8], most: usize) -> bool
     ensures { λ r. ⌜ r ≡ ltb most (columnSum (now (bases .entry))) ⌝ }
 {

@@ -1,4 +1,5 @@
-// What turns a survey away, 1 to 12, in the parts that calls join. How many nodes there are, m, and their externals stand apart from the survey's own lists.
+// What turns a survey away, 1 to 12, in the parts that calls join.
+// How many nodes there are, m, and their externals stand apart from the survey's own lists.
 use crate::Limits;
 use crate::UniversalKrigingOptions;
 use crate::counts::external_columns;
@@ -13,7 +14,8 @@ ghost use lib.Ieee.{Float};
 ghost use Rattle.error.specs.Numbers.{judged};
 ghost use Rattle.error.specs.Tests.{any, firstOf};
 ghost use Rattle.survey.specs.Survey.{Survey, surveyOf, wells};
-ghost use Rattle.survey.specs.Refusals.{badCode, badAmount, variogramNotFinite, numberNotFinite, listTests, limitTests, numberTests, modelTests, surveyRefusal};
+ghost use Rattle.survey.specs.Refusals.{badCode, badAmount, variogramNotFinite, numberNotFinite};
+ghost use Rattle.survey.specs.Refusals.{listTests, limitTests, numberTests, modelTests, surveyRefusal};
 
 // 4: whether a code is outside 1 to 4.
 fn has_bad_code(bases: &[u8]) -> bool
@@ -50,7 +52,8 @@ pub fn list_refusal(
     options: UniversalKrigingOptions,
 ) -> Judgement
     ensures { λ r. ⌜ ((t : Float) → judged r ≡ firstOf (listTests
-        (surveyOf (now (values .entry)) (now (coords .entry)) (now (bases .entry)) (now (external .entry)) (now (nodes .entry)) (now («node_external» .entry)) options t)
+        (surveyOf (now (values .entry)) (now (coords .entry)) (now (bases .entry)) (now (external .entry))
+        (now (nodes .entry)) (now («node_external» .entry)) options t)
         m (now («node_external» .entry)))) ⌝ }
 {
     let n = values.len();
@@ -122,7 +125,8 @@ fn number_not_finite(
     options: UniversalKrigingOptions,
 ) -> bool
     ensures { λ r. ⌜ ((t : Float) → r ≡ numberNotFinite
-        (surveyOf (now (values .entry)) (now (coords .entry)) (now (bases .entry)) (now (external .entry)) (now (nodes .entry)) (now («node_external» .entry)) options t)
+        (surveyOf (now (values .entry)) (now (coords .entry)) (now (bases .entry)) (now (external .entry))
+        (now (nodes .entry)) (now («node_external» .entry)) options t)
         (now («node_external» .entry))) ⌝ }
 {
     if variogram_not_finite(options.variogram) {
@@ -155,7 +159,8 @@ pub fn number_refusal(
     tolerance: f64,
 ) -> Judgement
     ensures { λ r. ⌜ judged r ≡ firstOf (numberTests
-        (surveyOf (now (values .entry)) (now (coords .entry)) (now (bases .entry)) (now (external .entry)) (now (nodes .entry)) (now («node_external» .entry)) options tolerance)
+        (surveyOf (now (values .entry)) (now (coords .entry)) (now (bases .entry)) (now (external .entry))
+        (now (nodes .entry)) (now («node_external» .entry)) options tolerance)
         (now («node_external» .entry))) ⌝ }
 {
     if bad_amount(tolerance) {
@@ -201,7 +206,8 @@ pub fn survey_refusal(
     tolerance: f64,
 ) -> Judgement
     ensures { λ r. ⌜ judged r ≡ surveyRefusal limits
-        (surveyOf (now (values .entry)) (now (coords .entry)) (now (bases .entry)) (now (external .entry)) (now (nodes .entry)) (now («node_external» .entry)) options tolerance) ⌝ }
+        (surveyOf (now (values .entry)) (now (coords .entry)) (now (bases .entry)) (now (external .entry))
+        (now (nodes .entry)) (now («node_external» .entry)) options tolerance) ⌝ }
 {
     let m = nodes.len() / 2;
     let lists = list_refusal(

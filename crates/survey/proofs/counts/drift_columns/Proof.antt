@@ -1,12 +1,13 @@
--- `survey::counts::drift_columns` meets its contract. The invariant: the columns counted and those of the codes left are p. The measure is the codes left. Assumes nothing.
+-- `survey::counts::drift_columns` meets its contract. The invariant: the columns counted and those of the codes left are p.
+-- The measure is the codes left. Assumes nothing.
 use Prim.Native.Nat.{ℕ, _+_, _-_, _^_, _≤_, _<_}
-use mathlib.Core.Path.{_≡_, refl, sym, ap, _∙_}
+use mathlib.Core.Path.{_≡_, refl, sym, _∙_}
 use mathlib.Core.List.{List}
 use native.Mathlib.Omega.{arith}
 use native.Mathlib.Nat.{zero-add}
 use borrow.Author.Needs.{needs}
 use lib.ListN.{length, getD, drop}
-use Rattle.survey.specs.Survey.{codeColumns, columnSum}
+use Rattle.survey.specs.Survey.{columnSum}
 use Rattle.survey.proofs.Codes.{code-few, columns-next, columns-end, held-most, held-exact}
 use Rattle.survey.proofs.counts.drift_columns.Statement.{statement}
 use Rattle.survey.proofs.counts.drift_columns.Tie as tie

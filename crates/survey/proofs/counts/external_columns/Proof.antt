@@ -1,12 +1,12 @@
--- `survey::counts::external_columns` meets its contract. The invariant: the codes 4 counted and those of the codes left are k. The measure is the codes left. Assumes nothing.
+-- `survey::counts::external_columns` meets its contract. The invariant: the codes 4 counted and those of the codes left are k.
+-- The measure is the codes left. Assumes nothing.
 use Prim.Native.Nat.{ℕ, _+_, _-_, _≤_, _<_}
-use mathlib.Core.Path.{_≡_, refl, sym, ap, _∙_}
+use mathlib.Core.Path.{_≡_, refl}
 use mathlib.Core.Bool.{Bool, true, false, cond}
 use mathlib.Core.List.{List}
 use mathlib.Core.Logic.{⊎-elim}
 use native.Mathlib.Omega.{arith}
 use native.Mathlib.Nat.{zero-add}
-use borrow.Author.Needs.{needs}
 use borrow.Author.Tests.{eq-eqb, ne-eqb}
 use lib.Dec.{eqb}
 use lib.ListN.{length, getD, drop}

@@ -1,5 +1,4 @@
 -- `survey::counts::is_product` meets its contract: the quotient is k where nothing is left over. Assumes nothing.
-use Prim.Native.Nat.{ℕ, _*_}
 use native.Mathlib.Nat.{mul-zero}
 use native.Mathlib.Omega.{arith}
 use mathlib.Core.Path.{_≡_, sym}

@@ -1,4 +1,5 @@
--- `survey::counts::more_columns` meets its contract. The invariant: what is left of `most` and the columns of all codes are `most` and the columns of the codes left.
+-- `survey::counts::more_columns` meets its contract.
+-- The invariant: what is left of `most` and the columns of all codes are `most` and the columns of the codes left.
 -- The measure is the codes left. Assumes nothing.
 use Prim.Native.Nat.{ℕ, _+_, _-_, _≤_, _<_}
 use mathlib.Core.Path.{_≡_, refl, sym}
@@ -6,7 +7,7 @@ use mathlib.Core.List.{List}
 use native.Mathlib.Omega.{arith}
 use borrow.Author.Needs.{needs}
 use borrow.Author.Tests.{lt-ltb, le-ltb}
-use lib.ListN.{length, getD, drop}
+use lib.ListN.{length, drop}
 use Rattle.survey.specs.Survey.{columnSum}
 use Rattle.survey.proofs.Codes.{columns-next, columns-end}
 use Rattle.survey.proofs.counts.more_columns.Statement.{statement}

@@ -1,11 +1,10 @@
--- `survey::refusals::has_bad_code` meets its contract. The invariant: whether a code is bad is whether one from place i on is. The measure is the codes left. Assumes nothing.
-use Prim.Native.Nat.{ℕ, _+_, _-_, _≤_, _<_}
-use mathlib.Core.Path.{_≡_, refl, sym, ap, _∙_}
-use mathlib.Core.Bool.{Bool, true, false, _||_}
+-- `survey::refusals::has_bad_code` meets its contract. The invariant: whether a code is bad is whether one from place i on is.
+-- The measure is the codes left. Assumes nothing.
+use Prim.Native.Nat.{ℕ, _+_, _-_, _≤_}
+use mathlib.Core.Path.{_≡_, refl, sym, _∙_}
+use mathlib.Core.Bool.{_||_}
 use mathlib.Core.List.{List}
 use native.Mathlib.Omega.{arith}
-use borrow.Author.Needs.{needs}
-use borrow.Author.Tests.{lt-ltb, le-ltb}
 use lib.ListN.{length, getD, drop}
 use Rattle.error.specs.Tests.{any}
 use Rattle.survey.specs.Refusals.{badCode}

@@ -2,18 +2,17 @@
 use Prim.Native.Nat.{ℕ, _*_, _<_, _≤_}
 use mathlib.Core.Path.{_≡_, sym, ap, _∙_}
 use mathlib.Core.Logic.{⊎-elim}
-use mathlib.Core.Bool.{Bool, true, false, not, _&&_}
+use mathlib.Core.Bool.{Bool, true, false, not}
 use mathlib.Core.List.{List}
-use native.Mathlib.Omega.{arith}
 use borrow.Author.Needs.{needs}
 use borrow.Author.Tests.{eq-eqb, ne-eqb, lt-ltb, le-ltb}
 use lib.Dec.{eqb, ltb}
 use lib.Ieee.{Float}
 use lib.ListN.{length, drop}
-use Rattle.error.specs.Tests.{Test, any, firstOf}
+use Rattle.error.specs.Tests.{Test, firstOf}
 use Rattle.error.proofs.First.{here, past, none, also, not-even}
 use Rattle.survey.specs.Survey.{Survey, surveyOf, externalCount}
-use Rattle.survey.specs.Refusals.{differ, wrongExternal, wrongNodeExternal, listTests}
+use Rattle.survey.specs.Refusals.{differ, wrongExternal, listTests}
 use Rattle.survey.proofs.refusals.list_refusal.Statement.{statement}
 use Rattle.survey.proofs.refusals.list_refusal.Tie as tie
 

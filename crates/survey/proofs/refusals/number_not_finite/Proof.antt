@@ -1,14 +1,13 @@
 -- `survey::refusals::number_not_finite` meets its contract: the lists of the code are those of the test, one after another. Assumes nothing.
-use Prim.Native.Nat.{ℕ, _<_, _≤_}
 use mathlib.Core.Path.{_≡_, refl, sym, ap, _∙_}
-use mathlib.Core.Bool.{Bool, true, false, not, _||_, _&&_}
+use mathlib.Core.Bool.{Bool, not, _||_, _&&_}
 use borrow.Author.Needs.{needs}
 use borrow.Author.Tests.{lt-ltb, le-ltb}
 use lib.Dec.{ltb}
 use lib.Ieee.{Float}
 use Rattle.ieee.specs.Finite.{allFinite}
 use Rattle.error.proofs.First.{one, other, also, not-even}
-use Rattle.survey.specs.Survey.{Survey, surveyOf, externalCount}
+use Rattle.survey.specs.Survey.{surveyOf, externalCount}
 use Rattle.survey.specs.Refusals.{variogramNotFinite, numberNotFinite}
 use Rattle.survey.proofs.refusals.number_not_finite.Statement.{statement}
 use Rattle.survey.proofs.refusals.number_not_finite.Tie as tie

@@ -1,9 +1,8 @@
 -- `survey::refusals::survey_refusal` meets its contract: the first part that refuses gives the number of the whole. Assumes nothing.
-use Prim.Native.Nat.{ℕ, _/_}
+use Prim.Native.Nat.{ℕ}
 use mathlib.Core.Path.{_≡_, refl, sym, _∙_}
 use mathlib.Core.List.{List, _++_}
 use borrow.Author.Needs.{needs}
-use lib.ListN.{length}
 use Rattle.error.specs.Tests.{Test, firstOf}
 use Rattle.error.proofs.First.{refused, accepted}
 use Rattle.survey.specs.Survey.{Survey, surveyOf, nodeCount}

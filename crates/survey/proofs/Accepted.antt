@@ -1,0 +1,29 @@
+-- What a survey that no rule turns away has, as the calls that take it use it. Assumes nothing.
+use Prim.Native.Nat.{_^_, _≤_, _<_}
+use native.Mathlib.Omega.{arith}
+use mathlib.Core.Path.{_≡_, refl}
+use Rattle.error.specs.Tests.{firstOf}
+use Rattle.error.proofs.Rules.{none-exactly, no-condition}
+use Rattle.survey.specs.declared.Limits.{Limits}
+use Rattle.survey.specs.Survey.{Survey, wells, nodeCount, columns, columnsHeld}
+use Rattle.survey.specs.Rules.{surveyRules}
+use Rattle.survey.specs.Refusals.{surveyTests, surveyRefusal}
+use Rattle.survey.proofs.Told.{survey-told}
+use Rattle.survey.proofs.Codes.{held-exact}
+
+-- the number is that of its tests
+pub survey-first : (limits : Limits) (s : Survey) → surveyRefusal limits s ≡ firstOf (surveyTests limits s (nodeCount s) (s .nodeExternal))
+unfolding surveyRefusal
+survey-first limits s = refl
+
+-- 7 does not apply: there are no more columns than wells
+pub enough-wells : (limits : Limits) (s : Survey) → surveyRefusal limits s ≡ 0 → columns s ≤ wells s
+unfolding surveyRefusal
+enough-wells limits s e =
+    let none = none-exactly (survey-told limits s (nodeCount s) (s .nodeExternal)) tt .0 e in
+    let h : ¬ (wells s < columns s) = no-condition (surveyRules limits s (nodeCount s) (s .nodeExternal)) none 7 in
+    omega arith
+
+-- so the count that a word holds is p itself
+pub counted-exactly : (limits : Limits) (s : Survey) → surveyRefusal limits s ≡ 0 → wells s < 2 ^ 60 → columnsHeld (s .bases) ≡ columns s
+counted-exactly limits s e l = let h = enough-wells limits s e in held-exact (s .bases) (omega arith)
