@@ -6,3 +6,4 @@ pub mod Same
 pub mod Row
 pub mod Scan
 pub mod Listed
+pub mod Bounds

@@ -144,6 +144,7 @@ pub fn krige_node(
         × (2 * (length (now values) + p) * (length (now values) + p) ≤ length (now work))
         × («finite_drift» ≡ driftFinite (length (now values)) p (entryIn (now drift) p)) ⌝ }
     ensures places { λ r. ⌜ length (r .z) ≡ 60 ⌝ }
+    ensures byte { λ r. ⌜ r .verdict < 256 ⌝ }
     ensures node { λ r. ⌜ ((external : List Float)
         → let s = surveyOf (now (values .entry)) (now (coords .entry)) (now (bases .entry)) external
         (now (nodes .entry)) (now («node_external» .entry)) options tolerance in

@@ -4,11 +4,12 @@ use mathlib.Core.Path.{_≡_, refl, ap, sym, _∙_, subst}
 use mathlib.Core.List.{List, []}
 use native.Mathlib.Omega.{arith}
 use borrow.Author.Needs.{needs}
-use lib.ListN.{length, getD, take, drop}
+use lib.ListN.{length, getD, take, drop, length-drop}
 use lib.Seq.{length-take-le, take-add, drop-at}
 use lib.Ieee.{Float, nan}
 use Rattle.audit.specs.Audit.{verdictWith}
 use Rattle.audit.specs.Lists.{weighedIn, auditedIn}
+use Rattle.audit.proofs.Bounds.{columns-bound, verdict-bound}
 use Rattle.survey.specs.Survey.{Survey, surveyOf, wells, nodeX, nodeY}
 use Rattle.kriging.specs.Drift.{driftRow}
 use Rattle.kriging.specs.Node.{gammaTo, rightHandOf, rightHand}
@@ -109,7 +110,44 @@ part-audit-figure-end c = search needs
 audit-figure-requires : tie.Need-audit-figure-requires
 audit-figure-requires c κs = search needs
 
--- src/node.rt:126:1
+-- the number of wells, and f0 as it lies in b
+abbrev wells-of : tie.After-solve-node → ℕ
+wells-of v = length (at-entry (at-right (at-b v)) .args .values .now)
+
+abbrev f0-of : tie.After-solve-node → List Float
+f0-of v = let r = at-right (at-b v) in drop (wells-of v) (take (size-of (at-entry r)) (r .fill-right-hand .last .1 .1 .1 .1 .1 .1 .1 .1 .0))
+
+f0-length : (v : tie.After-solve-node) → length (f0-of v) ≤ 60
+f0-length v =
+    let r = at-right (at-b v) in
+    omega (arith, length-drop (wells-of v) (take (size-of (at-entry r)) (r .fill-right-hand .last .1 .1 .1 .1 .1 .1 .1 .1 .0)), b-length (at-b v), at-entry r .pre .3)
+
+-- the verdict, as the last call answers it
+audited : (c : tie.After-audit-figure) → let v = at-solved (c .before .before .before) in
+    let a = at-entry (at-right (at-b v)) .args in
+    c .audit-figure .result
+    ≡ verdictWith (v .solve-node .result .columns)
+      (auditedIn (weighedIn (take (wells-of v) (v .solve-node .result .z)) [] (f0-of v) (a .tolerance)) (a .values .now) (c .before .before .before .before .weighted-sum .result))
+audited c =
+    let v = at-solved (c .before .before .before) in
+    let r = at-right (at-b v) in
+    let a = at-entry r .args in
+    c .audit-figure .ensures
+    ∙ ap
+    (λ (f0 : List Float). verdictWith (v .solve-node .result .columns)
+      (auditedIn (weighedIn (take (wells-of v) (v .solve-node .result .z)) [] f0 (a .tolerance)) (a .values .now) (c .before .before .before .before .weighted-sum .result)))
+    (part-is (wells-of v) (a .p) (r .fill-right-hand .last .1 .1 .1 .1 .1 .1 .1 .1 .0)
+      (omega (arith, r .fill-right-hand .kept .1 .1 .1 .1 .1 .1 .1 .1 .0, at-entry r .pre .3)))
+
+-- it fits a byte
+byte : (c : tie.After-audit-figure) → c .audit-figure .result ≤ 255
+byte c =
+    let v = at-solved (c .before .before .before) in
+    let few = f0-length v in
+    let columns : v .solve-node .result .columns ≤ 255 = subst (λ (k : ℕ). k ≤ 255) (sym (v .solve-node .ensures .1 .1 .1)) (columns-bound _ _ (omega (arith, few))) in
+    subst (λ (k : ℕ). k ≤ 255) (sym (audited c)) (verdict-bound _ _ columns (omega (arith, few)))
+
+-- Node { .. }
 returns : tie.Need-returns
 unfolding rightHand
 returns c =
@@ -119,26 +157,25 @@ returns c =
     let pre = at-entry r .pre in
     let bs = r .fill-right-hand .last .1 .1 .1 .1 .1 .1 .1 .1 .0 in (
       v .solve-node .ensures .0,
-      λ external hF.
-          let s : Survey = surveyOf (a .values .now) (a .coords .now) (a .bases .now) external (a .nodes .now) (a .node-external .now) (a .options) (a .tolerance) in
-          node-is s (a .work .now) (a .q) (take (size-of (at-entry r)) bs) (v .solve-node .result .z) (a .drift .now) (a .finite-drift) _ _ _ _ hF (pre .1) (record {
-            long = omega (arith, v .solve-node .ensures .0, pre .3);
-            right =
-                ap (λ (p : ℕ). take (length (a .values .now) + p) bs) (sym (pre .1))
-                ∙ r .fill-right-hand .ensures
-                ∙ ap (λ (k : ℕ). rightHandOf (wells s) (gammaTo (a .options .variogram) (a .coords .now) (nodeX s (a .q)) (nodeY s (a .q)))
-                (driftRow (a .bases .now) (nodeX s (a .q)) (nodeY s (a .q)) (λ c. getD (a .node-external .now) (a .q * k + c) nan) 0)) (sym (pre .2));
-            z-of = v .solve-node .ensures .1 .0;
-            variance-of = v .solve-node .ensures .1 .1 .0;
-            columns-of = v .solve-node .ensures .1 .1 .1;
-            figure-of = c .before .before .before .before .weighted-sum .ensures;
-            verdict-of =
-                c .audit-figure .ensures
-                ∙ ap
-                (λ (f0 : List Float). verdictWith (v .solve-node .result .columns) (auditedIn (weighedIn (take (length (a .values .now)) (v .solve-node .result .z)) [] f0 (a .tolerance)) (a .values .now) (c .before .before .before .before .weighted-sum .result)))
-                (part-is (length (a .values .now)) (a .p) bs (omega (arith, r .fill-right-hand .kept .1 .1 .1 .1 .1 .1 .1 .1 .0, pre .3)));
-            scanned = pre .7;
-          }),
+      (
+        omega (arith, byte c),
+        λ external hF.
+            let s : Survey = surveyOf (a .values .now) (a .coords .now) (a .bases .now) external (a .nodes .now) (a .node-external .now) (a .options) (a .tolerance) in
+            node-is s (a .work .now) (a .q) (take (size-of (at-entry r)) bs) (v .solve-node .result .z) (a .drift .now) (a .finite-drift) _ _ _ _ hF (pre .1) (record {
+              long = omega (arith, v .solve-node .ensures .0, pre .3);
+              right =
+                  ap (λ (p : ℕ). take (wells-of v + p) bs) (sym (pre .1))
+                  ∙ r .fill-right-hand .ensures
+                  ∙ ap (λ (k : ℕ). rightHandOf (wells s) (gammaTo (a .options .variogram) (a .coords .now) (nodeX s (a .q)) (nodeY s (a .q)))
+                  (driftRow (a .bases .now) (nodeX s (a .q)) (nodeY s (a .q)) (λ c. getD (a .node-external .now) (a .q * k + c) nan) 0)) (sym (pre .2));
+              z-of = v .solve-node .ensures .1 .0;
+              variance-of = v .solve-node .ensures .1 .1 .0;
+              columns-of = v .solve-node .ensures .1 .1 .1;
+              figure-of = c .before .before .before .before .weighted-sum .ensures;
+              verdict-of = audited c;
+              scanned = pre .7;
+            }),
+      ),
     )
 
 pub krige-node-spec : {M : Type 1} → statement M
