@@ -12,3 +12,4 @@ pub mod NodesAlone
 pub mod Values
 pub mod RightHand
 pub mod NodeParts
+pub mod Progress

@@ -1,0 +1,244 @@
+-- `kriging::answer::krige_nodes` meets its contract: after q turns the areas are what q nodes leave. Assumes nothing.
+use Prim.Native.Nat.{ℕ, _≤_, _<_, _*_, _/_, _+_, _-_}
+use mathlib.Core.Path.{_≡_, refl, ap, sym, _∙_, subst}
+use mathlib.Core.List.{List}
+use native.Mathlib.Nat.{mul-comm}
+use native.Mathlib.Omega.{arith}
+use borrow.Author.Needs.{needs}
+use lib.ListN.{length, length-set, getD, take}
+use lib.Seq.{length-take-le}
+use Rattle.area.proofs.Rows.{row-end}
+use lib.Ieee.{Float, nan}
+use Rattle.audit.specs.Audit.{driftFinite}
+use Rattle.audit.specs.Lists.{entryIn}
+use Rattle.survey.specs.Survey.{Survey, surveyOf, columnSum, externalCount}
+use Rattle.kriging.specs.Areas.{areasOf}
+use Rattle.kriging.specs.Drift.{DriftIn}
+use Rattle.kriging.specs.Node.{nodeOf}
+use Rattle.kriging.proofs.Progress.{Progress, none-yet, one-more, all-nodes}
+use Rattle.kriging.proofs.answer.krige_nodes.Statement.{statement}
+use Rattle.kriging.proofs.answer.krige_nodes.Tie as tie
+
+abbrev Inv-loop : tie.InvT-loop
+Inv-loop values coords bases options nodes node-external tolerance drift p work predicted₀ variance₀ verdicts₀ weights₀ coefficients₀ n size k finite-drift q₀ q-end predicted variance verdicts weights coefficients q =
+    (q ≤ q-end) × (q-end ≡ length nodes / 2) × (n ≡ length values) × (size ≡ n + p) × (k ≡ externalCount bases)
+    × (finite-drift ≡ driftFinite n p (entryIn drift p))
+    × (length predicted ≡ length predicted₀) × (length variance ≡ length variance₀) × (length verdicts ≡ length verdicts₀)
+    × (length weights ≡ length weights₀) × (length coefficients ≡ length coefficients₀)
+    × ((external : List Float) → let s = surveyOf values coords bases external nodes node-external options tolerance in
+    DriftIn s drift → Progress s (areasOf work predicted₀ variance₀ verdicts₀ weights₀ coefficients₀) (nodeOf s work) q (areasOf work predicted variance verdicts weights coefficients))
+
+abbrev μ-loop : tie.MeasureT-loop
+μ-loop values coords bases options nodes node-external tolerance drift p work predicted₀ variance₀ verdicts₀ weights₀ coefficients₀ n size k finite-drift q₀ q-end predicted variance verdicts weights coefficients q = q-end - q
+
+abbrev State : (tie.InvT-loop → tie.MeasureT-loop → Type 0) → Type 0
+State S = S Inv-loop μ-loop
+
+-- The states that the needs look back to, in the order of the code: a name takes a later state back to its own.
+abbrev at-columns : State tie.After-external-columns → State tie.Start
+at-columns c = c .before .before .before .before .before .before .before .before .before .before .before .before .before
+
+abbrev at-zeros : State tie.At-loop → State tie.After-store-zeros
+at-zeros c = c .before .before .before
+
+abbrev at-entry : State tie.At-loop → State tie.Start
+at-entry c = at-columns (at-zeros c .before .before .before)
+
+abbrev at-node : State tie.After-store → State tie.After-krige-node
+at-node c = c .before .before .before .before .before
+
+abbrev loop-of : State tie.After-krige-node → State tie.At-loop
+loop-of c = c .before .before
+
+-- a row of so many of a list's numbers lies inside
+row-inside : (w q m len : ℕ) → q < m → w * m ≤ len → q * w + w ≤ len
+row-inside w q m len h k = omega (arith, row-end w q m h, mul-comm w m)
+
+-- a node's number is below the nodes'
+below : (c : State tie.In-loop) → c .before .loop .q < length (at-entry (c .before) .args .nodes .now) / 2
+below c = omega (arith, c .before .loop .inv .1)
+
+-- src/answer.rt:71:16
+add-size : tie.Need-add-size Inv-loop μ-loop
+add-size c = omega arith
+
+-- src/answer.rt:72:9
+external-columns-requires : tie.Need-external-columns-requires Inv-loop μ-loop
+external-columns-requires c κs = search needs
+
+-- src/answer.rt:73:9
+drift-finite-requires : tie.Need-drift-finite-requires Inv-loop μ-loop
+drift-finite-requires c κs = search needs
+
+-- src/answer.rt:74:5
+store-zeros-requires : tie.Need-store-zeros-requires Inv-loop μ-loop
+store-zeros-requires c κs = at-columns (c .before .before) .pre .9
+
+-- src/answer.rt:75:5
+loop-holds : tie.Need-loop-holds Inv-loop μ-loop
+loop-holds c = (omega arith, refl, refl, refl, c .before .before .before .before .before .external-columns .ensures, c .before .before .before .before .drift-finite .ensures, refl, refl, refl, refl, refl, λ external hF. none-yet _ _ _ (at-columns (c .before .before .before .before .before) .pre .1) _ (c .before .before .store-zeros .ensures))
+
+-- src/answer.rt:76:13
+krige-node-requires : tie.Need-krige-node-requires Inv-loop μ-loop
+krige-node-requires c κs = 
+    let l = c .before in
+    let pre = at-entry l .pre in
+    let v = l .loop .inv in
+    (
+      pre .0,
+      pre .1,
+      sym (v .4),
+      pre .2,
+      omega (arith, below c),
+      subst (λ (k : ℕ). l .loop .q * k + k ≤ length (at-entry l .args .node-external .now)) (sym (v .4)) (row-inside _ (l .loop .q) _ _ (below c) (pre .3)),
+      pre .4,
+      v .5,
+    )
+
+-- src/answer.rt:91:9
+mul-predicted : tie.Need-mul-predicted Inv-loop μ-loop
+mul-predicted c = let l = c .before .before in omega (arith, below (c .before), at-entry l .pre .5, l .loop .inv .6, at-entry l .good .1 .1 .1 .1 .1 .1 .1 .1 .1 .1 .0 .1)
+
+-- src/answer.rt:91:9
+slice-write-predicted : tie.Need-slice-write-predicted Inv-loop μ-loop
+slice-write-predicted c = let l = c .before .before in omega (arith, below (c .before), at-entry l .pre .5, l .loop .inv .6)
+
+-- src/answer.rt:92:9
+mul-variance : tie.Need-mul-variance Inv-loop μ-loop
+mul-variance c = let l = c .before .before in omega (arith, below (c .before), at-entry l .pre .5, l .loop .inv .6, at-entry l .good .1 .1 .1 .1 .1 .1 .1 .1 .1 .1 .0 .1)
+
+-- src/answer.rt:92:9
+slice-write-variance : tie.Need-slice-write-variance Inv-loop μ-loop
+slice-write-variance c = let l = c .before .before in omega (arith, below (c .before), at-entry l .pre .6, l .loop .inv .7)
+
+-- src/answer.rt:93:23
+cast-verdicts : tie.Need-cast-verdicts Inv-loop μ-loop
+cast-verdicts c = record { fits = c .before .krige-node .ensures .1 .0 }
+
+-- src/answer.rt:93:9
+slice-write-verdicts : tie.Need-slice-write-verdicts Inv-loop μ-loop
+slice-write-verdicts c = let l = c .before .before .before in omega (arith, below (c .before .before), at-entry l .pre .7, l .loop .inv .8)
+
+-- z has its 60 places: the wells' lie inside, and there are n of them
+z-inside : (c : State tie.After-krige-node) → length (at-entry (loop-of c) .args .values .now) ≤ length (c .krige-node .result .z)
+z-inside c = omega (arith, c .krige-node .ensures .0, at-entry (loop-of c) .pre .2)
+
+z-first : (c : State tie.After-krige-node) → let n = length (at-entry (loop-of c) .args .values .now) in length (take n (c .krige-node .result .z)) ≡ n
+z-first c = length-take-le _ (c .krige-node .result .z) (z-inside c)
+
+-- the node's row of weights lies inside
+weights-inside : (c : State tie.After-krige-node) → let l = loop-of c in
+    let n = length (at-entry l .args .values .now) in
+    l .loop .q * n + n ≤ length (l .loop .weights)
+weights-inside c =
+    let l = loop-of c in
+    omega (arith, row-inside (length (at-entry l .args .values .now)) (l .loop .q) _ _ (below (c .before)) (at-entry l .pre .8), l .loop .inv .9)
+
+-- src/answer.rt:95:15
+array-share-prefix-z : tie.Need-array-share-prefix-z Inv-loop μ-loop
+array-share-prefix-z c = z-inside (c .before .before)
+
+-- src/answer.rt:95:15
+slice-aggregate-store : tie.Need-slice-aggregate-store Inv-loop μ-loop
+slice-aggregate-store c = sym (z-first (c .before .before .before))
+
+-- src/answer.rt:95:33
+mul-store : tie.Need-mul-store Inv-loop μ-loop
+mul-store c = let l = loop-of (c .before .before .before .before) in omega (arith, weights-inside (c .before .before .before .before), at-entry l .good .1 .1 .1 .1 .1 .1 .1 .1 .1 .1 .1 .1 .1 .0 .1)
+
+-- src/answer.rt:95:9
+store-requires : tie.Need-store-requires Inv-loop μ-loop
+store-requires c κs = omega (arith, weights-inside (c .before .before .before .before), z-first (c .before .before .before .before))
+
+-- src/answer.rt:96:15
+mul-store-2 : tie.Need-mul-store-2 Inv-loop μ-loop
+mul-store-2 c = omega arith
+
+-- src/answer.rt:96:15
+sub-store : tie.Need-sub-store Inv-loop μ-loop
+sub-store c = omega arith
+
+-- src/answer.rt:96:15
+part-store-start : tie.Need-part-store-start Inv-loop μ-loop
+part-store-start c = omega arith
+
+-- src/answer.rt:96:15
+part-store-end : tie.Need-part-store-end Inv-loop μ-loop
+part-store-end c = ?
+
+-- src/answer.rt:96:9
+store-requires-2 : tie.Need-store-requires-2 Inv-loop μ-loop
+store-requires-2 c κs = ?
+
+-- src/answer.rt:75:9
+add-q : tie.Need-add-q Inv-loop μ-loop
+add-q c = omega arith
+
+-- src/answer.rt:75:5
+loop-less : tie.Need-loop-less Inv-loop μ-loop
+loop-less c = omega arith
+
+-- src/answer.rt:75:5
+loop-again : tie.Need-loop-again Inv-loop μ-loop
+loop-again c = (omega arith, ?, ?, ?, ?, ?, ?, ?, ?, ?, ?, λ external hF. ?)
+
+-- src/answer.rt:38:1
+same-length : tie.Need-same-length Inv-loop μ-loop
+same-length c = search needs
+
+-- src/answer.rt:38:1
+same-length-2 : tie.Need-same-length-2 Inv-loop μ-loop
+same-length-2 c = search needs
+
+-- src/answer.rt:38:1
+same-length-3 : tie.Need-same-length-3 Inv-loop μ-loop
+same-length-3 c = search needs
+
+-- src/answer.rt:38:1
+same-length-4 : tie.Need-same-length-4 Inv-loop μ-loop
+same-length-4 c = search needs
+
+-- src/answer.rt:38:1
+same-length-5 : tie.Need-same-length-5 Inv-loop μ-loop
+same-length-5 c = search needs
+
+-- src/answer.rt:38:1
+returns : tie.Need-returns Inv-loop μ-loop
+returns c = λ external hF. ?
+
+pub krige-nodes-spec : {M : Type 1} → statement M
+krige-nodes-spec =
+    tie.close
+    (tie.spec
+    Inv-loop
+    μ-loop
+    add-size
+    external-columns-requires
+    drift-finite-requires
+    store-zeros-requires
+    loop-holds
+    krige-node-requires
+    mul-predicted
+    slice-write-predicted
+    mul-variance
+    slice-write-variance
+    cast-verdicts
+    slice-write-verdicts
+    array-share-prefix-z
+    slice-aggregate-store
+    mul-store
+    store-requires
+    mul-store-2
+    sub-store
+    part-store-start
+    part-store-end
+    store-requires-2
+    add-q
+    loop-less
+    loop-again
+    same-length
+    same-length-2
+    same-length-3
+    same-length-4
+    same-length-5
+    returns)
