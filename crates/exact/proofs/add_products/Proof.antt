@@ -49,7 +49,7 @@ inside j s h = omega arith
 first-inside : {k : ℕ} → k ≤ 63 → k < 67
 first-inside h = omega arith
 
-above-fits : {k : ℕ} (j : ℕ) → j ≤ 3 → k ≤ 63 → Fits w64 (k + j)
+above-fits : {k : ℕ} (j : ℕ) → j ≤ 2 → k ≤ 63 → Fits w64 (k + j)
 above-fits j s h = omega arith
 
 bytes-fit : {k : ℕ} → k < 67 → Fits w64 (k * 8)
@@ -155,7 +155,7 @@ array-write-total-3 c = inside 2 (lit≤ tt) (at-term c .term-of .ensures .1)
 
 -- let next = carried(total, place + 3, term.negative);
 add-carried : tie.Need-add-carried Inv-loop μ-loop
-add-carried c = above-fits 3 (lit≤ tt) (at-term (c .before .before) .term-of .ensures .1)
+add-carried c = omega arith
 
 carried-requires : tie.Need-carried-requires Inv-loop μ-loop
 carried-requires c κs = tt
