@@ -1,4 +1,1 @@
 pub mod Soundings
-pub mod FitCases
-pub mod InterpolationCases
-pub mod Cases

@@ -1,9 +1,12 @@
 -- `exact::add_products` meets its contract. The invariant: the words hold the sum and the first i products, and at is the place in f of the next.
 -- The measure is what is left of z. Assumes nothing.
-use Prim.Native.Nat.{ℕ, _+_, _-_, _*_, _≤_}
+use Prim.Native.Nat.{ℕ, _+_, _-_, _*_, _≤_, _<_}
 use mathlib.Core.Path.{_≡_, sym, ap, _∙_, subst}
 use native.Mathlib.Omega.{arith}
+use mir.Syntax.{w64}
+use mir.Val.{Fits}
 use lib.ListN.{length, getD}
+use lib.Dec.{lit≤}
 use lib.Ieee.{nan}
 use mathlib.Core.Logic.{inl, inr, ⊎-elim}
 use lib.IntN.{_*ℤ_, +ℤ-idr}
@@ -38,6 +41,19 @@ at-test c = c .before .before .before
 
 abbrev at-term : State tie.After-step-word3 → State tie.After-term-of
 at-term c = c .before .before .before
+
+-- The words of a product, at its place and the two above, are among the 67. Each fact is of the place alone, and not of all that the code knows by then.
+inside : {k : ℕ} (j : ℕ) → j ≤ 2 → k ≤ 63 → k + j < 67
+inside j s h = omega arith
+
+first-inside : {k : ℕ} → k ≤ 63 → k < 67
+first-inside h = omega arith
+
+above-fits : {k : ℕ} (j : ℕ) → j ≤ 2 → k ≤ 63 → Fits w64 (k + j)
+above-fits j s h = omega arith
+
+bytes-fit : {k : ℕ} → k < 67 → Fits w64 (k * 8)
+bytes-fit h = omega arith
 
 -- The needs, grouped below the lines of src/ that they are for.
 
@@ -76,66 +92,66 @@ term-of-requires c κs = tt
 
 -- let low = step_word(total[place], term.low, 0, term.negative);
 mul-step-word : tie.Need-mul-step-word Inv-loop μ-loop
-mul-step-word c = omega arith
+mul-step-word c = bytes-fit (first-inside (c .term-of .ensures .1))
 
 array-read-step-word : tie.Need-array-read-step-word Inv-loop μ-loop
-array-read-step-word c = omega arith
+array-read-step-word c = first-inside (c .term-of .ensures .1)
 
 step-word-requires : tie.Need-step-word-requires Inv-loop μ-loop
 step-word-requires c κs = omega arith
 
 -- total[place] = low.word;
 mul-total : tie.Need-mul-total Inv-loop μ-loop
-mul-total c = omega arith
+mul-total c = bytes-fit (first-inside (c .before .term-of .ensures .1))
 
 array-write-total : tie.Need-array-write-total Inv-loop μ-loop
-array-write-total c = omega arith
+array-write-total c = first-inside (c .before .term-of .ensures .1)
 
 -- let middle = step_word(total[place + 1], term.middle, low.carry, term.negative);
 add-step-word : tie.Need-add-step-word Inv-loop μ-loop
-add-step-word c = omega arith
+add-step-word c = above-fits 1 (lit≤ tt) (c .before .term-of .ensures .1)
 
 mul-step-word-2 : tie.Need-mul-step-word-2 Inv-loop μ-loop
-mul-step-word-2 c = omega arith
+mul-step-word-2 c = bytes-fit (inside 1 (lit≤ tt) (c .before .term-of .ensures .1))
 
 array-read-step-word-2 : tie.Need-array-read-step-word-2 Inv-loop μ-loop
-array-read-step-word-2 c = omega arith
+array-read-step-word-2 c = inside 1 (lit≤ tt) (c .before .term-of .ensures .1)
 
 step-word-requires-2 : tie.Need-step-word-requires-2 Inv-loop μ-loop
 step-word-requires-2 c κs = c .step-word .ensures .1
 
 -- total[place + 1] = middle.word;
 add-total : tie.Need-add-total Inv-loop μ-loop
-add-total c = omega arith
+add-total c = above-fits 1 (lit≤ tt) (c .before .before .term-of .ensures .1)
 
 mul-total-2 : tie.Need-mul-total-2 Inv-loop μ-loop
-mul-total-2 c = omega arith
+mul-total-2 c = bytes-fit (inside 1 (lit≤ tt) (c .before .before .term-of .ensures .1))
 
 array-write-total-2 : tie.Need-array-write-total-2 Inv-loop μ-loop
-array-write-total-2 c = omega arith
+array-write-total-2 c = inside 1 (lit≤ tt) (c .before .before .term-of .ensures .1)
 
 -- let high = step_word(total[place + 2], term.high, middle.carry, term.negative);
 add-step-word-2 : tie.Need-add-step-word-2 Inv-loop μ-loop
-add-step-word-2 c = omega arith
+add-step-word-2 c = above-fits 2 (lit≤ tt) (c .before .before .term-of .ensures .1)
 
 mul-step-word-3 : tie.Need-mul-step-word-3 Inv-loop μ-loop
-mul-step-word-3 c = omega arith
+mul-step-word-3 c = bytes-fit (inside 2 (lit≤ tt) (c .before .before .term-of .ensures .1))
 
 array-read-step-word-3 : tie.Need-array-read-step-word-3 Inv-loop μ-loop
-array-read-step-word-3 c = omega arith
+array-read-step-word-3 c = inside 2 (lit≤ tt) (c .before .before .term-of .ensures .1)
 
 step-word-requires-3 : tie.Need-step-word-requires-3 Inv-loop μ-loop
 step-word-requires-3 c κs = c .step-word2 .ensures .1
 
 -- total[place + 2] = high.word;
 add-total-2 : tie.Need-add-total-2 Inv-loop μ-loop
-add-total-2 c = omega arith
+add-total-2 c = above-fits 2 (lit≤ tt) (at-term c .term-of .ensures .1)
 
 mul-total-3 : tie.Need-mul-total-3 Inv-loop μ-loop
-mul-total-3 c = omega arith
+mul-total-3 c = bytes-fit (inside 2 (lit≤ tt) (at-term c .term-of .ensures .1))
 
 array-write-total-3 : tie.Need-array-write-total-3 Inv-loop μ-loop
-array-write-total-3 c = omega arith
+array-write-total-3 c = inside 2 (lit≤ tt) (at-term c .term-of .ensures .1)
 
 -- let next = carried(total, place + 3, term.negative);
 add-carried : tie.Need-add-carried Inv-loop μ-loop

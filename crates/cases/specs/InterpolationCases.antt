@@ -13,7 +13,7 @@ use Rattle.interpolator.specs.declared.KrigingType.{KrigingType}
 use Rattle.interpolator.specs.declared.KrigingType.the-variants.{Ordinary, Universal}
 use Rattle.interpolator.specs.Call.{Query, Areas, nodeCount, size}
 use Rattle.interpolator.specs.Interpolation.{interpolated}
-use Rattle.soundings.specs.FitCases.{f, fs}
+use Rattle.cases.specs.FitCases.{f, fs}
 
 -- Spherical 0.25, 1.25, 8
 abbrev pub queryOf : KrigingType → ℕ → List ℕ → List ℕ → List ℕ → Query

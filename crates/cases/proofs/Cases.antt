@@ -3,9 +3,9 @@ use mathlib.Core.Path.{refl}
 use lib.Ieee.{ofBits, toBits, add, sub, mul, div, lt, le, eq, ofInt, toUnsigned, round}
 use Rattle.semivariogram.specs.Semivariogram.{calculated}
 use Rattle.survey_file.proofs.Cases.{writes-bytes, reads-bytes, reads-noted, writes-models}
-use Rattle.soundings.specs.Cases.{FourBins, Cases}
-use Rattle.soundings.proofs.FitCases.{fit-cases}
-use Rattle.soundings.proofs.InterpolationCases.{interpolation-cases}
+use Rattle.cases.specs.Cases.{FourBins, Cases}
+use Rattle.cases.proofs.FitCases.{fit-cases}
+use Rattle.cases.proofs.InterpolationCases.{interpolation-cases}
 
 four-bins : FourBins
 unfolding calculated add sub mul div lt le eq ofInt toUnsigned round ofBits toBits

@@ -2,7 +2,7 @@
 use mathlib.Core.Path.{refl}
 use lib.Ieee.{ofBits, toBits, add, sub, mul, div, lt, le, eq, ofInt, toUnsigned, round}
 use Rattle.kriging.specs.Fit.{fitted}
-use Rattle.soundings.specs.FitCases.{FitCases, TwoExternals, NoNode, LinearDrift, Row1Missed, Row1Met, FigureMissed, WeightInfinite, FigureInfinite}
+use Rattle.cases.specs.FitCases.{FitCases, TwoExternals, NoNode, LinearDrift, Row1Missed, Row1Met, FigureMissed, WeightInfinite, FigureInfinite}
 
 two-externals : TwoExternals
 unfolding fitted add sub mul div lt le eq ofInt toUnsigned round ofBits toBits

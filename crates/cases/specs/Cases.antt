@@ -12,8 +12,8 @@ use Rattle.semivariogram.specs.Semivariogram.{calculated}
 use Rattle.survey_file.specs.File.{baseVersion, writerFile}
 use Rattle.survey_file.specs.Reader.{readBytes}
 use Rattle.survey_file.specs.Cases.{survey, file, noted, bare, withModel}
-use Rattle.soundings.specs.FitCases.{f, fs, FitCases}
-use Rattle.soundings.specs.InterpolationCases.{InterpolationCases}
+use Rattle.cases.specs.FitCases.{f, fs, FitCases}
+use Rattle.cases.specs.InterpolationCases.{InterpolationCases}
 
 -- samples at (0, 0), (6, 8), (6, 0), (1.5, 0) with 1, 4, 2, 8, in five bins: the second is empty
 abbrev pub fourSamples : Samples

@@ -2,7 +2,7 @@
 use mathlib.Core.Path.{refl}
 use lib.Ieee.{ofBits, toBits, add, sub, mul, div, lt, le, eq, ofInt, toUnsigned, round}
 use Rattle.interpolator.specs.Interpolation.{interpolated}
-use Rattle.soundings.specs.InterpolationCases.{InterpolationCases, OnALine, InThePlane, InSpace}
+use Rattle.cases.specs.InterpolationCases.{InterpolationCases, OnALine, InThePlane, InSpace}
 
 on-a-line : OnALine
 unfolding interpolated add sub mul div lt le eq ofInt toUnsigned round ofBits toBits

@@ -1,0 +1,3 @@
+pub mod FitCases
+pub mod InterpolationCases
+pub mod Cases
