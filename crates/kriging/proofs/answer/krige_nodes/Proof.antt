@@ -5,7 +5,7 @@ use mathlib.Core.List.{List}
 use native.Mathlib.Nat.{mul-comm}
 use native.Mathlib.Omega.{arith}
 use borrow.Author.Needs.{needs}
-use lib.ListN.{length, length-set, getD, take}
+use lib.ListN.{length, length-set, getD, take, drop, length-drop}
 use lib.Seq.{length-take-le}
 use Rattle.area.proofs.Rows.{row-end}
 use lib.Ieee.{Float, nan}
@@ -47,8 +47,17 @@ at-entry c = at-columns (at-zeros c .before .before .before)
 abbrev at-node : State tie.After-store → State tie.After-krige-node
 at-node c = c .before .before .before .before .before
 
+abbrev at-first : State tie.After-store2 → State tie.After-store
+at-first c = c .before .before .before .before .before .before
+
 abbrev loop-of : State tie.After-krige-node → State tie.At-loop
 loop-of c = c .before .before
+
+-- the survey, whatever externals the wells have
+abbrev survey-of : State tie.At-loop → List Float → Survey
+survey-of l external =
+    let a = at-entry l .args in
+    surveyOf (a .values .now) (a .coords .now) (a .bases .now) external (a .nodes .now) (a .node-external .now) (a .options) (a .tolerance)
 
 -- a row of so many of a list's numbers lies inside
 row-inside : (w q m len : ℕ) → q < m → w * m ≤ len → q * w + w ≤ len
@@ -126,6 +135,16 @@ z-inside c = omega (arith, c .krige-node .ensures .0, at-entry (loop-of c) .pre 
 z-first : (c : State tie.After-krige-node) → let n = length (at-entry (loop-of c) .args .values .now) in length (take n (c .krige-node .result .z)) ≡ n
 z-first c = length-take-le _ (c .krige-node .result .z) (z-inside c)
 
+-- and p past them
+z-last : (c : State tie.After-krige-node) → let a = at-entry (loop-of c) .args in let n = length (a .values .now) in
+    length (take (n + a .p - n) (drop n (c .krige-node .result .z))) ≡ a .p
+z-last c =
+    let a = at-entry (loop-of c) .args in
+    let n = length (a .values .now) in
+    let z = c .krige-node .result .z in
+    let e : n + a .p - n ≡ a .p = omega arith in
+    length-take-le (n + a .p - n) (drop n z) (omega (arith, length-drop n z, c .krige-node .ensures .0, at-entry (loop-of c) .pre .2)) ∙ e
+
 -- the node's row of weights lies inside
 weights-inside : (c : State tie.After-krige-node) → let l = loop-of c in
     let n = length (at-entry l .args .values .now) in
@@ -152,7 +171,7 @@ store-requires c κs = omega (arith, weights-inside (c .before .before .before .
 
 -- src/answer.rt:96:15
 mul-store-2 : tie.Need-mul-store-2 Inv-loop μ-loop
-mul-store-2 c = omega arith
+mul-store-2 c = let l = loop-of (at-node (c .before .before)) in omega (arith, at-entry l .pre .2)
 
 -- src/answer.rt:96:15
 sub-store : tie.Need-sub-store Inv-loop μ-loop
@@ -164,15 +183,17 @@ part-store-start c = omega arith
 
 -- src/answer.rt:96:15
 part-store-end : tie.Need-part-store-end Inv-loop μ-loop
-part-store-end c = ?
+part-store-end c = let v = at-node (c .before .before .before) in omega (arith, v .krige-node .ensures .0, at-entry (loop-of v) .pre .2)
 
 -- src/answer.rt:96:9
 store-requires-2 : tie.Need-store-requires-2 Inv-loop μ-loop
-store-requires-2 c κs = ?
+store-requires-2 c κs = let v = at-node (c .before .before .before .before .before) in omega (arith, z-last v, at-entry (loop-of v) .pre .9, loop-of v .loop .inv .10)
 
 -- src/answer.rt:75:9
 add-q : tie.Need-add-q Inv-loop μ-loop
-add-q c = omega arith
+add-q c =
+    let v = at-node (at-first (c .before .before)) in
+    omega (arith, below (v .before), at-entry (loop-of v) .good .1 .1 .1 .1 .0 .1)
 
 -- src/answer.rt:75:5
 loop-less : tie.Need-loop-less Inv-loop μ-loop
@@ -180,7 +201,30 @@ loop-less c = omega arith
 
 -- src/answer.rt:75:5
 loop-again : tie.Need-loop-again Inv-loop μ-loop
-loop-again c = (omega arith, ?, ?, ?, ?, ?, ?, ?, ?, ?, ?, λ external hF. ?)
+loop-again c =
+    let first = at-first (c .before .before) in
+    let v = at-node first in
+    let l = loop-of v in
+    let i = l .loop .inv in
+    let last = c .before .before in (
+      omega arith,
+      i .1,
+      i .2,
+      i .3,
+      i .4,
+      i .5,
+      simp length-set (i .6),
+      simp length-set (i .7),
+      simp length-set (i .8),
+      first .store .kept .1 .0 ∙ i .9,
+      last .store2 .kept .1 .0 ∙ i .10,
+      λ external hF.
+          let s = survey-of l external in
+          let node = v .krige-node .ensures .1 .1 external hF in
+          one-more s _ (nodeOf s (at-entry l .args .work .now)) (at-entry l .pre .1) (l .loop .q) _ (v .krige-node .result .z) _ _ _ _ _
+          (omega (arith, v .krige-node .ensures .0, at-entry l .pre .2, at-entry l .pre .1)) (node .0) (node .1) (node .2) (node .3)
+          (first .store .ensures) (last .store2 .ensures) (i .11 external hF),
+    )
 
 -- src/answer.rt:38:1
 same-length : tie.Need-same-length Inv-loop μ-loop
@@ -204,7 +248,12 @@ same-length-5 c = search needs
 
 -- src/answer.rt:38:1
 returns : tie.Need-returns Inv-loop μ-loop
-returns c = λ external hF. ?
+returns c =
+    let l = c .before in
+    λ external hF.
+        let s = survey-of l external in
+        all-nodes s _ (nodeOf s (at-entry l .args .work .now)) (at-entry l .pre .1) (l .loop .q) _ (at-entry l .args .coefficients .now)
+        (omega (arith, l .loop .inv .1)) (at-zeros l .store-zeros .ensures) (l .loop .inv .11 external hF)
 
 pub krige-nodes-spec : {M : Type 1} → statement M
 krige-nodes-spec =
