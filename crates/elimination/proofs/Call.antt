@@ -44,11 +44,11 @@ module _ {A : Type 0} (c : Call A) where
   unfolding called
   called-is k e = ap (λ (n : ℕ). callWhere n c) e
 
-  one-applies : (k : ℕ) → c .refusal ≡ suc k → called c ≡ outcome (suc k) (c .lent)
+  pub one-applies : (k : ℕ) → c .refusal ≡ suc k → called c ≡ outcome (suc k) (c .lent)
   unfolding callWhere
   one-applies k e = called-is (suc k) e
 
-  none-applies : (o : Eliminated) → c .refusal ≡ 0 → eliminated (c .skip) (c .size) (matrix c) ≡ o → called c ≡ afterElimination c (o .answer) (o .area)
+  pub none-applies : (o : Eliminated) → c .refusal ≡ 0 → eliminated (c .skip) (c .size) (matrix c) ≡ o → called c ≡ afterElimination c (o .answer) (o .area)
   unfolding callWhere
   none-applies o e f = called-is 0 e ∙ ap (λ (o : Eliminated). afterElimination c (o .answer) (o .area)) f
 

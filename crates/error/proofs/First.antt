@@ -74,7 +74,7 @@ first-later (t ∷ ts) us p e =
 
 -- ---- as a judgement
 -- a refusal has a number
-numbers : (r : Refusal) → numberOf r ≢ 0
+pub numbers : (r : Refusal) → numberOf r ≢ 0
 numbers CoordinatesLength h = omega arith
 numbers NodesLength h = omega arith
 numbers NoBasis h = omega arith

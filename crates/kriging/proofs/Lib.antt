@@ -13,3 +13,5 @@ pub mod Values
 pub mod RightHand
 pub mod NodeParts
 pub mod Progress
+pub mod Taken
+pub mod Fitting

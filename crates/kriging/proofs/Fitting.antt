@@ -1,0 +1,84 @@
+-- The fit stage by stage, as its code goes: F and the matrix are the paper's, and each way in which the call ends is that of its definition. Assumes nothing.
+use Prim.Native.Nat.{ℕ, zero, suc, _+_, _-_, _*_, _≤_, _<_}
+use native.Mathlib.Decide.{decLt}
+use native.Mathlib.Omega.{arith}
+use mathlib.Core.Path.{_≡_, refl, ap, sym, _∙_}
+use mathlib.Core.Logic.{_≢_}
+use mathlib.Core.Bool.{Bool, true, cond}
+use mathlib.Core.List.{List}
+use borrow.Author.Tests.{le-ltb}
+use lib.Dec.{eqb, ltb}
+use lib.ListN.{length, getD}
+use lib.Ieee.{Float, nan}
+use Rattle.area.specs.Area.{filled}
+use Rattle.area.proofs.Filled as Filled
+use Rattle.ieee.specs.Floats.{zeroFloat, oneFloat}
+use Rattle.error.specs.declared.Refusal.{Refusal}
+use Rattle.error.specs.Numbers.{numberOf}
+use Rattle.error.specs.Outcome.{Outcome, outcome}
+use Rattle.error.proofs.First.{numbers}
+use Rattle.elimination.specs.declared.Elimination.{Elimination}
+use Rattle.elimination.specs.Elimination.{outcomeOf, eliminated}
+use Rattle.elimination.specs.Inverse.{besideIdentity, laid}
+use Rattle.elimination.specs.Call.{called, callWhere, afterElimination}
+use Rattle.elimination.proofs.Call.{one-applies, none-applies}
+use Rattle.survey.specs.Limits.{base}
+use Rattle.survey.specs.Survey.{Survey, wells, columns, size}
+use Rattle.kriging.specs.Areas.{Areas}
+use Rattle.kriging.specs.Drift.{DriftIn, drift}
+use Rattle.kriging.specs.Assembly.{between, joined, entry, assembled}
+use Rattle.kriging.specs.Refusals.{refusal}
+use Rattle.kriging.specs.Fit.{fitCall, fitted}
+use Rattle.kriging.proofs.MatrixEntries.{upper-left, upper-right, lower-left, lower-right}
+
+module _ (s : Survey) where
+  -- F, row after row in a list that is long enough
+  pub drift-laid : (F xs : List Float) → wells s * columns s ≤ length xs → F ≡ filled (columns s) (wells s) (drift s) xs → DriftIn s F
+  drift-laid F xs long e i j h k = ap (λ (ys : List Float). getD ys (i * columns s + j) nan) e ∙ Filled.entry (columns s) (wells s) (drift s) xs i j nan long h k
+
+  -- the matrix with F read from that list is the paper's
+  same-entry : (F : List Float) → DriftIn s F → (i j : ℕ) → i < size s → j < size s
+      → joined (wells s) (between (s .options) (s .coords)) (λ i j. getD F (i * columns s + j) nan) i j ≡ entry s i j
+  unfolding entry
+  same-entry F h i j hi hj =
+      let n = wells s in
+      let gamma = between (s .options) (s .coords) in
+      let f : ℕ → ℕ → Float = λ i j. getD F (i * columns s + j) nan in
+      elim (decLt i n) [
+        | yes a ↦
+            elim (decLt j n) [
+              | yes b ↦ sym (upper-left n gamma f i j a b) ∙ upper-left n gamma (drift s) i j a b
+              | no b ↦ sym (upper-right n gamma f i j a (omega arith)) ∙ h i (j - n) a (omega arith) ∙ upper-right n gamma (drift s) i j a (omega arith)
+            ]
+        | no a ↦
+            elim (decLt j n) [
+              | yes b ↦ sym (lower-left n gamma f i j (omega arith) b) ∙ h j (i - n) b (omega arith) ∙ lower-left n gamma (drift s) i j (omega arith) b
+              | no b ↦ sym (lower-right n gamma f i j (omega arith) (omega arith)) ∙ lower-right n gamma (drift s) i j (omega arith) (omega arith)
+            ]
+      ]
+
+  pub matrix-laid : (F work : List Float) → DriftIn s F
+      → laid (size s) (joined (wells s) (between (s .options) (s .coords)) (λ i j. getD F (i * columns s + j) nan)) work ≡ assembled s work
+  unfolding laid besideIdentity
+  matrix-laid F work h =
+      Filled.same-entries (2 * size s) (size s) _ _ work (λ i c hi hc.
+      elim (decLt c (size s)) [
+        | yes b ↦ ap (λ (x : Float). cond (ltb c (size s)) x (cond (eqb c (size s + i)) oneFloat zeroFloat)) (same-entry F h i c hi b)
+        | no b ↦ rw (le-ltb c (size s) (omega arith))
+      ])
+
+module _ (s : Survey) (a : Areas) where
+  -- turned away
+  pub refused-there : (r : Refusal) → numberOf r ≡ refusal base s a → outcome (numberOf r) a ≡ fitted base s a
+  unfolding fitted
+  refused-there r e = by (numberOf r) (numbers r) e
+    where
+      by : (k : ℕ) → k ≢ 0 → k ≡ refusal base s a → outcome k a ≡ called (fitCall base s a)
+      by zero n e = absurd (n refl)
+      by (suc k) n e = sym (one-applies (fitCall base s a) k (sym e))
+
+  -- taken, and eliminated
+  pub taken-there : (r : Elimination) (xs : List Float) → refusal base s a ≡ 0 → outcomeOf r xs ≡ eliminated true (size s) (assembled s (a .work))
+      → afterElimination (fitCall base s a) r xs ≡ fitted base s a
+  unfolding fitted
+  taken-there r xs e h = sym (none-applies (fitCall base s a) (outcomeOf r xs) e (sym h))

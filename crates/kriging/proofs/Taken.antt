@@ -1,0 +1,74 @@
+-- What a fit that no rule of the base turns away has been tested for, as its code uses it: the lengths of its lists and areas, and its counts. Assumes nothing.
+use Prim.Native.Nat.{ℕ, _+_, _*_, _^_, _≤_, _<_}
+use native.Mathlib.Decide.{decLt}
+use native.Mathlib.Omega.{arith}
+use mathlib.Core.Path.{_≡_, refl}
+use mathlib.Core.Logic.{_≢_, inl, inr}
+use lib.ListN.{length}
+use Rattle.error.specs.Rules.{NoneApplies, Condition}
+use Rattle.error.proofs.Tells.{stable, equal}
+use Rattle.error.proofs.Rules.{none-exactly, no-condition}
+use Rattle.survey.specs.Limits.{base}
+use Rattle.survey.specs.Survey.{Survey, wells, nodeCount, columns, externals, size, columnsHeld}
+use Rattle.survey.proofs.Codes.{held-exact}
+use Rattle.kriging.specs.Areas.{Areas}
+use Rattle.kriging.specs.Rules.{rules}
+use Rattle.kriging.specs.Refusals.{tests, refusal}
+use Rattle.kriging.proofs.Endings.{told}
+
+module _ (s : Survey) (a : Areas) (taken : refusal base s a ≡ 0) where
+  none-applies : NoneApplies (rules base s a)
+  unfolding refusal
+  none-applies = none-exactly (told base s a) tt .0 taken
+
+  none : (k : ℕ) → ¬ Condition (rules base s a) k
+  none = no-condition (rules base s a) none-applies
+
+  at-least : {m n : ℕ} → ¬ (n < m) → m ≤ n
+  at-least h = omega arith
+
+  -- ---- counts
+  pub few-wells : wells s ≤ 48
+  few-wells = at-least (λ l. none 9 (inl l))
+
+  pub few-columns : columns s ≤ 12
+  few-columns = at-least (λ l. none 9 (inr (inl l)))
+
+  pub columns-counted : columnsHeld (s .bases) ≡ columns s
+  columns-counted = let h = few-columns in held-exact (s .bases) (omega arith)
+
+  -- ---- lists
+  pub coords-twice : length (s .coords) ≡ 2 * wells s
+  coords-twice = stable (equal (length (s .coords)) (2 * wells s)) (none 1)
+
+  pub externals-whole : length (s .external) ≡ externals s * wells s
+  externals-whole = stable (equal (length (s .external)) (externals s * wells s)) (none 6)
+
+  pub node-externals : externals s * nodeCount s ≤ length (s .nodeExternal)
+  node-externals =
+      elim (decLt 0 (externals s)) [
+        | yes h ↦
+            let e : length (s .nodeExternal) ≡ externals s * nodeCount s =
+            stable (equal (length (s .nodeExternal)) (externals s * nodeCount s)) (λ n. none 8 (h, n)) in
+            omega arith
+        | no h ↦ let z : externals s ≡ 0 = omega arith in rw z (omega arith)
+      ]
+
+  -- ---- areas
+  pub work-long : 2 * size s * size s ≤ length (a .work)
+  work-long = at-least (none 17)
+
+  pub predicted-long : nodeCount s ≤ length (a .predicted)
+  predicted-long = at-least (λ l. none 18 (inl l))
+
+  pub variance-long : nodeCount s ≤ length (a .variance)
+  variance-long = at-least (λ l. none 18 (inr (inl l)))
+
+  pub verdicts-long : nodeCount s ≤ length (a .verdicts)
+  verdicts-long = at-least (λ l. none 18 (inr (inr (inl l))))
+
+  pub weights-long : wells s * nodeCount s ≤ length (a .weights)
+  weights-long = at-least (λ l. none 18 (inr (inr (inr (inl l)))))
+
+  pub coefficients-long : columns s ≤ length (a .coefficients)
+  coefficients-long = at-least (λ l. none 18 (inr (inr (inr (inr l)))))
