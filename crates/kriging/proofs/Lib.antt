@@ -15,3 +15,4 @@ pub mod NodeParts
 pub mod Progress
 pub mod Taken
 pub mod Fitting
+pub mod Promised

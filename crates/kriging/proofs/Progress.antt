@@ -61,28 +61,28 @@ module _ (s : Survey) (a : Areas) (node : ℕ → Node) where
       → Progress s a node q e
       → Progress s a node (q + 1) (areasOf (e .work) (set (e .predicted) q figure) (set (e .variance) q variance) (set (e .verdicts) q verdict) ws cs)
   one-more {p} ep q e z ws cs figure variance verdict long hz hf hv hd hw hc h =
-    let n = wells s in
-    let at : (i : ℕ) → i < size s → getD z i nan ≡ getD (node q .z) i nan = λ i l. sym (getD-take (size s) z i nan l) ∙ ap (λ (zs : List Float). getD zs i nan) hz in
-    let first : written (q * n) (length (take n z)) (λ j. getD (take n z) j nan) (e .weights) ≡ written (q * n) n (λ j. getD (node q .z) j nan) (e .weights) =
+      let n = wells s in
+      let at : (i : ℕ) → i < size s → getD z i nan ≡ getD (node q .z) i nan = λ i l. sym (getD-take (size s) z i nan l) ∙ ap (λ (zs : List Float). getD zs i nan) hz in
+      let first : written (q * n) (length (take n z)) (λ j. getD (take n z) j nan) (e .weights) ≡ written (q * n) n (λ j. getD (node q .z) j nan) (e .weights) =
       ap (λ (k : ℕ). written (q * n) k (λ j. getD (take n z) j nan) (e .weights)) (length-take-le n z (omega arith))
       ∙ same-values (q * n) n _ _ (e .weights) (λ j l. getD-take n z j nan l ∙ at j (omega arith)) in
-    let part = take (n + p - n) (drop n z) in
-    let width : length part ≡ columns s = omega (arith, length-take-le (n + p - n) (drop n z) (omega (arith, length-drop n z))) in
-    let last : written 0 (length part) (λ j. getD part j nan) (e .coefficients) ≡ written 0 (columns s) (lastOf s node (q + 1)) (e .coefficients) =
+      let part = take (n + p - n) (drop n z) in
+      let width : length part ≡ columns s = omega (arith, length-take-le (n + p - n) (drop n z) (omega (arith, length-drop n z))) in
+      let last : written 0 (length part) (λ j. getD part j nan) (e .coefficients) ≡ written 0 (columns s) (lastOf s node (q + 1)) (e .coefficients) =
       ap (λ (k : ℕ). written 0 k (λ j. getD part j nan) (e .coefficients)) width
       ∙ same-values 0 (columns s) (λ j. getD part j nan) (lastOf s node (q + 1)) (e .coefficients) (λ j l.
       getD-take (n + p - n) (drop n z) j nan (omega arith) ∙ getD-drop n z j nan ∙ at (n + j) (omega arith) ∙ sym (later s node q j)) in
-    record {
-    predicted = next-start q _ _ (e .predicted) figure hf (h .predicted);
-    variance = next-start q _ _ (e .variance) variance hv (h .variance);
-    verdicts = next-start q _ _ (e .verdicts) verdict hd (h .verdicts);
-    weights = next-row (wells s) q _ _ (e .weights) ws (h .weights) (hw ∙ first);
-    coefficients =
-        hc
-        ∙ last
-        ∙ ap (λ (xs : List Float). written 0 (columns s) (lastOf s node (q + 1)) xs) (h .coefficients)
-        ∙ written-over 0 (columns s) (lastOf s node q) (lastOf s node (q + 1)) (a .coefficients);
-  }
+      record {
+        predicted = next-start q _ _ (e .predicted) figure hf (h .predicted);
+        variance = next-start q _ _ (e .variance) variance hv (h .variance);
+        verdicts = next-start q _ _ (e .verdicts) verdict hd (h .verdicts);
+        weights = next-row (wells s) q _ _ (e .weights) ws (h .weights) (hw ∙ first);
+        coefficients =
+            hc
+            ∙ last
+            ∙ ap (λ (xs : List Float). written 0 (columns s) (lastOf s node (q + 1)) xs) (h .coefficients)
+            ∙ written-over 0 (columns s) (lastOf s node q) (lastOf s node (q + 1)) (a .coefficients);
+      }
 
   -- and all of them: what was in the coefficients' places before the zeros does not count
   pub all-nodes : {p : ℕ} → columns s ≡ p → (q : ℕ) (e : Areas) (cs : List Float) → q ≡ nodeCount s → a .coefficients ≡ written 0 p (λ j. zeroFloat) cs

@@ -60,12 +60,12 @@ pub fn krige_nodes(
         × (p ≤ length (now coefficients)) ⌝ }
     ensures { λ _. ⌜ ((external : List Float)
         → let s = surveyOf (now (values .entry)) (now (coords .entry)) (now (bases .entry)) external
-            (now (nodes .entry)) (now («node_external» .entry)) options tolerance in
+        (now (nodes .entry)) (now («node_external» .entry)) options tolerance in
         DriftIn s (now (drift .entry))
         → areasOf (now (work .entry)) (now (predicted .exit)) (now (variance .exit)) (now (verdicts .exit)) (now (weights .exit)) (now (coefficients .exit))
         ≡ answered s
-            (areasOf (now (work .entry)) (now (predicted .entry)) (now (variance .entry)) (now (verdicts .entry)) (now (weights .entry)) (now (coefficients .entry)))
-            (now (work .entry)) (nodeOf s (now (work .entry)))) ⌝ }
+        (areasOf (now (work .entry)) (now (predicted .entry)) (now (variance .entry)) (now (verdicts .entry)) (now (weights .entry)) (now (coefficients .entry)))
+        (now (work .entry)) (nodeOf s (now (work .entry)))) ⌝ }
 {
     let n = values.len();
     let size = n + p;

@@ -1,11 +1,35 @@
-// Universal kriging with external drift: the answer of a fit. What the fit answers is defined in specs/.
+// Universal kriging with external drift, by the Rust's parts. What the fit answers is defined in specs/.
 mod refusals; // refusals.rt: 1 to 12, 17, 18
 mod drift; // drift.rt: the drift columns at the wells and at a node
 mod assembly; // assembly.rt: the matrix beside the identity
 mod node; // node.rt: one node
 mod answer; // answer.rt: every node, into the areas
 
+use crate::answer::krige_nodes;
+use crate::assembly::assemble;
+use crate::drift::fill_drift;
+use crate::refusals::fit_refusal;
+use elimination::Elimination;
+use error::Judgement;
 use error::Refusal;
+use survey::Limits;
+use survey::UniversalKrigingOptions;
+ghost use mathlib.Core.Path.{_≡_};
+ghost use mathlib.Core.Logic.{_≢_, _↔_};
+ghost use mathlib.Core.Bool.{true};
+ghost use Prim.Native.Nat.{ℕ};
+ghost use Rattle.error.specs.Rules.{Ruled, NoneApplies};
+ghost use Rattle.elimination.specs.Elimination.{stepped, StopsAt, Through};
+ghost use Rattle.survey.specs.Limits.{base};
+ghost use Rattle.survey.specs.Survey.{surveyOf, size};
+ghost use Rattle.kriging.specs.Areas.{areasOf, withWork};
+ghost use Rattle.kriging.specs.Assembly.{assembled};
+ghost use Rattle.kriging.specs.Rules.{rules};
+ghost use Rattle.kriging.specs.Refusals.{refusal};
+ghost use Rattle.kriging.specs.Fit.{outcomeOf, fitted};
+ghost use Rattle.kriging.specs.Untouched.{Untouched};
+ghost use Rattle.kriging.specs.System.{Kriged};
+ghost use Rattle.kriging.specs.Trend.{TrendKept};
 
 // How a fit ends.
 pub enum Fit {
@@ -13,4 +37,144 @@ pub enum Fit {
     Done,
     // The call is turned away.
     Refused(Refusal),
+}
+
+// Universal kriging with external drift: values and coordinates of n wells, basis codes, external values column after column, m nodes with theirs node after node.
+// Lent are a work area, and areas for m figures, variances and verdicts, n·m weights node after node, and p coefficients.
+pub fn universal_kriging_fit(
+    values: &[f64],
+    coords: &[f64],
+    drift_bases: &[u8],
+    external_drift: &[f64],
+    options: UniversalKrigingOptions,
+    query_points: &[f64],
+    query_external_drift: &[f64],
+    tolerance: f64,
+    work: &mut [f64],
+    predicted: &mut [f64],
+    variance: &mut [f64],
+    verdicts: &mut [u8],
+    weights: &mut [f64],
+    drift_coefficients: &mut [f64],
+) -> Fit
+    ensures { λ r.
+        -- the survey, the areas as they were lent, and how the call ended: its number and the areas at exit
+        let s = surveyOf (now (values .entry)) (now (coords .entry)) (now («drift_bases» .entry)) (now («external_drift» .entry))
+        (now («query_points» .entry)) (now («query_external_drift» .entry)) options tolerance in
+        let a = areasOf (now (work .entry)) (now (predicted .entry)) (now (variance .entry)) (now (verdicts .entry))
+        (now (weights .entry)) (now («drift_coefficients» .entry)) in
+        let e = outcomeOf r (areasOf (now (work .exit)) (now (predicted .exit)) (now (variance .exit)) (now (verdicts .exit))
+        (now (weights .exit)) (now («drift_coefficients» .exit))) in
+        let matrix = assembled s (a .work) in
+        -- the whole of it, refused calls too
+        let equation : Type 0 = e ≡ fitted base s a in
+        -- any number but 0 and 19 is that of the first rule that applies, and then nothing is written
+        let ruled : Type 0 = ((k : ℕ) → k ≢ 0 → k ≢ 19 → (e .number ≡ k) ↔ Ruled (rules base s a) k) × (e .number ≢ 0 → e .number ≢ 19 → e .areas ≡ a) in
+        -- 19 exactly where no rule applies and some step holds a magnitude below 2^-52; the work area is then as it was before that step
+        let stopped : Type 0 = ((e .number ≡ 19) ↔ (NoneApplies (rules base s a) × ((i : ℕ) × StopsAt true (size s) i matrix)))
+        × ((i : ℕ) → e .number ≡ 19 → StopsAt true (size s) i matrix → e .areas ≡ withWork a (stepped true (size s) i matrix)) in
+        -- 0 exactly where no rule applies and every step goes through
+        let accepted : Type 0 = (e .number ≡ 0) ↔ (NoneApplies (rules base s a) × Through true (size s) (size s) matrix) in
+        -- past the named lengths every area is as it was, however the call ends
+        let kept : Type 0 = Untouched s a (e .areas) in
+        -- the areas of an accepted fit hold the unknowns of the kriging system: weights, figures, variances, coefficients
+        let kriged : Type 0 = e .number ≡ 0 → Kriged s (e .areas) in
+        -- demand 3: in an accepted fit each node has exactly the verdict of its own weights and figure, and one that passed keeps the trend bound
+        let trend : Type 0 = TrendKept s e in
+        ⌜ equation × ruled × stopped × accepted × kept × kriged × trend ⌝ }
+{
+    let judgement = fit_refusal(
+        Limits::base(),
+        values,
+        coords,
+        drift_bases,
+        external_drift,
+        query_points,
+        query_external_drift,
+        options,
+        tolerance,
+        work,
+        predicted,
+        variance,
+        verdicts,
+        weights,
+        drift_coefficients,
+    );
+    if let Judgement::Refused(refusal) = judgement {
+        return Fit::Refused(refusal);
+    }
+    fit_taken(
+        values,
+        coords,
+        drift_bases,
+        external_drift,
+        options,
+        query_points,
+        query_external_drift,
+        tolerance,
+        work,
+        predicted,
+        variance,
+        verdicts,
+        weights,
+        drift_coefficients,
+    )
+}
+
+// The fit of a survey that nothing turns away before the elimination.
+fn fit_taken(
+    values: &[f64],
+    coords: &[f64],
+    bases: &[u8],
+    external: &[f64],
+    options: UniversalKrigingOptions,
+    nodes: &[f64],
+    node_external: &[f64],
+    tolerance: f64,
+    work: &mut [f64],
+    predicted: &mut [f64],
+    variance: &mut [f64],
+    verdicts: &mut [u8],
+    weights: &mut [f64],
+    coefficients: &mut [f64],
+) -> Fit
+    requires { ⌜ refusal base (surveyOf (now values) (now coords) (now bases) (now external) (now nodes) (now «node_external») options tolerance)
+        (areasOf (now work) (now predicted) (now variance) (now verdicts) (now weights) (now coefficients)) ≡ 0 ⌝ }
+    ensures { λ r. ⌜ outcomeOf r (areasOf (now (work .exit)) (now (predicted .exit)) (now (variance .exit)) (now (verdicts .exit))
+        (now (weights .exit)) (now (coefficients .exit)))
+        ≡ fitted base
+        (surveyOf (now (values .entry)) (now (coords .entry)) (now (bases .entry)) (now (external .entry))
+        (now (nodes .entry)) (now («node_external» .entry)) options tolerance)
+        (areasOf (now (work .entry)) (now (predicted .entry)) (now (variance .entry)) (now (verdicts .entry))
+        (now (weights .entry)) (now (coefficients .entry))) ⌝ }
+{
+    let n = values.len();
+    let p = survey::counts::drift_columns(bases);
+    let mut drift = [0.0; 576];
+    fill_drift(bases, external, coords, n, p, &mut drift);
+    assemble(coords, options, &drift, n, p, work);
+    match elimination::gauss_jordan_invert_uked(work, n + p) {
+        Elimination::Done => {
+            krige_nodes(
+                values,
+                coords,
+                bases,
+                options,
+                nodes,
+                node_external,
+                tolerance,
+                &drift,
+                p,
+                work,
+                predicted,
+                variance,
+                verdicts,
+                weights,
+                coefficients,
+            );
+            Fit::Done
+        }
+        Elimination::Stopped(_) => Fit::Refused(Refusal::Singular),
+        Elimination::TooShort => Fit::Refused(Refusal::WorkArea), // the work area was looked at before
+    }
 }

@@ -89,11 +89,10 @@ loop-holds c = (omega arith, refl, refl, refl, c .before .before .before .before
 
 -- src/answer.rt:76:13
 krige-node-requires : tie.Need-krige-node-requires Inv-loop μ-loop
-krige-node-requires c κs = 
+krige-node-requires c κs =
     let l = c .before in
     let pre = at-entry l .pre in
-    let v = l .loop .inv in
-    (
+    let v = l .loop .inv in (
       pre .0,
       pre .1,
       sym (v .4),
@@ -251,9 +250,9 @@ returns : tie.Need-returns Inv-loop μ-loop
 returns c =
     let l = c .before in
     λ external hF.
-        let s = survey-of l external in
-        all-nodes s _ (nodeOf s (at-entry l .args .work .now)) (at-entry l .pre .1) (l .loop .q) _ (at-entry l .args .coefficients .now)
-        (omega (arith, l .loop .inv .1)) (at-zeros l .store-zeros .ensures) (l .loop .inv .11 external hF)
+    let s = survey-of l external in
+    all-nodes s _ (nodeOf s (at-entry l .args .work .now)) (at-entry l .pre .1) (l .loop .q) _ (at-entry l .args .coefficients .now)
+    (omega (arith, l .loop .inv .1)) (at-zeros l .store-zeros .ensures) (l .loop .inv .11 external hF)
 
 pub krige-nodes-spec : {M : Type 1} → statement M
 krige-nodes-spec =

@@ -127,7 +127,7 @@ audited : (c : tie.After-audit-figure) → let v = at-solved (c .before .before 
     let a = at-entry (at-right (at-b v)) .args in
     c .audit-figure .result
     ≡ verdictWith (v .solve-node .result .columns)
-      (auditedIn (weighedIn (take (wells-of v) (v .solve-node .result .z)) [] (f0-of v) (a .tolerance)) (a .values .now) (c .before .before .before .before .weighted-sum .result))
+    (auditedIn (weighedIn (take (wells-of v) (v .solve-node .result .z)) [] (f0-of v) (a .tolerance)) (a .values .now) (c .before .before .before .before .weighted-sum .result))
 audited c =
     let v = at-solved (c .before .before .before) in
     let r = at-right (at-b v) in
@@ -135,9 +135,9 @@ audited c =
     c .audit-figure .ensures
     ∙ ap
     (λ (f0 : List Float). verdictWith (v .solve-node .result .columns)
-      (auditedIn (weighedIn (take (wells-of v) (v .solve-node .result .z)) [] f0 (a .tolerance)) (a .values .now) (c .before .before .before .before .weighted-sum .result)))
+    (auditedIn (weighedIn (take (wells-of v) (v .solve-node .result .z)) [] f0 (a .tolerance)) (a .values .now) (c .before .before .before .before .weighted-sum .result)))
     (part-is (wells-of v) (a .p) (r .fill-right-hand .last .1 .1 .1 .1 .1 .1 .1 .1 .0)
-      (omega (arith, r .fill-right-hand .kept .1 .1 .1 .1 .1 .1 .1 .1 .0, at-entry r .pre .3)))
+    (omega (arith, r .fill-right-hand .kept .1 .1 .1 .1 .1 .1 .1 .1 .0, at-entry r .pre .3)))
 
 -- it fits a byte
 byte : (c : tie.After-audit-figure) → c .audit-figure .result ≤ 255

@@ -1,0 +1,281 @@
+-- `kriging::fit_taken` meets its contract: F and the matrix are the paper's, and the call ends as its elimination does. Assumes nothing.
+use Prim.Native.Nat.{ℕ, _+_, _*_, _≤_, _<_}
+use mathlib.Core.Path.{_≡_, refl, ap, sym, _∙_, subst}
+use mathlib.Core.Bool.{true}
+use mathlib.Core.List.{List}
+use native.Mathlib.Omega.{arith}
+use borrow.Author.Needs.{needs}
+use lib.ListN.{length, getD}
+use lib.Ieee.{Float, nan}
+use Rattle.area.specs.Area.{filled}
+use Rattle.area.proofs.Rows.{row-end}
+use Rattle.error.specs.Outcome.{outcome}
+use Rattle.elimination.specs.declared.Elimination.{Elimination}
+use Rattle.elimination.specs.declared.Elimination.the-variants.{Done, Stopped, TooShort}
+use Rattle.elimination.specs.Elimination as elimination
+use Rattle.elimination.specs.Inverse.{laid}
+use Rattle.elimination.specs.Call.{afterElimination}
+use Rattle.elimination.proofs.Laid.{kept-laid}
+use Rattle.elimination.proofs.Stops.{refused-exactly}
+use Rattle.survey.specs.Survey.{Survey, surveyOf, wells, columns, size, xOf, yOf}
+use Rattle.kriging.specs.Areas.{Areas, areasOf}
+use Rattle.kriging.specs.Drift.{DriftIn, driftRow, drift}
+use Rattle.kriging.specs.Assembly.{between, joined, entry, assembled}
+use Rattle.kriging.specs.Fit.{answered}
+use Rattle.kriging.proofs.Taken.{few-wells, few-columns, columns-counted, coords-twice, externals-whole, node-externals, work-long, predicted-long, variance-long, verdicts-long, weights-long, coefficients-long}
+use Rattle.kriging.proofs.Fitting.{drift-laid, matrix-laid, taken-there}
+use Rattle.kriging.proofs.fit_taken.Statement.{statement}
+use Rattle.kriging.proofs.fit_taken.Tie as tie
+
+-- The states that the needs look back to, in the order of the code: a name takes a later state back to its own.
+abbrev at-entry : tie.After-drift-columns → tie.Start
+at-entry c = c .before .before .before .before .before .before .before .before .before .before .before .before .before
+
+abbrev at-columns : tie.After-fill-drift → tie.After-drift-columns
+at-columns c = c .before .before
+
+abbrev at-drift : tie.After-assemble → tie.After-fill-drift
+at-drift c = c .before .before .before .before
+
+abbrev at-matrix : tie.After-gauss-jordan-invert-uked → tie.After-assemble
+at-matrix c = c .before .before .before .before
+
+-- the survey and the areas that came
+abbrev survey-of : tie.After-drift-columns → Survey
+survey-of c =
+    let a = at-entry c .args in
+    surveyOf (a .values .now) (a .coords .now) (a .bases .now) (a .external .now) (a .nodes .now) (a .node-external .now) (a .options) (a .tolerance)
+
+abbrev areas-of : tie.After-drift-columns → Areas
+areas-of c =
+    let a = at-entry c .args in
+    areasOf (a .work .now) (a .predicted .now) (a .variance .now) (a .verdicts .now) (a .weights .now) (a .coefficients .now)
+
+-- p is counted
+counted : (c : tie.After-drift-columns) → c .drift-columns .result ≡ columns (survey-of c)
+counted c = c .drift-columns .ensures ∙ columns-counted (survey-of c) (areas-of c) (at-entry c .pre)
+
+-- F fits its 576 places
+fits : (c : tie.After-drift-columns) → wells (survey-of c) * columns (survey-of c) ≤ 576
+fits c =
+    let s = survey-of c in
+    let n = few-wells s (areas-of c) (at-entry c .pre) in
+    let p = few-columns s (areas-of c) (at-entry c .pre) in
+    let l : wells s < 49 = omega arith in
+    omega (arith, row-end (columns s) (wells s) 49 l, p)
+
+-- src/lib.rt:152:9
+drift-columns-requires : tie.Need-drift-columns-requires
+drift-columns-requires c κs = search needs
+
+-- src/lib.rt:154:47
+slice-aggregate-fill-drift : tie.Need-slice-aggregate-fill-drift
+slice-aggregate-fill-drift c = search needs
+
+-- F in its list, and the matrix in the work area, are the paper's
+drift-in : (c : tie.After-fill-drift) → DriftIn (survey-of (at-columns c)) (c .fill-drift .last .1 .1 .1 .1 .1 .0)
+drift-in c =
+    let d = at-columns c in
+    let s = survey-of d in
+    drift-laid s _ _ (fits d) (c .fill-drift .ensures ∙ ap (λ (p : ℕ). filled p (wells s) (drift s) _) (counted d))
+
+matrix-in : (c : tie.After-assemble) → let d = at-columns (at-drift c) in c .assemble .last .1 .1 .1 .1 .1 .0 ≡ assembled (survey-of d) (at-entry d .args .work .now)
+matrix-in c =
+    let f = at-drift c in
+    let d = at-columns f in
+    let s = survey-of d in
+    c .assemble .ensures
+    ∙ ap (λ (p : ℕ). laid (wells s + p) (joined (wells s) (between (s .options) (s .coords)) (λ i j. getD (f .fill-drift .last .1 .1 .1 .1 .1 .0) (i * p + j) nan)) (at-entry d .args .work .now)) (counted d)
+    ∙ matrix-laid s (f .fill-drift .last .1 .1 .1 .1 .1 .0) (at-entry d .args .work .now) (drift-in f)
+
+-- the elimination is that of the definition
+eliminated-in : (c : tie.After-gauss-jordan-invert-uked) → let d = at-columns (at-drift (at-matrix c)) in
+    elimination.outcomeOf (c .gauss-jordan-invert-uked .result) (c .gauss-jordan-invert-uked .last .0)
+    ≡ elimination.eliminated true (size (survey-of d)) (assembled (survey-of d) (at-entry d .args .work .now))
+eliminated-in c =
+    let m = at-matrix c in
+    let d = at-columns (at-drift m) in
+    let s = survey-of d in
+    c .gauss-jordan-invert-uked .ensures
+    ∙ ap (λ (p : ℕ). elimination.eliminated true (wells s + p) (m .assemble .last .1 .1 .1 .1 .1 .0)) (counted d)
+    ∙ ap (λ (xs : List Float). elimination.eliminated true (size s) xs) (matrix-in m)
+
+-- an area that holds the matrix is not too short for the elimination
+not-short : (s : Survey) (w : List Float) → 2 * size s * size s ≤ length w → ¬ (length (assembled s w) < 2 * size s * size s)
+not-short s w h l = omega (arith, kept-laid (size s) (entry s) w .len)
+
+-- src/lib.rt:154:5
+fill-drift-requires : tie.Need-fill-drift-requires
+fill-drift-requires c κs =
+    let d = c .before in
+    let s = survey-of d in
+    let a = areas-of d in
+    let t = at-entry d .pre in
+    let e = externals-whole s a t in
+    let k = coords-twice s a t in
+    (sym (counted d), omega arith, omega arith, subst (λ (p : ℕ). wells s * p ≤ 576) (sym (counted d)) (fits d))
+
+-- src/lib.rt:155:31
+slice-aggregate-assemble : tie.Need-slice-aggregate-assemble
+slice-aggregate-assemble c = search needs
+
+-- src/lib.rt:155:5
+assemble-requires : tie.Need-assemble-requires
+assemble-requires c κs =
+    let f = c .before .before .before in
+    let d = at-columns f in
+    let s = survey-of d in
+    let a = areas-of d in
+    let t = at-entry d .pre in
+    let k = coords-twice s a t in
+    let F = f .fill-drift .kept .1 .1 .1 .1 .1 .0 in
+    (omega arith, subst (λ (p : ℕ). wells s * p ≤ length (f .fill-drift .last .1 .1 .1 .1 .1 .0)) (sym (counted d)) (omega (arith, fits d, F)),
+    subst (λ (p : ℕ). 2 * (wells s + p) * (wells s + p) ≤ length (at-entry d .args .work .now)) (sym (counted d)) (work-long s a t))
+
+-- src/lib.rt:156:55
+add-gauss-jordan-invert-uked : tie.Need-add-gauss-jordan-invert-uked
+add-gauss-jordan-invert-uked c = search needs
+
+-- src/lib.rt:156:11
+gauss-jordan-invert-uked-requires : tie.Need-gauss-jordan-invert-uked-requires
+gauss-jordan-invert-uked-requires c κs = search needs
+
+-- src/lib.rt:166:17
+enum-told : tie.Need-enum-told
+enum-told c = search needs
+
+-- src/lib.rt:166:17
+slice-aggregate-krige-nodes : tie.Need-slice-aggregate-krige-nodes
+slice-aggregate-krige-nodes c = search needs
+
+abbrev at-done : tie.After-krige-nodes-arg6 → tie.After-enum-told
+at-done c = c .before .before .before .before .before .before .before
+
+abbrev at-solved : tie.After-krige-nodes-arg6 → tie.After-gauss-jordan-invert-uked
+at-solved c = at-done c .before .before .before .before
+
+-- src/lib.rt:158:13
+krige-nodes-requires : tie.Need-krige-nodes-requires
+krige-nodes-requires c κs =
+    let g = at-solved c in
+    let f = at-drift (at-matrix g) in
+    let d = at-columns f in
+    let s = survey-of d in
+    let a = areas-of d in
+    let t = at-entry d .pre in
+    let k = coords-twice s a t in
+    (
+      omega arith,
+      sym (counted d),
+      omega (arith, counted d, few-wells s a t, few-columns s a t),
+      node-externals s a t,
+      subst (λ (p : ℕ). 2 * (wells s + p) * (wells s + p) ≤ length (g .gauss-jordan-invert-uked .last .0)) (sym (counted d))
+      (omega (arith, work-long s a t, g .gauss-jordan-invert-uked .kept .0, at-matrix g .assemble .kept .1 .1 .1 .1 .1 .0)),
+      predicted-long s a t,
+      variance-long s a t,
+      verdicts-long s a t,
+      weights-long s a t,
+      subst (λ (p : ℕ). p ≤ length (at-entry d .args .coefficients .now)) (sym (counted d)) (coefficients-long s a t),
+    )
+
+-- src/lib.rt:177:49
+enum-told-2 : tie.Need-enum-told-2
+enum-told-2 c = search needs
+
+-- src/lib.rt:178:47
+enum-told-3 : tie.Need-enum-told-3
+enum-told-3 c = search needs
+
+abbrev at-nodes : tie.After-slice-known13 → tie.After-krige-nodes
+at-nodes c = c .before .before .before .before .before .before .before .before .before .before
+
+-- src/lib.rt:125:1
+same-length : tie.Need-same-length
+same-length c = search needs
+
+-- src/lib.rt:125:1
+same-length-2 : tie.Need-same-length-2
+same-length-2 c = search needs
+
+-- src/lib.rt:125:1
+same-length-3 : tie.Need-same-length-3
+same-length-3 c = search needs
+
+-- src/lib.rt:125:1
+same-length-4 : tie.Need-same-length-4
+same-length-4 c = search needs
+
+-- src/lib.rt:125:1
+same-length-5 : tie.Need-same-length-5
+same-length-5 c = search needs
+
+-- src/lib.rt:125:1
+same-length-6 : tie.Need-same-length-6
+same-length-6 c = search needs
+
+-- src/lib.rt:125:1
+returns : tie.Need-returns
+unfolding afterElimination answered
+returns c =
+    let n = at-nodes c in
+    let g = at-solved (n .before) in
+    let d = at-columns (at-drift (at-matrix g)) in
+    let s = survey-of d in
+    let a = areas-of d in
+    ap (outcome 0) (n .krige-nodes .ensures (at-entry d .args .external .now) (drift-in (at-drift (at-matrix g))))
+    ∙ taken-there s a Done (g .gauss-jordan-invert-uked .last .0) (at-entry d .pre) (ap (λ (r : Elimination). elimination.outcomeOf r (g .gauss-jordan-invert-uked .last .0)) (sym (at-done (n .before) .enum-told .given .1)) ∙ eliminated-in g)
+
+-- src/lib.rt:125:1
+same-length-7 : tie.Need-same-length-7
+same-length-7 c = search needs
+
+-- src/lib.rt:125:1
+returns-2 : tie.Need-returns-2
+unfolding afterElimination
+returns-2 c =
+    let g = c .before .before .before .before in
+    let d = at-columns (at-drift (at-matrix g)) in
+    taken-there (survey-of d) (areas-of d) (Stopped _) (g .gauss-jordan-invert-uked .last .0) (at-entry d .pre)
+    (ap (λ (r : Elimination). elimination.outcomeOf r (g .gauss-jordan-invert-uked .last .0)) (sym (c .enum-told2 .given .1)) ∙ eliminated-in g)
+
+-- src/lib.rt:125:1
+same-length-8 : tie.Need-same-length-8
+same-length-8 c = search needs
+
+-- src/lib.rt:125:1
+returns-3 : tie.Need-returns-3
+returns-3 c =
+    let g = c .before .before .before .before in
+    let d = at-columns (at-drift (at-matrix g)) in
+    let s = survey-of d in
+    let w = at-entry d .args .work .now in
+    let short : elimination.eliminated true (size s) (assembled s w) .answer ≡ TooShort = ap (λ (o : elimination.Outcome). o .answer) (sym (eliminated-in g)) ∙ c .enum-told3 .given .1 in
+    absurd (not-short s w (work-long s (areas-of d) (at-entry d .pre)) (refused-exactly true (size s) (assembled s w) .0 short))
+
+pub fit-taken-spec : {M : Type 1} → statement M
+fit-taken-spec =
+    tie.close
+    (tie.spec
+    drift-columns-requires
+    slice-aggregate-fill-drift
+    fill-drift-requires
+    slice-aggregate-assemble
+    assemble-requires
+    add-gauss-jordan-invert-uked
+    gauss-jordan-invert-uked-requires
+    enum-told
+    slice-aggregate-krige-nodes
+    krige-nodes-requires
+    enum-told-2
+    enum-told-3
+    same-length
+    same-length-2
+    same-length-3
+    same-length-4
+    same-length-5
+    same-length-6
+    returns
+    same-length-7
+    returns-2
+    same-length-8
+    returns-3)
