@@ -128,9 +128,11 @@ assemble-requires c κs =
     let a = areas-of d in
     let t = at-entry d .pre in
     let k = coords-twice s a t in
-    let F = f .fill-drift .kept .1 .1 .1 .1 .1 .0 in
-    (omega arith, subst (λ (p : ℕ). wells s * p ≤ length (f .fill-drift .last .1 .1 .1 .1 .1 .0)) (sym (counted d)) (omega (arith, fits d, F)),
-    subst (λ (p : ℕ). 2 * (wells s + p) * (wells s + p) ≤ length (at-entry d .args .work .now)) (sym (counted d)) (work-long s a t))
+    let F = f .fill-drift .kept .1 .1 .1 .1 .1 .0 in (
+      omega arith,
+      subst (λ (p : ℕ). wells s * p ≤ length (f .fill-drift .last .1 .1 .1 .1 .1 .0)) (sym (counted d)) (omega (arith, fits d, F)),
+      subst (λ (p : ℕ). 2 * (wells s + p) * (wells s + p) ≤ length (at-entry d .args .work .now)) (sym (counted d)) (work-long s a t),
+    )
 
 -- src/lib.rt:156:55
 add-gauss-jordan-invert-uked : tie.Need-add-gauss-jordan-invert-uked
@@ -163,14 +165,13 @@ krige-nodes-requires c κs =
     let s = survey-of d in
     let a = areas-of d in
     let t = at-entry d .pre in
-    let k = coords-twice s a t in
-    (
+    let k = coords-twice s a t in (
       omega arith,
       sym (counted d),
       omega (arith, counted d, few-wells s a t, few-columns s a t),
       node-externals s a t,
       subst (λ (p : ℕ). 2 * (wells s + p) * (wells s + p) ≤ length (g .gauss-jordan-invert-uked .last .0)) (sym (counted d))
-      (omega (arith, work-long s a t, g .gauss-jordan-invert-uked .kept .0, at-matrix g .assemble .kept .1 .1 .1 .1 .1 .0)),
+          (omega (arith, work-long s a t, g .gauss-jordan-invert-uked .kept .0, at-matrix g .assemble .kept .1 .1 .1 .1 .1 .0)),
       predicted-long s a t,
       variance-long s a t,
       verdicts-long s a t,

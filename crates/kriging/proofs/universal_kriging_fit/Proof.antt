@@ -1,11 +1,43 @@
+-- `kriging::universal_kriging_fit` meets its contract: turned away as its rules say, or fitted; all that the contract says follows from the equation. Assumes nothing.
+use mathlib.Core.Path.{_≡_, ap, sym, _∙_}
 use borrow.Author.Needs.{needs}
+use Rattle.error.specs.declared.Judgement.{Judgement}
+use Rattle.error.specs.Numbers.{judged}
+use Rattle.survey.specs.declared.Limits.{Limits}
+use Rattle.survey.specs.Limits.{base}
+use Rattle.survey.specs.Survey.{Survey, surveyOf}
+use Rattle.kriging.specs.Areas.{Areas, areasOf}
+use Rattle.kriging.specs.Refusals.{refusal}
+use Rattle.kriging.proofs.Fitting.{refused-there}
+use Rattle.kriging.proofs.Promised.{promised}
 use Rattle.kriging.proofs.universal_kriging_fit.Statement.{statement}
 use Rattle.kriging.proofs.universal_kriging_fit.Tie as tie
-use Rattle.kriging.proofs.universal_kriging_fit.Reads as reads
-use Rattle.kriging.proofs.universal_kriging_fit.Lts as lts
-use Rattle.kriging.proofs.fit_taken.Reads as fit-taken-reads
-use Rattle.kriging.proofs.refusals.fit_refusal.Reads as fit-refusal-reads
-use Rattle.survey.proofs.Limits.base.Reads as base-reads
+
+-- The states that the needs look back to, in the order of the code: a name takes a later state back to its own.
+abbrev at-limits : tie.After-fit-refusal → tie.After-base
+at-limits c = c .before .before .before .before .before .before .before
+
+abbrev at-entry : tie.After-fit-refusal → tie.Start
+at-entry c = at-limits c .before .before .before .before .before .before .before .before .before .before .before .before .before
+
+abbrev at-taken : tie.After-fit-taken-arg6 → tie.After-enum-told
+at-taken c = c .before .before .before .before .before .before
+
+-- the survey and the areas that came
+abbrev survey-of : tie.After-fit-refusal → Survey
+survey-of c =
+    let a = at-entry c .args in
+    surveyOf (a .values .now) (a .coords .now) (a .drift-bases .now) (a .external-drift .now) (a .query-points .now) (a .query-external-drift .now)
+    (a .options) (a .tolerance)
+
+abbrev areas-of : tie.After-fit-refusal → Areas
+areas-of c =
+    let a = at-entry c .args in
+    areasOf (a .work .now) (a .predicted .now) (a .variance .now) (a .verdicts .now) (a .weights .now) (a .drift-coefficients .now)
+
+-- what the judgement says: the number of the refusal, with the limits of the base
+judgement : (c : tie.After-fit-refusal) → judged (c .fit-refusal .result) ≡ refusal base (survey-of c) (areas-of c)
+judgement c = c .fit-refusal .ensures ∙ ap (λ (l : Limits). refusal l (survey-of c) (areas-of c)) (at-limits c .base .ensures)
 
 -- src/lib.rt:87:9
 base-requires : tie.Need-base-requires
@@ -45,14 +77,20 @@ same-length-6 c = search needs
 
 -- src/lib.rt:104:9
 returns : tie.Need-returns
-returns c = ?
+returns c =
+    let f = c .before .before .before in
+    promised (survey-of f) (areas-of f)
+    (refused-there (survey-of f) (areas-of f) (c .before .judgement .given .0 .0) (ap judged (sym (c .before .judgement .given .1)) ∙ judgement f))
 
 enum-told : tie.Need-enum-told
 enum-told c = search needs
 
 -- src/lib.rt:106:5
 fit-taken-requires : tie.Need-fit-taken-requires
-fit-taken-requires c κs = ?
+fit-taken-requires c κs =
+    let t = at-taken c in
+    let f = t .before .before in
+    sym (judgement f) ∙ ap judged (t .enum-told .given .1)
 
 -- src/lib.rt:44:1
 same-length-7 : tie.Need-same-length-7
@@ -80,7 +118,10 @@ same-length-12 c = search needs
 
 -- src/lib.rt:44:1
 returns-2 : tie.Need-returns-2
-returns-2 c = ?
+returns-2 c =
+    let t = c .before .before .before .before .before .before .before .before .before .before .before .before in
+    let f = at-taken (t .before) .before .before in
+    promised (survey-of f) (areas-of f) (t .fit-taken .ensures)
 
 pub universal-kriging-fit-spec : {M : Type 1} → statement M
 universal-kriging-fit-spec =
