@@ -11,8 +11,8 @@ use Rattle.variogram.specs.declared.VariogramModel.the-variants.{Spherical}
 use Rattle.error.specs.Outcome.{Outcome, outcome}
 use Rattle.survey.specs.Limits.{base}
 use Rattle.survey.specs.Survey.{Survey, wells, nodeCount, columns, size}
-use Rattle.kriging.specs.Areas.{Areas}
-use Rattle.kriging.specs.Fit.{fitted}
+use Rattle.fit.specs.Areas.{Areas}
+use Rattle.fit.specs.Fit.{fitted}
 
 -- numbers by their bit patterns
 abbrev pub f : ℕ → Float

@@ -17,9 +17,9 @@ use Rattle.area.specs.Area.{written}
 use Rattle.area.proofs.Turns.{length-written}
 use Rattle.area.proofs.Places.{same-values, written-add}
 use Rattle.survey.specs.Survey.{codeColumns, columnSum, externalCount}
-use Rattle.kriging.specs.Drift.{block, driftRow}
-use Rattle.kriging.proofs.SystemDrift.{block-length}
-use Rattle.kriging.proofs.Nodes.{row-same}
+use Rattle.fit.specs.Drift.{block, driftRow}
+use Rattle.fit.proofs.SystemDrift.{block-length}
+use Rattle.fit.proofs.Nodes.{row-same}
 
 -- a row after the columns of the code c are stored from `col` on
 abbrev pub coded : ℕ → Float → Float → Float → ℕ → List Float → List Float

@@ -24,11 +24,11 @@ use Rattle.elimination.specs.Call.{called, callWhere, afterElimination}
 use Rattle.elimination.proofs.Call.{one-applies, none-applies}
 use Rattle.survey.specs.Limits.{base}
 use Rattle.survey.specs.Survey.{Survey, wells, columns, size}
-use Rattle.kriging.specs.Areas.{Areas}
-use Rattle.kriging.specs.Drift.{DriftIn, drift}
-use Rattle.kriging.specs.Assembly.{between, joined, entry, assembled}
-use Rattle.kriging.specs.Refusals.{refusal}
-use Rattle.kriging.specs.Fit.{fitCall, fitted}
+use Rattle.fit.specs.Areas.{Areas}
+use Rattle.fit.specs.Drift.{DriftIn, drift}
+use Rattle.fit.specs.Assembly.{between, joined, entry, assembled}
+use Rattle.fit.specs.Refusals.{refusal}
+use Rattle.fit.specs.Fit.{fitCall, fitted}
 use Rattle.kriging.proofs.MatrixEntries.{upper-left, upper-right, lower-left, lower-right}
 
 module _ (s : Survey) where

@@ -1,15 +1,5 @@
-pub mod Endings
-pub mod Exit
-pub mod Trend
-pub mod SystemDrift
 pub mod DriftRows
 pub mod MatrixEntries
-pub mod System
-pub mod SystemNode
-pub mod SystemDiagonal
-pub mod Nodes
-pub mod NodesAlone
-pub mod Values
 pub mod RightHand
 pub mod NodeParts
 pub mod Progress

@@ -12,7 +12,7 @@ use Rattle.variogram.specs.Distance.{distance2d}
 use Rattle.elimination.specs.Inverse.{besideIdentity}
 use Rattle.survey.specs.declared.UniversalKrigingOptions.{UniversalKrigingOptions}
 use Rattle.survey.specs.Survey.{xOf, yOf}
-use Rattle.kriging.specs.Assembly.{between, joined}
+use Rattle.fit.specs.Assembly.{between, joined}
 
 -- the matrix of n wells by its entries, where F has p columns and lies row after row
 abbrev pub matrix : List Float → UniversalKrigingOptions → List Float → ℕ → ℕ → ℕ → ℕ → Float

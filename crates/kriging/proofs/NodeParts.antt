@@ -17,10 +17,10 @@ use Rattle.audit.specs.Lists.{entryIn, weighedIn, auditedIn}
 use Rattle.audit.proofs.Same.{same-drift, same-given, same-joined}
 use Rattle.audit.proofs.Listed.{unread}
 use Rattle.survey.specs.Survey.{Survey, wells, columns, size}
-use Rattle.kriging.specs.Drift.{DriftIn, drift, nodeRow}
-use Rattle.kriging.specs.Node.{rightHandOf, rightHand, zOf, varianceOf, figureOf, weighedOf, auditOf, Solution, solutionOf, Node, nodeWith, nodeOf}
-use Rattle.kriging.proofs.SystemDrift.{node-row-length}
-use Rattle.kriging.proofs.System.{right-length}
+use Rattle.fit.specs.Drift.{DriftIn, drift, nodeRow}
+use Rattle.fit.specs.Node.{rightHandOf, rightHand, zOf, varianceOf, figureOf, weighedOf, auditOf, Solution, solutionOf, Node, nodeWith, nodeOf}
+use Rattle.fit.proofs.SystemDrift.{node-row-length}
+use Rattle.fit.proofs.System.{right-length}
 
 module _ (s : Survey) (work : List Float) (q : ℕ) where
   -- f0 is what stands in b past the wells

@@ -16,9 +16,9 @@ use Rattle.area.proofs.Places.{same-values, written-over}
 use Rattle.area.proofs.Filled.{next-row, one-fill}
 use Rattle.ieee.specs.Floats.{zeroFloat}
 use Rattle.survey.specs.Survey.{Survey, wells, nodeCount, columns, size}
-use Rattle.kriging.specs.Areas.{Areas, areasOf}
-use Rattle.kriging.specs.Node.{Node, nodeOf}
-use Rattle.kriging.specs.Fit.{coefficient, answered}
+use Rattle.fit.specs.Areas.{Areas, areasOf}
+use Rattle.fit.specs.Node.{Node, nodeOf}
+use Rattle.fit.specs.Fit.{coefficient, answered}
 
 -- coefficient j after q nodes: the last one's, and 0 where there is none
 abbrev lastOf : Survey → (ℕ → Node) → ℕ → ℕ → Float

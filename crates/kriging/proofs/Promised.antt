@@ -8,16 +8,16 @@ use Rattle.error.specs.Outcome.{Outcome}
 use Rattle.elimination.specs.Elimination.{stepped, StopsAt, Through}
 use Rattle.survey.specs.Limits.{base}
 use Rattle.survey.specs.Survey.{Survey, size}
-use Rattle.kriging.specs.Areas.{Areas, withWork}
-use Rattle.kriging.specs.Assembly.{assembled}
-use Rattle.kriging.specs.Rules.{rules}
-use Rattle.kriging.specs.Fit.{fitted}
-use Rattle.kriging.specs.Untouched.{Untouched}
-use Rattle.kriging.specs.System.{Kriged}
-use Rattle.kriging.specs.Trend.{TrendKept}
-use Rattle.kriging.proofs.Endings.{fit-ends, untouched}
-use Rattle.kriging.proofs.SystemNode.{kriged}
-use Rattle.kriging.proofs.Trend.{trend-in-the-base}
+use Rattle.fit.specs.Areas.{Areas, withWork}
+use Rattle.fit.specs.Assembly.{assembled}
+use Rattle.fit.specs.Rules.{rules}
+use Rattle.fit.specs.Fit.{fitted}
+use Rattle.fit.specs.Untouched.{Untouched}
+use Rattle.fit.specs.System.{Kriged}
+use Rattle.fit.specs.Trend.{TrendKept}
+use Rattle.fit.proofs.Endings.{fit-ends, untouched}
+use Rattle.fit.proofs.SystemNode.{kriged}
+use Rattle.fit.proofs.Trend.{trend-in-the-base}
 
 module _ (s : Survey) (a : Areas) where
   -- the clauses, in their order: equation, ruled, stopped, accepted, kept, kriged, trend

@@ -12,7 +12,7 @@ use Rattle.area.proofs.Turns.{length-written}
 use Rattle.area.proofs.Places.{at-place, other-place}
 use Rattle.area.proofs.Start.{from-start}
 use Rattle.area.proofs.Tables.{table-length, joined-at, joined-past}
-use Rattle.kriging.specs.Node.{rightHandOf}
+use Rattle.fit.specs.Node.{rightHandOf}
 
 module _ (n p : ℕ) (gamma : ℕ → Float) (f0 b : List Float) (width : length f0 ≡ p) (long : n + p ≤ length b) where
   abbrev first : List Float

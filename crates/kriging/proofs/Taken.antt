@@ -11,10 +11,10 @@ use Rattle.error.proofs.Rules.{none-exactly, no-condition}
 use Rattle.survey.specs.Limits.{base}
 use Rattle.survey.specs.Survey.{Survey, wells, nodeCount, columns, externals, size, columnsHeld}
 use Rattle.survey.proofs.Codes.{held-exact}
-use Rattle.kriging.specs.Areas.{Areas}
-use Rattle.kriging.specs.Rules.{rules}
-use Rattle.kriging.specs.Refusals.{tests, refusal}
-use Rattle.kriging.proofs.Endings.{told}
+use Rattle.fit.specs.Areas.{Areas}
+use Rattle.fit.specs.Rules.{rules}
+use Rattle.fit.specs.Refusals.{tests, refusal}
+use Rattle.fit.proofs.Endings.{told}
 
 module _ (s : Survey) (a : Areas) (taken : refusal base s a ≡ 0) where
   none-applies : NoneApplies (rules base s a)

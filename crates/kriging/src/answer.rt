@@ -9,10 +9,10 @@ ghost use lib.Ieee.{Float, nan};
 ghost use Rattle.area.specs.Area.{written};
 ghost use Rattle.ieee.specs.Floats.{zeroFloat};
 ghost use Rattle.survey.specs.Survey.{surveyOf, columnSum, externalCount};
-ghost use Rattle.kriging.specs.Areas.{areasOf};
-ghost use Rattle.kriging.specs.Drift.{DriftIn};
-ghost use Rattle.kriging.specs.Node.{nodeOf};
-ghost use Rattle.kriging.specs.Fit.{answered};
+ghost use Rattle.fit.specs.Areas.{areasOf};
+ghost use Rattle.fit.specs.Drift.{DriftIn};
+ghost use Rattle.fit.specs.Node.{nodeOf};
+ghost use Rattle.fit.specs.Fit.{answered};
 
 // Numbers, stored to an area from place `at` on.
 fn store(numbers: &[f64], area: &mut [f64], at: usize)

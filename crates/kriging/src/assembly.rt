@@ -6,7 +6,7 @@ ghost use lib.ListN.{length, getD};
 ghost use lib.Ieee.{nan};
 ghost use Rattle.area.specs.Area.{written};
 ghost use Rattle.elimination.specs.Inverse.{besideIdentity, laid};
-ghost use Rattle.kriging.specs.Assembly.{between, joined};
+ghost use Rattle.fit.specs.Assembly.{between, joined};
 
 // The entry between wells i and j: 0 + r on the diagonal, else the variogram.
 fn gamma(coords: &[f64], options: UniversalKrigingOptions, i: usize, j: usize) -> f64

@@ -6,7 +6,7 @@ ghost use lib.ListN.{length, getD};
 ghost use lib.Ieee.{nan};
 ghost use Rattle.area.specs.Area.{written, filled};
 ghost use Rattle.survey.specs.Survey.{codeColumns, columnSum, externalCount, xOf, yOf};
-ghost use Rattle.kriging.specs.Drift.{block, driftRow};
+ghost use Rattle.fit.specs.Drift.{block, driftRow};
 
 // How many columns a code gives.
 fn drift_basis_columns(code: u8) -> usize

@@ -12,8 +12,8 @@ ghost use Rattle.elimination.specs.Inverse.{timesInverse};
 ghost use Rattle.audit.specs.Audit.{driftFinite, columnVerdictGiven};
 ghost use Rattle.audit.specs.Lists.{entryIn, weighedIn};
 ghost use Rattle.survey.specs.Survey.{surveyOf, columnSum, externalCount, size, xOf, yOf};
-ghost use Rattle.kriging.specs.Drift.{driftRow, DriftIn};
-ghost use Rattle.kriging.specs.Node.{gammaTo, rightHandOf, zOf, varianceOf, nodeOf};
+ghost use Rattle.fit.specs.Drift.{driftRow, DriftIn};
+ghost use Rattle.fit.specs.Node.{gammaTo, rightHandOf, zOf, varianceOf, nodeOf};
 
 // The variogram from a place to each of the n wells.
 fn fill_gamma(coords: &[f64], variogram: Variogram, x: f64, y: f64, n: usize, b: &mut [f64])

@@ -3,7 +3,7 @@ use mathlib.Core.Path.{refl}
 use lib.Ieee.{ofBits, toBits, add, sub, mul, div, lt, le, eq, ofInt, toUnsigned, round}
 use Rattle.ieee.specs.Root.{sqrtOf}
 use Rattle.variogram.specs.Model.{semivariance}
-use Rattle.kriging.specs.Fit.{fitted}
+use Rattle.fit.specs.Fit.{fitted}
 use Rattle.interpolator.specs.Interpolation.{interpolated}
 use Rattle.semivariogram.specs.Semivariogram.{calculated}
 use Rattle.soundings.specs.Soundings.{Soundings}

@@ -11,8 +11,8 @@ use Rattle.variogram.specs.declared.VariogramModel.the-variants.{Spherical, Lin
 use Rattle.error.specs.Outcome.{Outcome, outcome}
 use Rattle.survey.specs.Limits.{base}
 use Rattle.survey.specs.Survey.{Survey}
-use Rattle.kriging.specs.Areas.{Areas}
-use Rattle.kriging.specs.Fit.{fitted}
+use Rattle.fit.specs.Areas.{Areas}
+use Rattle.fit.specs.Fit.{fitted}
 use Rattle.interpolator.specs.declared.KrigingType.the-variants.{Ordinary}
 use Rattle.interpolator.specs.Call as interpolator
 use Rattle.interpolator.specs.Interpolation.{interpolated}

@@ -18,10 +18,10 @@ use Rattle.elimination.specs.Call.{afterElimination}
 use Rattle.elimination.proofs.Laid.{kept-laid}
 use Rattle.elimination.proofs.Stops.{refused-exactly}
 use Rattle.survey.specs.Survey.{Survey, surveyOf, wells, columns, size, xOf, yOf}
-use Rattle.kriging.specs.Areas.{Areas, areasOf}
-use Rattle.kriging.specs.Drift.{DriftIn, driftRow, drift}
-use Rattle.kriging.specs.Assembly.{between, joined, entry, assembled}
-use Rattle.kriging.specs.Fit.{answered}
+use Rattle.fit.specs.Areas.{Areas, areasOf}
+use Rattle.fit.specs.Drift.{DriftIn, driftRow, drift}
+use Rattle.fit.specs.Assembly.{between, joined, entry, assembled}
+use Rattle.fit.specs.Fit.{answered}
 use Rattle.kriging.proofs.Taken.{few-wells, few-columns, columns-counted, coords-twice, externals-whole, node-externals, work-long, predicted-long, variance-long, verdicts-long, weights-long, coefficients-long}
 use Rattle.kriging.proofs.Fitting.{drift-laid, matrix-laid, taken-there}
 use Rattle.kriging.proofs.fit_taken.Statement.{statement}

@@ -6,8 +6,8 @@ use Rattle.error.specs.Numbers.{judged}
 use Rattle.survey.specs.declared.Limits.{Limits}
 use Rattle.survey.specs.Limits.{base}
 use Rattle.survey.specs.Survey.{Survey, surveyOf}
-use Rattle.kriging.specs.Areas.{Areas, areasOf}
-use Rattle.kriging.specs.Refusals.{refusal}
+use Rattle.fit.specs.Areas.{Areas, areasOf}
+use Rattle.fit.specs.Refusals.{refusal}
 use Rattle.kriging.proofs.Fitting.{refused-there}
 use Rattle.kriging.proofs.Promised.{promised}
 use Rattle.kriging.proofs.universal_kriging_fit.Statement.{statement}

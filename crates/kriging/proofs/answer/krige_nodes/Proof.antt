@@ -12,9 +12,9 @@ use lib.Ieee.{Float, nan}
 use Rattle.audit.specs.Audit.{driftFinite}
 use Rattle.audit.specs.Lists.{entryIn}
 use Rattle.survey.specs.Survey.{Survey, surveyOf, columnSum, externalCount}
-use Rattle.kriging.specs.Areas.{areasOf}
-use Rattle.kriging.specs.Drift.{DriftIn}
-use Rattle.kriging.specs.Node.{nodeOf}
+use Rattle.fit.specs.Areas.{areasOf}
+use Rattle.fit.specs.Drift.{DriftIn}
+use Rattle.fit.specs.Node.{nodeOf}
 use Rattle.kriging.proofs.Progress.{Progress, none-yet, one-more, all-nodes}
 use Rattle.kriging.proofs.answer.krige_nodes.Statement.{statement}
 use Rattle.kriging.proofs.answer.krige_nodes.Tie as tie

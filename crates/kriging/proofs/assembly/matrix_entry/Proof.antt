@@ -6,7 +6,7 @@ use lib.Ieee.{Float, nan}
 use lib.ListN.{length, getD}
 use borrow.Author.Needs.{needs}
 use Rattle.area.proofs.Rows.{row-end}
-use Rattle.kriging.specs.Assembly.{between}
+use Rattle.fit.specs.Assembly.{between}
 use Rattle.kriging.proofs.MatrixEntries.{upper-left, upper-right, lower-left, lower-right}
 use Rattle.kriging.proofs.assembly.matrix_entry.Statement.{statement}
 use Rattle.kriging.proofs.assembly.matrix_entry.Tie as tie

@@ -10,7 +10,7 @@ use Rattle.area.specs.Area.{filled}
 use Rattle.area.proofs.Rows.{row-end}
 use Rattle.area.proofs.Filled.{next-row}
 use Rattle.survey.specs.Survey.{xOf, yOf}
-use Rattle.kriging.specs.Drift.{driftRow}
+use Rattle.fit.specs.Drift.{driftRow}
 use Rattle.kriging.proofs.drift.fill_drift.Statement.{statement}
 use Rattle.kriging.proofs.drift.fill_drift.Tie as tie
 

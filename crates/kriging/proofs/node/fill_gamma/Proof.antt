@@ -9,7 +9,7 @@ use Rattle.area.specs.Area.{written}
 use Rattle.area.proofs.Start.{next-start}
 use Rattle.area.proofs.Places.{all-turns}
 use Rattle.variogram.specs.Model.{semivariance}
-use Rattle.kriging.specs.Node.{gammaTo}
+use Rattle.fit.specs.Node.{gammaTo}
 use Rattle.kriging.proofs.node.fill_gamma.Statement.{statement}
 use Rattle.kriging.proofs.node.fill_gamma.Tie as tie
 

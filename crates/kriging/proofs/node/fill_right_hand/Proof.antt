@@ -4,7 +4,7 @@ use mathlib.Core.Path.{_≡_, ap, sym, _∙_}
 use native.Mathlib.Omega.{arith}
 use borrow.Author.Needs.{needs}
 use Rattle.survey.specs.Survey.{columnSum}
-use Rattle.kriging.proofs.SystemDrift.{row-length}
+use Rattle.fit.proofs.SystemDrift.{row-length}
 use Rattle.kriging.proofs.RightHand.{filled-right}
 use Rattle.kriging.proofs.node.fill_right_hand.Statement.{statement}
 use Rattle.kriging.proofs.node.fill_right_hand.Tie as tie

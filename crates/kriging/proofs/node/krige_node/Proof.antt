@@ -11,8 +11,8 @@ use Rattle.audit.specs.Audit.{verdictWith}
 use Rattle.audit.specs.Lists.{weighedIn, auditedIn}
 use Rattle.audit.proofs.Bounds.{columns-bound, verdict-bound}
 use Rattle.survey.specs.Survey.{Survey, surveyOf, wells, nodeX, nodeY}
-use Rattle.kriging.specs.Drift.{driftRow}
-use Rattle.kriging.specs.Node.{gammaTo, rightHandOf, rightHand}
+use Rattle.fit.specs.Drift.{driftRow}
+use Rattle.fit.specs.Node.{gammaTo, rightHandOf, rightHand}
 use Rattle.kriging.proofs.NodeParts.{node-is}
 use Rattle.kriging.proofs.node.krige_node.Statement.{statement}
 use Rattle.kriging.proofs.node.krige_node.Tie as tie

@@ -11,7 +11,7 @@ use Rattle.area.proofs.Tables.{take-start}
 use Rattle.ieee.specs.Floats.{zeroFloat, maxOf}
 use Rattle.audit.specs.Audit.{columnVerdictGiven}
 use Rattle.audit.specs.Lists.{weighedIn}
-use Rattle.kriging.specs.Node.{zOf, varianceOf}
+use Rattle.fit.specs.Node.{zOf, varianceOf}
 use Rattle.kriging.proofs.node.solve_node.Statement.{statement}
 use Rattle.kriging.proofs.node.solve_node.Tie as tie
 

@@ -15,8 +15,8 @@ use Rattle.elimination.specs.Call.{workTests}
 use Rattle.survey.specs.Survey.{Survey, surveyOf, wells, nodeCount, columns, size}
 use Rattle.survey.specs.Refusals.{surveyTests, surveyRefusal}
 use Rattle.survey.proofs.Accepted.{survey-first, counted-exactly}
-use Rattle.kriging.specs.Areas.{Areas, areasOf}
-use Rattle.kriging.specs.Refusals.{shortAnswer, answerTests, tests, refusal}
+use Rattle.fit.specs.Areas.{Areas, areasOf}
+use Rattle.fit.specs.Refusals.{shortAnswer, answerTests, tests, refusal}
 use Rattle.kriging.proofs.refusals.fit_refusal.Statement.{statement}
 use Rattle.kriging.proofs.refusals.fit_refusal.Tie as tie
 

@@ -20,13 +20,13 @@ use Rattle.survey.specs.declared.Limits.{Limits}
 use Rattle.survey.specs.Limits.{base}
 use Rattle.survey.specs.Survey.{Survey, wells, nodeCount, columns, size, valueAt}
 use Rattle.survey.proofs.Told.{survey-told}
-use Rattle.kriging.specs.Areas.{Areas, withWork}
-use Rattle.kriging.specs.Assembly.{assembled}
-use Rattle.kriging.specs.Node.{nodeOf}
-use Rattle.kriging.specs.Rules.{answerRules, rules}
-use Rattle.kriging.specs.Refusals.{answerTests, tests, refusal}
-use Rattle.kriging.specs.Fit.{answered, fitCall, fitted}
-use Rattle.kriging.specs.Untouched.{Untouched}
+use Rattle.fit.specs.Areas.{Areas, withWork}
+use Rattle.fit.specs.Assembly.{assembled}
+use Rattle.fit.specs.Node.{nodeOf}
+use Rattle.fit.specs.Rules.{answerRules, rules}
+use Rattle.fit.specs.Refusals.{answerTests, tests, refusal}
+use Rattle.fit.specs.Fit.{answered, fitCall, fitted}
+use Rattle.fit.specs.Untouched.{Untouched}
 
 answer-told : (s : Survey) (a : Areas) → Told (answerTests s a) (answerRules s a)
 answer-told s a =

@@ -11,10 +11,10 @@ use Rattle.area.specs.Area.{table}
 use Rattle.variogram.specs.Model.{semivariance}
 use Rattle.variogram.specs.Distance.{distance2d}
 use Rattle.survey.specs.Survey.{Survey, wells, size, externalCount, wellX, wellY, nodeX, nodeY, nodeExternalAt}
-use Rattle.kriging.specs.Drift.{block, driftRow, nodeRow}
-use Rattle.kriging.specs.Assembly.{entry, assembled}
-use Rattle.kriging.specs.Node.{rightHand, solutionOf, nodeWith, nodeOf}
-use Rattle.kriging.specs.Alike.{SameWells, SameNode}
+use Rattle.fit.specs.Drift.{block, driftRow, nodeRow}
+use Rattle.fit.specs.Assembly.{entry, assembled}
+use Rattle.fit.specs.Node.{rightHand, solutionOf, nodeWith, nodeOf}
+use Rattle.fit.specs.Alike.{SameWells, SameNode}
 
 -- ---- a drift row reads the external columns that its codes take, and no other
 block-same : (c : ℕ) (x y e f : Float) → (eqb c 4 ≡ true → e ≡ f) → block c x y e ≡ block c x y f

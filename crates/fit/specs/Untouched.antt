@@ -2,7 +2,7 @@
 use Prim.Native.Nat.{_*_}
 use Rattle.area.specs.Area.{Kept}
 use Rattle.survey.specs.Survey.{Survey, wells, nodeCount, columns, size}
-use Rattle.kriging.specs.Areas.{Areas}
+use Rattle.fit.specs.Areas.{Areas}
 
 pub record Untouched (s : Survey) (a b : Areas) : Type 0 where
   pub work : Kept (2 * size s * size s) (a .work) (b .work)

@@ -6,24 +6,16 @@ use lib.Dec.{eqb}
 use lib.ListN.{getD}
 use lib.Ieee.{Float, nan}
 use Rattle.area.specs.Area.{written}
-use Rattle.error.specs.Numbers.{numberOf}
-use Rattle.error.specs.Outcome.{Outcome, outcome}
+use Rattle.error.specs.Outcome.{Outcome}
 use Rattle.ieee.specs.Floats.{zeroFloat}
 use Rattle.elimination.specs.Elimination.{stepped}
 use Rattle.elimination.specs.Call.{Call, called}
 use Rattle.survey.specs.declared.Limits.{Limits}
 use Rattle.survey.specs.Survey.{Survey, wells, nodeCount, columns, size}
-use Rattle.kriging.specs.declared.Fit.{Fit}
-use Rattle.kriging.specs.declared.Fit.the-variants.{Done, Refused}
-use Rattle.kriging.specs.Areas.{Areas, withWork}
-use Rattle.kriging.specs.Assembly.{entry, assembled}
-use Rattle.kriging.specs.Node.{Node, nodeOf}
-use Rattle.kriging.specs.Refusals.{refusal}
-
--- how a fit with this answer and these areas at exit ended: 0 where the areas hold the fit, else the refusal's number
-abbrev pub outcomeOf : Fit → Areas → Outcome Areas
-outcomeOf Done a = outcome 0 a
-outcomeOf (Refused r) a = outcome (numberOf r) a
+use Rattle.fit.specs.Areas.{Areas, withWork}
+use Rattle.fit.specs.Assembly.{entry, assembled}
+use Rattle.fit.specs.Node.{Node, nodeOf}
+use Rattle.fit.specs.Refusals.{refusal}
 
 -- "The coefficient area gets .. the last p entries of the last node's z; zeros if m = 0."
 abbrev pub coefficient : Survey → (ℕ → Node) → ℕ → Float

@@ -12,10 +12,10 @@ use Rattle.variogram.specs.Model.{semivariance}
 use Rattle.variogram.specs.Distance.{distance2d}
 use Rattle.survey.specs.Survey.{Survey, wells, columns, wellX, wellY, nodeX, nodeY}
 use Rattle.audit.specs.Audit.{columnVerdict}
-use Rattle.kriging.specs.Drift.{driftRow, drift, nodeRow}
-use Rattle.kriging.specs.Assembly.{between, joined, entry}
-use Rattle.kriging.specs.Node.{gammaTo, rightHandOf, rightHand, zOf, varianceOf, Solution, solutionOf}
-use Rattle.kriging.specs.Alike.{SameButValues}
+use Rattle.fit.specs.Drift.{driftRow, drift, nodeRow}
+use Rattle.fit.specs.Assembly.{between, joined, entry}
+use Rattle.fit.specs.Node.{gammaTo, rightHandOf, rightHand, zOf, varianceOf, Solution, solutionOf}
+use Rattle.fit.specs.Alike.{SameButValues}
 
 -- t with s's values
 abbrev withValues : Survey → List Float → Survey

@@ -11,14 +11,14 @@ use Rattle.elimination.specs.Elimination.{stepped, Agree}
 use Rattle.elimination.proofs.Agree.{agree-stepped, agree-laid, same-inverse}
 use Rattle.survey.specs.declared.Limits.{Limits}
 use Rattle.survey.specs.Survey.{Survey, nodeCount, size}
-use Rattle.kriging.specs.Areas.{Areas}
-use Rattle.kriging.specs.Assembly.{entry, assembled}
-use Rattle.kriging.specs.Node.{rightHand, zOf, Node, solutionOf, nodeWith, nodeOf}
-use Rattle.kriging.specs.Fit.{worked, fitted}
-use Rattle.kriging.specs.Alike.{SameWells, SameNode, SameAnswer}
-use Rattle.kriging.proofs.Endings.{work-long}
-use Rattle.kriging.proofs.Nodes.{node-alone, size-same, assembled-same}
-use Rattle.kriging.proofs.Exit.{figure-at, variance-at, verdict-at, weight-at}
+use Rattle.fit.specs.Areas.{Areas}
+use Rattle.fit.specs.Assembly.{entry, assembled}
+use Rattle.fit.specs.Node.{rightHand, zOf, Node, solutionOf, nodeWith, nodeOf}
+use Rattle.fit.specs.Fit.{worked, fitted}
+use Rattle.fit.specs.Alike.{SameWells, SameNode, SameAnswer}
+use Rattle.fit.proofs.Endings.{work-long}
+use Rattle.fit.proofs.Nodes.{node-alone, size-same, assembled-same}
+use Rattle.fit.proofs.Exit.{figure-at, variance-at, verdict-at, weight-at}
 
 -- a node reads the right half of the matrix alone
 z-agree : (s : ℕ) (xs ys b : List Float) → Agree (s * (2 * s)) xs ys → zOf s xs b ≡ zOf s ys b

@@ -10,7 +10,7 @@ use Rattle.ieee.specs.Floats.{zeroFloat}
 use Rattle.elimination.specs.Inverse.{laid}
 use Rattle.survey.specs.declared.UniversalKrigingOptions.{UniversalKrigingOptions}
 use Rattle.survey.specs.Survey.{Survey, wells, size, xOf, yOf}
-use Rattle.kriging.specs.Drift.{drift}
+use Rattle.fit.specs.Drift.{drift}
 
 -- "variogram between different wells, 0 + r on the diagonal", of wells at these coordinates
 unfoldable pub between : UniversalKrigingOptions → List Float → ℕ → ℕ → Float

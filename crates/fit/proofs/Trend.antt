@@ -11,12 +11,12 @@ use Rattle.audit.specs.Audit.{Audited, verdictOf}
 use Rattle.audit.specs.Trend.{Verdict}
 use Rattle.audit.proofs.Same.{same-verdict}
 use Rattle.audit.proofs.Verdict.{verdict-is, trend-bound}
-use Rattle.kriging.specs.Areas.{Areas}
-use Rattle.kriging.specs.Node.{auditOf, solutionOf, nodeWith, nodeOf}
-use Rattle.kriging.specs.Fit.{worked, fitted}
-use Rattle.kriging.specs.Trend.{TrendKept, atExit, verdictAtExit}
-use Rattle.kriging.proofs.Endings.{few-columns, finite-tolerance, finite-values}
-use Rattle.kriging.proofs.Exit.{figure-at, verdict-at, weight-at}
+use Rattle.fit.specs.Areas.{Areas}
+use Rattle.fit.specs.Node.{auditOf, solutionOf, nodeWith, nodeOf}
+use Rattle.fit.specs.Fit.{worked, fitted}
+use Rattle.fit.specs.Trend.{TrendKept, atExit, verdictAtExit}
+use Rattle.fit.proofs.Endings.{few-columns, finite-tolerance, finite-values}
+use Rattle.fit.proofs.Exit.{figure-at, verdict-at, weight-at}
 
 module _ (limits : Limits) (s : Survey) (a : Areas) where
   exit : ℕ → Audited

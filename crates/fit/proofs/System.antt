@@ -15,13 +15,13 @@ use Rattle.survey.specs.declared.UniversalKrigingOptions.{UniversalKrigingOptio
 use Rattle.survey.specs.Survey.{Survey, wells, columns, size, xOf, yOf}
 use Rattle.ieee.specs.Floats.{zeroFloat, oneFloat}
 use Rattle.elimination.proofs.Laid.{laid-left, laid-one, laid-zero}
-use Rattle.kriging.specs.Drift.{drift, nodeRow}
-use Rattle.kriging.specs.Assembly.{between, joined, entry, assembled}
+use Rattle.fit.specs.Drift.{drift, nodeRow}
+use Rattle.fit.specs.Assembly.{between, joined, entry, assembled}
 use Rattle.ieee.specs.Sums.{runningSum}
 use Rattle.area.specs.Area.{table}
-use Rattle.kriging.specs.Node.{rightHandOf, rightHand}
-use Rattle.kriging.specs.System.{nodePlace, variogramOf, Index, Well, Drift, Within, coefficientOf, rightOf, varianceSum, rowOf}
-use Rattle.kriging.proofs.SystemDrift.{drift-well, drift-node, node-row-length}
+use Rattle.fit.specs.Node.{rightHandOf, rightHand}
+use Rattle.fit.specs.System.{nodePlace, variogramOf, Index, Well, Drift, Within, coefficientOf, rightOf, varianceSum, rowOf}
+use Rattle.fit.proofs.SystemDrift.{drift-well, drift-node, node-row-length}
 use Rattle.area.proofs.Tables.{table-length, joined-at, joined-past}
 use Rattle.ieee.proofs.Sums.{sum-on}
 

@@ -9,10 +9,10 @@ use Rattle.area.proofs.Start.{from-start}
 use Rattle.area.proofs.Rows.{row-end}
 use Rattle.survey.specs.declared.Limits.{Limits}
 use Rattle.survey.specs.Survey.{Survey, wells, nodeCount, columns}
-use Rattle.kriging.specs.Areas.{Areas}
-use Rattle.kriging.specs.Node.{nodeOf}
-use Rattle.kriging.specs.Fit.{coefficient, answered, worked, fitted}
-use Rattle.kriging.proofs.Endings.{fit-ends, predicted-long, variance-long, verdicts-long, weights-long, coefficients-long}
+use Rattle.fit.specs.Areas.{Areas}
+use Rattle.fit.specs.Node.{nodeOf}
+use Rattle.fit.specs.Fit.{coefficient, answered, worked, fitted}
+use Rattle.fit.proofs.Endings.{fit-ends, predicted-long, variance-long, verdicts-long, weights-long, coefficients-long}
 
 inside : (n m q i : ℕ) → q < m → i < n → q * n + i < n * m
 inside n m q i h b = let e = row-end n q m h in omega arith

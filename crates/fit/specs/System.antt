@@ -16,7 +16,7 @@ use Rattle.elimination.specs.Inverse.{inverseAt}
 use Rattle.variogram.specs.Model.{semivariance}
 use Rattle.variogram.specs.Distance.{distance2d}
 use Rattle.survey.specs.Survey.{Survey, wells, nodeCount, columns, size, wellX, wellY, wellExternal, nodeX, nodeY, nodeExternalAt, valueAt}
-use Rattle.kriging.specs.Areas.{Areas}
+use Rattle.fit.specs.Areas.{Areas}
 
 -- ---- places: x_i of a well and x_0 of a node
 

@@ -9,8 +9,8 @@ use lib.Dec.{eqb}
 use lib.ListN.{length, getD, length-append, length-map}
 use lib.Ieee.{Float, nan}
 use Rattle.survey.specs.Survey.{Survey, codeColumns, columnSum, columns}
-use Rattle.kriging.specs.Drift.{block, driftRow, wellRow, nodeRow, drift}
-use Rattle.kriging.specs.System.{Place, wellPlace, nodePlace, Monomial, valueOf, basis, monomials, driftAt}
+use Rattle.fit.specs.Drift.{block, driftRow, wellRow, nodeRow, drift}
+use Rattle.fit.specs.System.{Place, wellPlace, nodePlace, Monomial, valueOf, basis, monomials, driftAt}
 
 -- ---- as many columns as the codes say
 length-cond : {A : Type 0} (b : Bool) (xs ys : List A) (m n : ℕ) → length xs ≡ m → length ys ≡ n → length (cond b xs ys) ≡ cond b m n

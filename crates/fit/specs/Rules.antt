@@ -9,7 +9,7 @@ use Rattle.elimination.specs.Call.{workRules}
 use Rattle.survey.specs.declared.Limits.{Limits}
 use Rattle.survey.specs.Survey.{Survey, wells, nodeCount, columns, size}
 use Rattle.survey.specs.Rules.{surveyRules}
-use Rattle.kriging.specs.Areas.{Areas}
+use Rattle.fit.specs.Areas.{Areas}
 
 -- 18: "an answer area too short: m figures and variances; in a fit also m verdicts, n·m weights (node after node), p coefficients"
 abbrev pub ShortAnswer : Survey → Areas → Type 0

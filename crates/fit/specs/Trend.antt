@@ -9,8 +9,8 @@ use Rattle.error.specs.Outcome.{Outcome}
 use Rattle.survey.specs.Survey.{Survey, wells, nodeCount, columns, valueAt}
 use Rattle.audit.specs.Audit.{Audited}
 use Rattle.audit.specs.Trend.{Verdict, TrendBound}
-use Rattle.kriging.specs.Areas.{Areas}
-use Rattle.kriging.specs.Drift.{drift, nodeRow}
+use Rattle.fit.specs.Areas.{Areas}
+use Rattle.fit.specs.Drift.{drift, nodeRow}
 
 -- node q as the areas at exit have it: its weights and its figure are those that the fit wrote; "Column entries are those of F and f0, the f64 numbers of the assembly and of the node"
 abbrev pub atExit : Survey → Areas → ℕ → Audited

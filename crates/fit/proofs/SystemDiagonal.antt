@@ -14,10 +14,10 @@ use Rattle.variogram.proofs.Itself.{distance2d-itself, variogram-itself}
 use Rattle.error.specs.Rules.{NoneApplies}
 use Rattle.survey.specs.declared.Limits.{Limits}
 use Rattle.survey.specs.Survey.{Survey, wells, wellX, wellY}
-use Rattle.kriging.specs.Areas.{Areas}
-use Rattle.kriging.specs.Rules.{rules}
-use Rattle.kriging.specs.System.{wellPlace, variogramOf, Well, coefficientOf}
-use Rattle.kriging.proofs.Endings.{finite-coords, coords-length}
+use Rattle.fit.specs.Areas.{Areas}
+use Rattle.fit.specs.Rules.{rules}
+use Rattle.fit.specs.System.{wellPlace, variogramOf, Well, coefficientOf}
+use Rattle.fit.proofs.Endings.{finite-coords, coords-length}
 
 own-variogram : (v : Variogram) (x y : Float) → T (finite x) → T (finite y) → semivariance v (distance2d x y x y) ≡ zeroFloat
 own-variogram v x y hx hy = ap (semivariance v) (distance2d-itself x y hx hy) ∙ variogram-itself v

@@ -15,12 +15,12 @@ use Rattle.ieee.proofs.Sums.{same-sum, same-added, sum-on}
 use Rattle.elimination.specs.Inverse.{inverseAt, timesInverse}
 use Rattle.survey.specs.declared.Limits.{Limits}
 use Rattle.survey.specs.Survey.{Survey, wells, nodeCount, columns, size, valueAt}
-use Rattle.kriging.specs.Areas.{Areas}
-use Rattle.kriging.specs.Node.{zOf, figureOf, varianceOf, rightHand, solutionOf, nodeWith, nodeOf}
-use Rattle.kriging.specs.Fit.{coefficient, worked, fitted}
-use Rattle.kriging.specs.System.{Place, nodePlace, Index, Well, Drift, Within, rightOf, varianceSum, rowOf, unknownOf, Kriged}
-use Rattle.kriging.proofs.System.{row-below, right-is, variance-is}
-use Rattle.kriging.proofs.Exit.{work-at, figure-at, variance-at, weight-at, coefficient-at}
+use Rattle.fit.specs.Areas.{Areas}
+use Rattle.fit.specs.Node.{zOf, figureOf, varianceOf, rightHand, solutionOf, nodeWith, nodeOf}
+use Rattle.fit.specs.Fit.{coefficient, worked, fitted}
+use Rattle.fit.specs.System.{Place, nodePlace, Index, Well, Drift, Within, rightOf, varianceSum, rowOf, unknownOf, Kriged}
+use Rattle.fit.proofs.System.{row-below, right-is, variance-is}
+use Rattle.fit.proofs.Exit.{work-at, figure-at, variance-at, weight-at, coefficient-at}
 
 module _ (s : Survey) (work : List Float) (q : ℕ) where
   -- "z = inverse times b, summed from 0 by rising column", b the right-hand side of the system

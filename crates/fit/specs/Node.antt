@@ -12,7 +12,7 @@ use Rattle.variogram.specs.Model.{semivariance}
 use Rattle.variogram.specs.Distance.{distance2d}
 use Rattle.survey.specs.Survey.{Survey, wells, columns, size, xOf, yOf, nodeX, nodeY, valueAt}
 use Rattle.audit.specs.Audit.{Weighed, Audited, columnVerdict, verdictWith}
-use Rattle.kriging.specs.Drift.{drift, nodeRow}
+use Rattle.fit.specs.Drift.{drift, nodeRow}
 
 -- "b is the variogram to each well ..": of the place x, y to well i
 unfoldable pub gammaTo : Variogram → List Float → Float → Float → ℕ → Float

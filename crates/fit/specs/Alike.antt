@@ -4,7 +4,7 @@ use mathlib.Core.Path.{_≡_}
 use lib.ListN.{getD}
 use lib.Ieee.{nan}
 use Rattle.survey.specs.Survey.{Survey, wells, externals, nodeX, nodeY, nodeExternalAt}
-use Rattle.kriging.specs.Areas.{Areas}
+use Rattle.fit.specs.Areas.{Areas}
 
 -- the same in everything but the lists of nodes
 pub record SameWells (s t : Survey) : Type 0 where

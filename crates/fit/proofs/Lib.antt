@@ -1,0 +1,10 @@
+pub mod Endings
+pub mod Exit
+pub mod Trend
+pub mod SystemDrift
+pub mod System
+pub mod SystemNode
+pub mod SystemDiagonal
+pub mod Nodes
+pub mod NodesAlone
+pub mod Values

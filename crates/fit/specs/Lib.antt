@@ -1,0 +1,11 @@
+pub mod Areas
+pub mod Drift
+pub mod Assembly
+pub mod Node
+pub mod Rules
+pub mod Refusals
+pub mod Fit
+pub mod Trend
+pub mod System
+pub mod Untouched
+pub mod Alike
