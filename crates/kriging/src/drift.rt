@@ -8,19 +8,6 @@ ghost use Rattle.area.specs.Area.{written, filled};
 ghost use Rattle.survey.specs.Survey.{codeColumns, columnSum, externalCount, xOf, yOf};
 ghost use Rattle.fit.specs.Drift.{block, driftRow};
 
-// How many columns a code gives.
-fn drift_basis_columns(code: u8) -> usize
-    ensures { λ r. ⌜ r ≡ codeColumns code ⌝ }
-{
-    match code {
-        1 => 1,
-        2 => 3,
-        3 => 6,
-        4 => 1,
-        _ => 0,
-    }
-}
-
 // 1, x, y
 fn fill_linear(row: &mut [f64], col: usize, x: f64, y: f64)
     requires { ⌜ col + 3 ≤ length (now row) ⌝ }
@@ -87,7 +74,7 @@ fn fill_row(
         } else {
             fill_powers(code, x, y, row, col);
         }
-        col += drift_basis_columns(code);
+        col += survey::counts::drift_basis_columns(code);
     }
 }
 

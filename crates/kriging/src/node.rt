@@ -54,11 +54,11 @@ fn weighted_sum(z: &[f64], numbers: &[f64], count: usize) -> f64
     requires { ⌜ (count ≤ length (now z)) × (count ≤ length (now numbers)) ⌝ }
     ensures { λ r. ⌜ r ≡ runningSum count (λ i. mul binary64 (getD (now (z .entry)) i nan) (getD (now (numbers .entry)) i nan)) ⌝ }
 {
-    let mut acc = 0.0;
+    let mut sum = 0.0;
     for i in 0..count {
-        acc += z[i] * numbers[i];
+        sum += z[i] * numbers[i];
     }
-    acc
+    sum
 }
 
 // b of node q: the variogram to each of the n wells, then f0.

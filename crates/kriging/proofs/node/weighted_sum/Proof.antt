@@ -1,4 +1,4 @@
--- `kriging::node::weighted_sum` meets its contract: after i turns acc is the sum of the first i products. Assumes nothing.
+-- `kriging::node::weighted_sum` meets its contract: after i turns sum is the sum of the first i products. Assumes nothing.
 use Prim.Native.Nat.{ℕ, _≤_, _*_, _+_, _-_}
 use mathlib.Core.Path.{_≡_, refl, ap, sym, _∙_}
 use native.Mathlib.Omega.{arith}
@@ -11,31 +11,31 @@ use Rattle.kriging.proofs.node.weighted_sum.Statement.{statement}
 use Rattle.kriging.proofs.node.weighted_sum.Tie as tie
 
 abbrev Inv-loop : tie.InvT-loop
-Inv-loop z numbers count acc₀ i₀ acc i =
-    (i ≤ count) × (acc ≡ runningSum i (λ k. mul binary64 (getD z k nan) (getD numbers k nan)))
+Inv-loop z numbers count sum₀ i₀ sum i =
+    (i ≤ count) × (sum ≡ runningSum i (λ k. mul binary64 (getD z k nan) (getD numbers k nan)))
 
 abbrev μ-loop : tie.MeasureT-loop
-μ-loop z numbers count acc₀ i₀ acc i = count - i
+μ-loop z numbers count sum₀ i₀ sum i = count - i
 
 -- src/node.rt:52:5
 loop-holds : tie.Need-loop-holds Inv-loop μ-loop
 loop-holds c = (omega arith, no-terms _)
 
 -- src/node.rt:53:16
-mul-acc : tie.Need-mul-acc Inv-loop μ-loop
-mul-acc c = omega arith
+mul-sum : tie.Need-mul-sum Inv-loop μ-loop
+mul-sum c = omega arith
 
 -- src/node.rt:53:16
-shared-slice-read-acc : tie.Need-shared-slice-read-acc Inv-loop μ-loop
-shared-slice-read-acc c = omega arith
+shared-slice-read-sum : tie.Need-shared-slice-read-sum Inv-loop μ-loop
+shared-slice-read-sum c = omega arith
 
 -- src/node.rt:53:23
-mul-acc-2 : tie.Need-mul-acc-2 Inv-loop μ-loop
-mul-acc-2 c = omega arith
+mul-sum-2 : tie.Need-mul-sum-2 Inv-loop μ-loop
+mul-sum-2 c = omega arith
 
 -- src/node.rt:53:23
-shared-slice-read-acc-2 : tie.Need-shared-slice-read-acc-2 Inv-loop μ-loop
-shared-slice-read-acc-2 c = omega arith
+shared-slice-read-sum-2 : tie.Need-shared-slice-read-sum-2 Inv-loop μ-loop
+shared-slice-read-sum-2 c = omega arith
 
 -- src/node.rt:52:9
 add-i : tie.Need-add-i Inv-loop μ-loop
@@ -47,7 +47,7 @@ loop-less c = omega arith
 
 -- src/node.rt:52:5
 loop-again : tie.Need-loop-again Inv-loop μ-loop
-loop-again c = let l = c .before .before .before .loop in (omega arith, sum-turn (l .i) _ (l .acc) _ refl (l .inv .1))
+loop-again c = let l = c .before .before .before .loop in (omega arith, sum-turn (l .i) _ (l .sum) _ refl (l .inv .1))
 
 -- src/node.rt:47:1
 returns : tie.Need-returns Inv-loop μ-loop
@@ -63,10 +63,10 @@ weighted-sum-spec =
     Inv-loop
     μ-loop
     loop-holds
-    mul-acc
-    shared-slice-read-acc
-    mul-acc-2
-    shared-slice-read-acc-2
+    mul-sum
+    shared-slice-read-sum
+    mul-sum-2
+    shared-slice-read-sum-2
     add-i
     loop-less
     loop-again
