@@ -305,7 +305,16 @@ fn compared(counts: &mut [u64], part: usize, same: bool) {
     }
 }
 
-// Compares what is lent of an area: its first numbers, as many as are told, with those that come in, and all past what is written with the marks.
+// One place of an area: of the first ones, as many as are told, what comes in; past what is written, the mark.
+fn compare_at(here: u64, at: usize, told: usize, written: usize, part: usize, counts: &mut [u64]) {
+    if at < told {
+        compared(counts, part, here == vectors::next_word().value);
+    } else if at >= written {
+        compared(counts, UNTOUCHED, here == mark_at(at));
+    }
+}
+
+// Compares what is lent of an area.
 fn compare(
     area: &[f64],
     lent: usize,
@@ -316,28 +325,84 @@ fn compare(
 ) {
     let mut at = 0;
     while at < area.len() && at < lent {
-        let here = vectors::pattern(area[at]);
-        if at < told {
-            compared(counts, part, here == vectors::next_word().value);
-        } else if at >= written {
-            compared(counts, UNTOUCHED, here == mark_at(at));
-        }
+        compare_at(vectors::pattern(area[at]), at, told, written, part, counts);
         at += 1;
     }
 }
 
-// The same of the verdicts, of which all that are written are told, a word each.
+// One verdict: of those that are written all are told, a word each.
+fn compare_verdict(here: u64, at: usize, written: usize, counts: &mut [u64]) {
+    if at < written {
+        compared(counts, VERDICTS, here == vectors::next_word().value);
+    } else {
+        compared(counts, UNTOUCHED, here == MARK_BYTE as u64);
+    }
+}
+
+fn wide(b: u8) -> u64 {
+    b as u64
+}
+
 fn compare_verdicts(area: &[u8], lent: usize, written: usize, counts: &mut [u64]) {
     let mut at = 0;
     while at < area.len() && at < lent {
-        let here = area[at];
-        if at < written {
-            compared(counts, VERDICTS, here as u64 == vectors::next_word().value);
-        } else {
-            compared(counts, UNTOUCHED, here == MARK_BYTE);
-        }
+        compare_verdict(wide(area[at]), at, written, counts);
         at += 1;
     }
+}
+
+// What stands at a node: its figure, its variance and its verdict.
+fn compare_nodes(
+    lent: Areas,
+    written: Areas,
+    predicted: &[f64],
+    variance: &[f64],
+    verdicts: &[u8],
+    counts: &mut [u64],
+) {
+    compare(
+        predicted,
+        lent.predicted,
+        written.predicted,
+        written.predicted,
+        FIGURES,
+        counts,
+    );
+    compare(
+        variance,
+        lent.variance,
+        written.variance,
+        written.variance,
+        VARIANCES,
+        counts,
+    );
+    compare_verdicts(verdicts, lent.verdicts, written.verdicts, counts);
+}
+
+// The weights and the coefficients.
+fn compare_weights(
+    lent: Areas,
+    written: Areas,
+    weights: &[f64],
+    coefficients: &[f64],
+    counts: &mut [u64],
+) {
+    compare(
+        weights,
+        lent.weights,
+        written.weights,
+        written.weights,
+        WEIGHT,
+        counts,
+    );
+    compare(
+        coefficients,
+        lent.coefficients,
+        written.coefficients,
+        written.coefficients,
+        COEFFICIENTS,
+        counts,
+    );
 }
 
 // Compares how a fit ended and what it left: the number comes in, then how much is written of each area, how much of the work area is told, and the areas.
@@ -356,39 +421,8 @@ fn compare_all(
     let written = next_areas();
     let told = next_size();
     compare(work, lent.work, told, written.work, WORK_AREA, counts);
-    compare(
-        predicted,
-        lent.predicted,
-        written.predicted,
-        written.predicted,
-        FIGURES,
-        counts,
-    );
-    compare(
-        variance,
-        lent.variance,
-        written.variance,
-        written.variance,
-        VARIANCES,
-        counts,
-    );
-    compare_verdicts(verdicts, lent.verdicts, written.verdicts, counts);
-    compare(
-        weights,
-        lent.weights,
-        written.weights,
-        written.weights,
-        WEIGHT,
-        counts,
-    );
-    compare(
-        coefficients,
-        lent.coefficients,
-        written.coefficients,
-        written.coefficients,
-        COEFFICIENTS,
-        counts,
-    );
+    compare_nodes(lent, written, predicted, variance, verdicts, counts);
+    compare_weights(lent, written, weights, coefficients, counts);
 }
 
 // A record's fit with areas of its own: how it ended, and whether all is as the record says.
