@@ -1,10 +1,10 @@
--- `vectors_fit::mark_bytes` is safe and ends: what is left of the area falls. Assumes nothing.
+-- `vectors_fit::compare::mark_bytes` is safe and ends: what is left of the area falls. Assumes nothing.
 use Prim.Native.Nat.{_-_}
 use mathlib.Core.Path.{_≡_}
 use borrow.Author.Needs.{needs}
 use lib.ListN.{length}
-use Rattle.vectors_fit.proofs.mark_bytes.Statement.{statement}
-use Rattle.vectors_fit.proofs.mark_bytes.Tie as tie
+use Rattle.vectors_fit.proofs.compare.mark_bytes.Statement.{statement}
+use Rattle.vectors_fit.proofs.compare.mark_bytes.Tie as tie
 
 abbrev Inv-loop : tie.InvT-loop
 Inv-loop area₀ lent at₀ area at = length area ≡ length area₀

@@ -1,10 +1,10 @@
--- `vectors_fit::compare` is safe and ends: what is left of the area falls. Assumes nothing.
+-- `vectors_fit::compare::compare` is safe and ends: what is left of the area falls. Assumes nothing.
 use Prim.Native.Nat.{_-_, _≤_}
 use mathlib.Core.Path.{_≡_}
 use borrow.Author.Needs.{needs}
 use lib.ListN.{length}
-use Rattle.vectors_fit.proofs.compare.Statement.{statement}
-use Rattle.vectors_fit.proofs.compare.Tie as tie
+use Rattle.vectors_fit.proofs.compare.compare.Statement.{statement}
+use Rattle.vectors_fit.proofs.compare.compare.Tie as tie
 
 abbrev Inv-loop : tie.InvT-loop
 Inv-loop area lent told written part counts₀ at₀ counts at = (at ≤ length area) × (length counts ≡ length counts₀)

@@ -1,10 +1,10 @@
--- `vectors_fit::load_codes` is safe and ends: what is left of the list falls. Assumes nothing.
+-- `vectors_fit::record::load_codes` is safe and ends: what is left of the list falls. Assumes nothing.
 use Prim.Native.Nat.{_-_}
 use mathlib.Core.Path.{_≡_}
 use borrow.Author.Needs.{needs}
 use lib.ListN.{length}
-use Rattle.vectors_fit.proofs.load_codes.Statement.{statement}
-use Rattle.vectors_fit.proofs.load_codes.Tie as tie
+use Rattle.vectors_fit.proofs.record.load_codes.Statement.{statement}
+use Rattle.vectors_fit.proofs.record.load_codes.Tie as tie
 
 abbrev Inv-loop : tie.InvT-loop
 Inv-loop codes₀ n at₀ codes at = length codes ≡ length codes₀

@@ -1,36 +1,39 @@
--- `vectors_fit::load` is safe and ends: what is left of the list falls. Assumes nothing.
+-- `vectors_fit::compare::mark` is safe and ends: what is left of the area falls. Assumes nothing.
 use Prim.Native.Nat.{_-_}
 use mathlib.Core.Path.{_≡_}
 use borrow.Author.Needs.{needs}
 use lib.ListN.{length}
-use Rattle.vectors_fit.proofs.load.Statement.{statement}
-use Rattle.vectors_fit.proofs.load.Tie as tie
+use Rattle.vectors_fit.proofs.compare.mark.Statement.{statement}
+use Rattle.vectors_fit.proofs.compare.mark.Tie as tie
 
 abbrev Inv-loop : tie.InvT-loop
-Inv-loop list₀ n at₀ list at = length list ≡ length list₀
+Inv-loop area₀ lent at₀ area at = length area ≡ length area₀
 
 abbrev μ-loop : tie.MeasureT-loop
-μ-loop list₀ n at₀ list at = length list₀ - at
+μ-loop area₀ lent at₀ area at = length area₀ - at
 
--- while at < list.len() && at < n
+-- while at < area.len() && at < lent
 loop-holds : tie.Need-loop-holds Inv-loop μ-loop
 loop-holds c = search needs
 
--- list[at] = next_float();
-next-float-requires : tie.Need-next-float-requires Inv-loop μ-loop
-next-float-requires c κs = search needs
+-- area[at] = vectors::float(mark_at(at));
+mark-at-requires : tie.Need-mark-at-requires Inv-loop μ-loop
+mark-at-requires c κs = search needs
 
-mul-list : tie.Need-mul-list Inv-loop μ-loop
-mul-list c = search needs
+float-requires : tie.Need-float-requires Inv-loop μ-loop
+float-requires c κs = search needs
 
-slice-write-list : tie.Need-slice-write-list Inv-loop μ-loop
-slice-write-list c = search needs
+mul-area : tie.Need-mul-area Inv-loop μ-loop
+mul-area c = search needs
+
+slice-write-area : tie.Need-slice-write-area Inv-loop μ-loop
+slice-write-area c = search needs
 
 -- at += 1;
 add-at : tie.Need-add-at Inv-loop μ-loop
 add-at c = search needs
 
--- while at < list.len() && at < n
+-- while at < area.len() && at < lent
 loop-less : tie.Need-loop-less Inv-loop μ-loop
 loop-less c = search needs
 
@@ -50,16 +53,17 @@ same-length-2 c = search needs
 returns-2 : tie.Need-returns-2 Inv-loop μ-loop
 returns-2 c = search needs
 
-pub load-spec : {M : Type 1} → statement M
-load-spec =
+pub mark-spec : {M : Type 1} → statement M
+mark-spec =
     tie.close
     (tie.spec
     Inv-loop
     μ-loop
     loop-holds
-    next-float-requires
-    mul-list
-    slice-write-list
+    mark-at-requires
+    float-requires
+    mul-area
+    slice-write-area
     add-at
     loop-less
     loop-again

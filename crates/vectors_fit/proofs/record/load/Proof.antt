@@ -1,39 +1,36 @@
--- `vectors_fit::mark` is safe and ends: what is left of the area falls. Assumes nothing.
+-- `vectors_fit::record::load` is safe and ends: what is left of the list falls. Assumes nothing.
 use Prim.Native.Nat.{_-_}
 use mathlib.Core.Path.{_≡_}
 use borrow.Author.Needs.{needs}
 use lib.ListN.{length}
-use Rattle.vectors_fit.proofs.mark.Statement.{statement}
-use Rattle.vectors_fit.proofs.mark.Tie as tie
+use Rattle.vectors_fit.proofs.record.load.Statement.{statement}
+use Rattle.vectors_fit.proofs.record.load.Tie as tie
 
 abbrev Inv-loop : tie.InvT-loop
-Inv-loop area₀ lent at₀ area at = length area ≡ length area₀
+Inv-loop list₀ n at₀ list at = length list ≡ length list₀
 
 abbrev μ-loop : tie.MeasureT-loop
-μ-loop area₀ lent at₀ area at = length area₀ - at
+μ-loop list₀ n at₀ list at = length list₀ - at
 
--- while at < area.len() && at < lent
+-- while at < list.len() && at < n
 loop-holds : tie.Need-loop-holds Inv-loop μ-loop
 loop-holds c = search needs
 
--- area[at] = vectors::float(mark_at(at));
-mark-at-requires : tie.Need-mark-at-requires Inv-loop μ-loop
-mark-at-requires c κs = search needs
+-- list[at] = next_float();
+next-float-requires : tie.Need-next-float-requires Inv-loop μ-loop
+next-float-requires c κs = search needs
 
-float-requires : tie.Need-float-requires Inv-loop μ-loop
-float-requires c κs = search needs
+mul-list : tie.Need-mul-list Inv-loop μ-loop
+mul-list c = search needs
 
-mul-area : tie.Need-mul-area Inv-loop μ-loop
-mul-area c = search needs
-
-slice-write-area : tie.Need-slice-write-area Inv-loop μ-loop
-slice-write-area c = search needs
+slice-write-list : tie.Need-slice-write-list Inv-loop μ-loop
+slice-write-list c = search needs
 
 -- at += 1;
 add-at : tie.Need-add-at Inv-loop μ-loop
 add-at c = search needs
 
--- while at < area.len() && at < lent
+-- while at < list.len() && at < n
 loop-less : tie.Need-loop-less Inv-loop μ-loop
 loop-less c = search needs
 
@@ -53,17 +50,16 @@ same-length-2 c = search needs
 returns-2 : tie.Need-returns-2 Inv-loop μ-loop
 returns-2 c = search needs
 
-pub mark-spec : {M : Type 1} → statement M
-mark-spec =
+pub load-spec : {M : Type 1} → statement M
+load-spec =
     tie.close
     (tie.spec
     Inv-loop
     μ-loop
     loop-holds
-    mark-at-requires
-    float-requires
-    mul-area
-    slice-write-area
+    next-float-requires
+    mul-list
+    slice-write-list
     add-at
     loop-less
     loop-again
