@@ -1,4 +1,6 @@
 """Fits that are answered, or stop at a pivot: every model and basis mix, few wells and many, usual numbers and edges."""
+import math
+
 from tools.generators.calls import fit_call
 from tools.generators.draw import COLUMNS, Draw, flat
 from tools.generators.fit_audits import audited
@@ -105,6 +107,31 @@ def stopped(draw):
             yield Case(survey, longer(survey, draw), whole=True)
 
 
+def zeros(draw):
+    """Zeros of either sign in the values, the node externals and the sill, and nodes on wells: sums of which each product is minus zero."""
+    for _ in range(60):
+        n, codes = draw.randrange(1, 4), draw.choice([[4], [4], [4, 4]])
+        n, k = max(n, len(codes)), len(codes)
+        coords = [float(draw.randrange(-2, 3)) for _ in range(2 * n)]
+        nodes = coords[:2] + [draw.choice([0.0, -0.0]) for _ in range(2)]
+        external = [float(draw.choice([-2, -1, 1, 2])) for _ in range(k * n)]
+        values, node_external = ([draw.choice([0.0, -0.0]) for _ in range(count)] for count in (n, 2 * k))
+        model = Variogram(draw.choice([SPHERICAL, LINEAR]), draw.choice([0.0, -0.0, 0.5]), draw.choice([0.0, -0.0, 2.0]), draw.choice([1.0, 2.0]))
+        survey = Survey(values, coords, codes, external, nodes, node_external, model, draw.choice([0.0, -0.0, 1e-10, 1.0]), draw.choice(TOLERANCES))
+        yield Case(survey, enough(survey), whole=True)
+
+
+def at_the_range(draw):
+    """Distances that are the range itself and its neighbours: there the sill stands alone, and nugget + (sill - nugget) is another number."""
+    nugget, sill = 0.2, 0.9
+    assert nugget + (sill - nugget) != sill
+    for model in (SPHERICAL, LINEAR):
+        for span in (5.0, math.nextafter(5.0, 6.0), math.nextafter(5.0, 4.0)):
+            variogram = Variogram(model, nugget, sill, span)
+            survey = Survey([2.0, 7.0, 4.0], [0.0, 0.0, 3.0, 4.0, -3.0, 4.0], [1], [], [0.0, 5.0, 6.0, 0.0, 3.0, 0.0], [], variogram, 0.0, 1e-9)
+            yield Case(survey, longer(survey, draw), whole=True)
+
+
 def inside():
     """Just inside the edges of the refusals, with areas just as long as they have to be."""
     base, tiny = edges.survey(), edges.TINY
@@ -131,4 +158,6 @@ def accepted_cases():
     yield from drawn(draw)
     yield from far_origins(draw)
     yield from large(draw)
+    yield from zeros(draw)
+    yield from at_the_range(draw)
     yield from audited(draw)
