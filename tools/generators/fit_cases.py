@@ -87,6 +87,9 @@ def large(draw):
     for n, m, codes in [(1, 100, [1]), (2, 100, [4]), (12, 100, [2]), (48, 0, [2]), (31, 12, [2, 4]), (24, 99, [3])]:
         survey = plain(draw, n, m, codes, low, high)
         yield Case(survey, longer(survey, draw))
+    for n in range(17, 49):
+        survey = plain(draw, n, draw.randrange(1, 4), draw.choice(MIXES), low, high, draw.choice(TOLERANCES))
+        yield Case(survey, longer(survey, draw))
     repeated = plain(draw, 23, 2, [2], low, high)
     twice = repeated._replace(coords=repeated.coords[:44] + repeated.coords[:2], r=0.0)
     yield Case(twice, longer(twice, draw), whole=True)
@@ -105,6 +108,21 @@ def stopped(draw):
         cases += [wells._replace(codes=[1, 4], external=[1.0] * (n - 1) + [1.0 + 2.0**-50 * step], node_external=[1.0]) for step in (0, 1, 64)]
         for survey in cases:
             yield Case(survey, longer(survey, draw), whole=True)
+
+
+def not_finite(draw):
+    """Numbers that are finite themselves and lead to one that is not: in F, in f0, in a weight or in the figure."""
+    def grid(count):
+        return [float(draw.randrange(0, 6)) for _ in range(count)]
+
+    near = FAR_WELL._replace(coords=[1.0, 1.0] + FAR_WELL.coords[2:], nodes=[0.0, 5.0, 4.0, 1.0])
+    surveys = [near._replace(nodes=[x, 5.0, 4.0, 1.0]) for x in (2.0**511, 2.0**512, -(2.0**600), 1.7e308)]
+    surveys += [near._replace(values=[5.0, 4.0, top, -top, 3.0, 7.0]) for top in (1e307, 1.7e308)]
+    for _ in range(24):
+        n = draw.choice([6, 6, 7])
+        surveys.append(near._replace(values=grid(n), coords=[2.0**512, 1.0] + grid(2 * n - 2), nodes=grid(4), t=draw.choice(TOLERANCES)))
+    for survey in surveys:
+        yield Case(survey, longer(survey, draw))
 
 
 def zeros(draw):
@@ -158,6 +176,7 @@ def accepted_cases():
     yield from drawn(draw)
     yield from far_origins(draw)
     yield from large(draw)
+    yield from not_finite(draw)
     yield from zeros(draw)
     yield from at_the_range(draw)
     yield from audited(draw)

@@ -32,7 +32,8 @@ def covered(all_ended):
     assert {ended.number for ended in all_ended} == NUMBERS
     assert {v for ended in answered for v in ended.areas.verdicts[:ended.case.survey.m]} == {*range(14), 255}
     assert {(s.variogram.model, s.k) for s in surveys} >= {(model, k) for model in (1, 4) for k in range(4)}
-    assert {1, 48} <= {s.n for s in surveys} and {0, 100} <= {s.m for s in surveys} and {*range(1, 13)} <= {s.p for s in surveys}
+    assert {*range(1, 49)} == {s.n for s in surveys} and {0, 100} <= {s.m for s in surveys} and {*range(1, 13)} <= {s.p for s in surveys}
     by = set().union(*map(causes, answered))
-    assert {frozenset(["F"]), frozenset(["figure"]), frozenset(["weight", "figure"])} <= by and any("f0" in cause for cause in by), by
+    # an entry of f0 that is not finite leaves no weight finite
+    assert {frozenset(cause) for cause in (["F"], ["figure"], ["weight", "figure"], ["f0", "weight", "figure"])} <= by, by
     assert {stop(ended) for ended in all_ended if ended.number == 19 and ended.case.whole} == {"first", "middle", "last"}
