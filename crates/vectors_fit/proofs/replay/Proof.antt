@@ -13,7 +13,7 @@ abbrev μ-loop : tie.MeasureT-loop
 
 -- let mut t = vectors::begun();
 begun-requires : tie.Need-begun-requires Inv-loop μ-loop
-begun-requires c κs = search needs
+begun-requires c κs = tt
 
 -- while turns > 0 && t.more
 loop-holds : tie.Need-loop-holds Inv-loop μ-loop
@@ -21,7 +21,7 @@ loop-holds c = search needs
 
 -- t = replayed(t, counts);
 replayed-requires : tie.Need-replayed-requires Inv-loop μ-loop
-replayed-requires c κs = search needs
+replayed-requires c κs = tt
 
 -- turns -= 1;
 sub-turns : tie.Need-sub-turns Inv-loop μ-loop
@@ -39,13 +39,13 @@ same-length : tie.Need-same-length Inv-loop μ-loop
 same-length c = search needs
 
 returns : tie.Need-returns Inv-loop μ-loop
-returns c = search needs
+returns c = tt
 
 same-length-2 : tie.Need-same-length-2 Inv-loop μ-loop
 same-length-2 c = search needs
 
 returns-2 : tie.Need-returns-2 Inv-loop μ-loop
-returns-2 c = search needs
+returns-2 c = tt
 
 pub replay-spec : {M : Type 1} → statement M
 replay-spec =

@@ -24,10 +24,10 @@ shared-slice-read-pattern : tie.Need-shared-slice-read-pattern Inv-loop μ-loop
 shared-slice-read-pattern c = search needs
 
 pattern-requires : tie.Need-pattern-requires Inv-loop μ-loop
-pattern-requires c κs = search needs
+pattern-requires c κs = tt
 
 compare-at-requires : tie.Need-compare-at-requires Inv-loop μ-loop
-compare-at-requires c κs = search needs
+compare-at-requires c κs = tt
 
 -- at += 1;
 add-at : tie.Need-add-at Inv-loop μ-loop
@@ -45,13 +45,13 @@ same-length : tie.Need-same-length Inv-loop μ-loop
 same-length c = search needs
 
 returns : tie.Need-returns Inv-loop μ-loop
-returns c = search needs
+returns c = tt
 
 same-length-2 : tie.Need-same-length-2 Inv-loop μ-loop
 same-length-2 c = search needs
 
 returns-2 : tie.Need-returns-2 Inv-loop μ-loop
-returns-2 c = search needs
+returns-2 c = tt
 
 pub compare-spec : {M : Type 1} → statement M
 compare-spec =

@@ -18,10 +18,10 @@ loop-holds c = search needs
 
 -- area[at] = vectors::float(mark_at(at));
 mark-at-requires : tie.Need-mark-at-requires Inv-loop μ-loop
-mark-at-requires c κs = search needs
+mark-at-requires c κs = tt
 
 float-requires : tie.Need-float-requires Inv-loop μ-loop
-float-requires c κs = search needs
+float-requires c κs = tt
 
 mul-area : tie.Need-mul-area Inv-loop μ-loop
 mul-area c = search needs
@@ -45,13 +45,13 @@ same-length : tie.Need-same-length Inv-loop μ-loop
 same-length c = search needs
 
 returns : tie.Need-returns Inv-loop μ-loop
-returns c = search needs
+returns c = tt
 
 same-length-2 : tie.Need-same-length-2 Inv-loop μ-loop
 same-length-2 c = search needs
 
 returns-2 : tie.Need-returns-2 Inv-loop μ-loop
-returns-2 c = search needs
+returns-2 c = tt
 
 pub mark-spec : {M : Type 1} → statement M
 mark-spec =

@@ -18,7 +18,7 @@ loop-holds c = search needs
 
 -- list[at] = next_float();
 next-float-requires : tie.Need-next-float-requires Inv-loop μ-loop
-next-float-requires c κs = search needs
+next-float-requires c κs = tt
 
 mul-list : tie.Need-mul-list Inv-loop μ-loop
 mul-list c = search needs
@@ -42,13 +42,13 @@ same-length : tie.Need-same-length Inv-loop μ-loop
 same-length c = search needs
 
 returns : tie.Need-returns Inv-loop μ-loop
-returns c = search needs
+returns c = tt
 
 same-length-2 : tie.Need-same-length-2 Inv-loop μ-loop
 same-length-2 c = search needs
 
 returns-2 : tie.Need-returns-2 Inv-loop μ-loop
-returns-2 c = search needs
+returns-2 c = tt
 
 pub load-spec : {M : Type 1} → statement M
 load-spec =
