@@ -1,0 +1,175 @@
+// Replays fits: figures, variances and coefficients of the original Rust; weights, verdicts, work areas and refusals of another reading of the paper.
+// Standard input has a record for each, as tools/generators/fit.py wrote them.
+// Writes a line for each record that comes out otherwise; then how the fits ended, by number, and of each part how many numbers were compared and how
+// many differ; and last how many records were compared and how many differ.
+mod compare; // compare.rt: what is compared
+mod counts; // counts.rt: what is counted, and written
+mod record; // record.rt: what a fit is called with
+
+use compare::compare_all;
+use compare::mark_all;
+use counts::COUNTS;
+use counts::differences;
+use counts::write_endings;
+use counts::write_parts;
+use kriging::Fit;
+use record::Head;
+use record::load;
+use record::load_codes;
+use record::next_head;
+use vectors::Tally;
+ghost use Prim.Native.Nat.{_≤_};
+
+// The most numbers of a record's lists together, and the most codes.
+const NUMBERS: usize = 3072;
+
+const CODES: usize = 64;
+
+// The most of each area that a record lends: what the largest fit needs, and some past that.
+const WORK: usize = 7208;
+
+const NODES: usize = 108;
+
+const WEIGHTS: usize = 4808;
+
+const COLUMNS: usize = 16;
+
+fn least(n: usize, most: usize) -> usize
+    ensures { λ r. ⌜ r ≤ most ⌝ }
+{
+    if n < most { n } else { most }
+}
+
+// The numbers from a place up to another one: none where the list has no such part.
+fn part(numbers: &[f64], from: usize, to: usize) -> &[f64] {
+    if to > numbers.len() {
+        return &numbers[..0];
+    }
+    if from > to {
+        return &numbers[..0];
+    }
+    &numbers[from..to]
+}
+
+// The fit, with the lists of a record and as much of each area as it lends.
+fn answer(
+    head: Head,
+    numbers: &[f64],
+    codes: &[u8],
+    work: &mut [f64],
+    predicted: &mut [f64],
+    variance: &mut [f64],
+    verdicts: &mut [u8],
+    weights: &mut [f64],
+    coefficients: &mut [f64],
+) -> Fit {
+    let lists = head.lists;
+    let lent = head.lent;
+    let bases = least(lists.codes, codes.len());
+    let a = least(lent.work, work.len());
+    let b = least(lent.predicted, predicted.len());
+    let c = least(lent.variance, variance.len());
+    let d = least(lent.verdicts, verdicts.len());
+    let e = least(lent.weights, weights.len());
+    let f = least(lent.coefficients, coefficients.len());
+    kriging::universal_kriging_fit(
+        part(numbers, 0, lists.values),
+        part(numbers, lists.values, lists.coords),
+        &codes[..bases],
+        part(numbers, lists.coords, lists.external),
+        head.options,
+        part(numbers, lists.external, lists.nodes),
+        part(numbers, lists.nodes, lists.node_external),
+        head.tolerance,
+        &mut work[..a],
+        &mut predicted[..b],
+        &mut variance[..c],
+        &mut verdicts[..d],
+        &mut weights[..e],
+        &mut coefficients[..f],
+    )
+}
+
+// The number that a fit ended by, 0 where it answers.
+fn number_of(answer: Fit) -> u64 {
+    match answer {
+        Fit::Done => 0,
+        Fit::Refused(refusal) => error::number(refusal) as u64,
+    }
+}
+
+// A record's fit, with areas of its own that hold the marks, and what came of it.
+fn replay_fit(head: Head, numbers: &[f64], codes: &[u8], counts: &mut [u64]) {
+    let mut work = [0.0; WORK];
+    let mut predicted = [0.0; NODES];
+    let mut variance = [0.0; NODES];
+    let mut verdicts = [0u8; NODES];
+    let mut weights = [0.0; WEIGHTS];
+    let mut coefficients = [0.0; COLUMNS];
+    mark_all(
+        head.lent,
+        &mut work,
+        &mut predicted,
+        &mut variance,
+        &mut verdicts,
+        &mut weights,
+        &mut coefficients,
+    );
+    let number = number_of(answer(
+        head,
+        numbers,
+        codes,
+        &mut work,
+        &mut predicted,
+        &mut variance,
+        &mut verdicts,
+        &mut weights,
+        &mut coefficients,
+    ));
+    compare_all(
+        head.lent,
+        number,
+        &work,
+        &predicted,
+        &variance,
+        &verdicts,
+        &weights,
+        &coefficients,
+        counts,
+    );
+}
+
+// One record more: whether all is as it says, and at the input's end that there are no more.
+fn replayed(t: Tally, counts: &mut [u64]) -> Tally {
+    let head = next_head();
+    if !head.more {
+        return vectors::ended(t);
+    }
+    let lists = head.lists;
+    let mut numbers = [0.0; NUMBERS];
+    load(&mut numbers, lists.node_external);
+    let mut codes = [0u8; CODES];
+    load_codes(&mut codes, lists.codes);
+    let before = differences(counts);
+    replay_fit(head, &numbers, &codes, counts);
+    vectors::counted(t, differences(counts) == before)
+}
+
+// A proved loop has to end, and nothing says that the input does: the loop counts its turns down.
+fn replay(counts: &mut [u64]) -> Tally {
+    let mut t = vectors::begun();
+    let mut turns = u64::MAX;
+    while turns > 0 && t.more {
+        t = replayed(t, counts);
+        turns -= 1;
+    }
+    t
+}
+
+fn main() {
+    let mut counts = [0; COUNTS];
+    let t = replay(&mut counts);
+    write_endings(&counts);
+    write_parts(&counts);
+    vectors::totals(t);
+}

@@ -1,0 +1,151 @@
+"""crates/vectors_fit: fits, as fit_cases.py and fit_refusals.py draw them, with all that they leave.
+
+Figures, variances and coefficients are the original's. Weights, verdicts, work areas and the numbers of refusals are tools/reading's, which has to
+agree with the original wherever that answers: else nothing is written.
+
+A record is words of 64 bits: the lengths of the values, coordinates, externals, nodes and node externals, and of the codes; the model, nugget, sill,
+range, r and t; how much is lent of the work area, the figures, variances, verdicts, weights and coefficients; the lists in that order, then the codes.
+After these the number, 0 for an answer; how much is written of each area, in the same order; how much of the work area is told, all that is written
+or nothing; and then what stands there, area after area.
+"""
+from collections import Counter
+from typing import NamedTuple
+
+from tools.generators.calls import Fit
+from tools.generators.fit_case import LONGEST
+from tools.generators.fit_cases import accepted_cases
+from tools.generators.fit_covered import covered
+from tools.generators.fit_refusals import refused_cases
+from tools.generators.records import answer_words, answered, numbers, packed
+from tools.patterns import bits, value
+from tools.reading import fit
+from tools.reading.fractions_audit import verdict_by_fractions
+from tools.reading.lent import fit_lengths
+from tools.reading.refusals import KINDS
+
+MARK, MARK_BYTE = 0x4730_0000_0000_0000, 99
+MOST_BYTES = 2_000_000
+MINUS_ZERO = 1 << 63
+MOST_NUMBERS, MOST_CODES = 3072, 64
+PARTS = {
+    "numbers of the endings": "number",
+    "figures": "figures",
+    "variances": "variances",
+    "coefficients": "coefficients",
+    "weights": "weights",
+    "verdicts": "verdicts",
+    "work areas": "work",
+    "places not to be written": "untouched",
+}
+
+
+class Ended(NamedTuple):
+    """A case, how it ended, its areas after, and how much of each was written."""
+
+    case: object
+    number: int
+    areas: fit.Areas
+    written: fit.Areas
+
+
+def marked(length):
+    return [value(MARK + at) for at in range(length)]
+
+
+def lent_areas(lengths):
+    return fit.Areas(*map(marked, lengths))._replace(verdicts=[MARK_BYTE] * lengths.verdicts)
+
+
+def untouched(areas, before, written):
+    """All past what is written is as it was."""
+    return all(list(map(bits, after[length:])) == list(map(bits, marks[length:])) for after, marks, length in zip(areas, before, written, strict=True))
+
+
+def read(case):
+    """What the reading makes of a case."""
+    survey = case.survey
+    areas, before = lent_areas(case.lent), lent_areas(case.lent)
+    number = fit.fit(survey, areas)
+    named = fit.Areas(*fit_lengths(survey))
+    written = named if number == 0 else fit.Areas(0, 0, 0, 0, 0, named.work if number == 19 else 0)
+    assert untouched(areas, before, written), (number, survey)
+    if number == 0 and survey.n * survey.p * survey.m < 100:
+        assert all(areas.verdicts[q] == verdict_by_fractions(survey, areas, q) for q in range(survey.m)), survey
+    return Ended(case, number, areas, written)
+
+
+def original(answer, ended):
+    """The original's own figures, variances and coefficients, by their patterns; a zero variance as +0."""
+    m, p = ended.case.survey.m, ended.case.survey.p
+    zero, nodes, *rest = answer_words(answer)
+    assert (zero, nodes, rest[2 * m]) == (0, m, p), answer
+    return rest[:m], [0 if x == MINUS_ZERO else x for x in rest[m:2 * m]], rest[2 * m + 1:]
+
+
+def held(ended, answer):
+    """Stops where the original answers otherwise: in figures, variances, coefficients or the kind of a refusal."""
+    if ended.number:
+        kinds = [f"error {kind}" for kind in KINDS.get(ended.number, ())]
+        assert not kinds or answer in [*kinds, "shape"], (ended.number, answer, ended.case.survey)
+        return
+    m, p, areas = ended.case.survey.m, ended.case.survey.p, ended.areas
+    reading = [list(map(bits, area)) for area in (areas.figures[:m], areas.variances[:m], areas.coefficients[:p])]
+    assert list(original(answer, ended)) == reading, (ended.case.survey, answer)
+
+
+def asked_words(case):
+    survey, lent = case.survey, case.lent
+    lists = [survey.values, survey.coords, survey.external, survey.nodes, survey.node_external]
+    options = [survey.variogram.model, *numbers([*survey.variogram.numbers(), survey.r, survey.t])]
+    areas = [lent.work, lent.figures, lent.variances, lent.verdicts, lent.weights, lent.coefficients]
+    return [*map(len, lists), len(survey.codes), *options, *areas, *(x for xs in lists for x in numbers(xs)), *survey.codes]
+
+
+def told_words(ended, answer):
+    """The areas, as far as they are written: the original's where it has them."""
+    areas, written = ended.areas, ended.written
+    told = written.work if ended.case.whole else 0
+    figures, variances, coefficients = original(answer, ended) if ended.number == 0 else ([], [], [])
+    counts = [written.work, written.figures, written.variances, written.verdicts, written.weights, written.coefficients, told]
+    weights, verdicts, work = numbers(areas.weights[:written.weights]), areas.verdicts[:written.verdicts], numbers(areas.work[:told])
+    return [ended.number, *counts, *work, *figures, *variances, *verdicts, *weights, *coefficients]
+
+
+def fits_program(case):
+    """The program's own arrays are as long as this."""
+    survey = case.survey
+    total = sum(map(len, [survey.values, survey.coords, survey.external, survey.nodes, survey.node_external]))
+    lent_fits = all(length <= most for length, most in zip(case.lent, LONGEST, strict=True))
+    return total <= MOST_NUMBERS and len(survey.codes) <= MOST_CODES and lent_fits
+
+
+def counted(all_ended):
+    """How many numbers are compared of each part."""
+    counts = Counter(number=len(all_ended))
+    for ended in all_ended:
+        counts.update(ended.written._replace(work=ended.written.work if ended.case.whole else 0)._asdict())
+        counts["untouched"] += sum(ended.case.lent) - sum(ended.written)
+    return counts
+
+
+def written_lines(all_ended):
+    """What the program writes where every record comes out as it says."""
+    endings, counts = Counter(ended.number for ended in all_ended), counted(all_ended)
+    yield from (f"ended by {number}: {endings[number]}" for number in sorted(endings))
+    yield from (f"{name}: {counts[part]} compared, 0 differ" for name, part in PARTS.items())
+    yield f"{len(all_ended)} compared, 0 differ"
+
+
+def files():
+    cases = [*accepted_cases(), *refused_cases()]
+    assert all(map(fits_program, cases))
+    calls = [Fit(*case.survey[:6], tuple(case.survey.variogram), case.survey.r).words() for case in cases]
+    answers = [answer for _, answer in answered(calls)]
+    all_ended = list(map(read, cases))
+    for ended, answer in zip(all_ended, answers):
+        held(ended, answer)
+        assert ended.case.number in (None, ended.number), (ended.case, ended.number)
+    covered(all_ended)
+    data = b"".join(packed([*asked_words(e.case), *told_words(e, a)]) for e, a in zip(all_ended, answers))
+    assert len(data) <= MOST_BYTES, len(data)
+    return {"stdin": data, "stdout": "".join(line + "\n" for line in written_lines(all_ended)).encode()}
