@@ -53,7 +53,7 @@ fill-query-drift-row-requires : tie.Need-fill-query-drift-row-requires
 fill-query-drift-row-requires c κs =
     let g = at-gamma c in
     let p = at-entry g .pre in
-    (omega (arith, p .4, g .fill-gamma .kept .1 .1 .1 .1 .1 .0), p .2, p .3)
+    (omega (arith, p .4, g .fill-gamma .kept .1 .1 .1 .1 .1 .0), p .2, omega (arith, p .3))
 
 -- src/node.rt:63:1
 same-length : tie.Need-same-length
