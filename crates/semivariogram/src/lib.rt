@@ -1,4 +1,6 @@
 // The experimental semivariogram: the answer of its call. What the call answers is defined in specs/.
+pub mod refusals; // refusals.rt: what turns a call away
+
 use error::Refusal;
 
 // Semivariogram calculator
