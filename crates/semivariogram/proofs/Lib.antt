@@ -6,4 +6,5 @@ pub mod Accepted
 pub mod Greatest
 pub mod Farthest
 pub mod BinOf
+pub mod Passes
 pub mod Calculated
