@@ -7,4 +7,6 @@ pub mod Greatest
 pub mod Farthest
 pub mod BinOf
 pub mod Passes
+pub mod Cast
+pub mod OnePass
 pub mod Calculated
