@@ -3,23 +3,24 @@
 use Prim.Native.Nat.{ℕ, suc, _+_, _-_, _*_, _≤_, _<_, min}
 use native.Mathlib.Nat.{mul-le-mul}
 use native.Mathlib.Decide.{decLt}
+use native.Mathlib.Numerals.{add-one}
 use native.Mathlib.Omega.{arith}
-use mathlib.Core.Path.{_≡_, refl, ap, sym, _∙_}
+use mathlib.Core.Path.{_≡_, ap, sym, subst, _∙_}
 use mathlib.Core.Logic.{_≢_, _⊎_, inl, inr, ⊎-elim}
 use mathlib.Core.Bool.{Bool, true, false, cond}
-use mathlib.Core.List.{List, [], _∷_}
+use mathlib.Core.List.{List, [], _∷_, _++_}
 use borrow.Author.Tests.{eq-eqb, ne-eqb}
 use lib.Dec.{eqb}
 use lib.ListN.{length, getD, set}
 use lib.Seq.{getD-set-same, getD-set-other}
 use lib.Ieee.{Float, nan, binary64, add, div, toUnsigned}
-use Rattle.ieee.specs.Floats.{zeroFloat, floorOf}
-use Rattle.semivariogram.specs.Pairs.{Pair, pair, pairs}
+use Rattle.ieee.specs.Floats.{floorOf}
+use Rattle.semivariogram.specs.Pairs.{Pair, pair, pairsFrom, pairs}
 use Rattle.semivariogram.specs.Call.{Samples, samples}
 use Rattle.semivariogram.specs.Bins.{lag, halfSquare, width, binOf, countIn, sumIn, count}
 use Rattle.semivariogram.specs.Parts.{Left}
 use Rattle.semivariogram.proofs.Pairs.{twice}
-use Rattle.semivariogram.proofs.Bins.{bin-below}
+use Rattle.semivariogram.proofs.Passes.{laterFrom, next-sample, no-sample, next-later, no-later}
 
 same-or-not : (a b : ℕ) → (a ≡ b) ⊎ (a ≢ b)
 same-or-not a b =
@@ -100,3 +101,28 @@ pub count-fits : (q : Samples) (ps : List Pair) (sums : List Float) (counts : Li
     → getD counts b 0 ≤ 1152
 unfolding count
 count-fits q ps sums counts b n l h = omega (arith, h .number b l, count-most q b (pairs (samples q)), few-pairs (samples q) n)
+
+-- ---- the pairs as code goes through them
+module _ (q : Samples) (i j : ℕ) (rest : List Pair) (sums : List Float) (counts : List ℕ) (k : ℕ) (v : Float) where
+  -- one pair more: k is its bin, and v its half square
+  pub one-later : k ≡ binOf q (pair i j) → v ≡ halfSquare q (pair i j) → j < samples q → q .bins ≤ length sums → q .bins ≤ length counts
+      → Left q (laterFrom i j (samples q) ++ rest) sums counts
+      → Left q (laterFrom i (j + 1) (samples q) ++ rest) (set sums k (add binary64 (getD sums k nan) v)) (set counts k (getD counts k 0 + 1))
+  one-later is e l ls lc h =
+      let ps : List Pair = laterFrom i (suc j) (samples q) ++ rest in
+      let g : Left q (pair i j ∷ ps) sums counts = subst (λ (ps : List Pair). Left q (ps ++ rest) sums counts) (next-later i j (samples q) l) h in
+      rw (add-one j, e) (one-pair q (pair i j) ps sums counts k is ls lc g)
+
+module _ (q : Samples) (i : ℕ) (sums : List Float) (counts : List ℕ) where
+  -- before the first of a sample's pairs
+  pub first-later : i < samples q → Left q (pairsFrom i (samples q - i)) sums counts
+      → Left q (laterFrom i (i + 1) (samples q) ++ pairsFrom (suc i) (samples q - suc i)) sums counts
+  first-later l h = rw add-one (subst (λ (ps : List Pair). Left q ps sums counts) (next-sample i (samples q) l) h)
+
+  -- after the last
+  pub last-later : (j : ℕ) (rest : List Pair) → samples q ≤ j → Left q (laterFrom i j (samples q) ++ rest) sums counts → Left q rest sums counts
+  last-later j rest l h = subst (λ (ps : List Pair). Left q (ps ++ rest) sums counts) (no-later i j (samples q) l) h
+
+  -- after the last sample
+  pub last-sample : samples q ≤ i → Left q (pairsFrom i (samples q - i)) sums counts → Left q [] sums counts
+  last-sample l h = subst (λ (ps : List Pair). Left q ps sums counts) (no-sample i (samples q) l) h
