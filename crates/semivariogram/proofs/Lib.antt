@@ -9,4 +9,5 @@ pub mod BinOf
 pub mod Passes
 pub mod Cast
 pub mod OnePass
+pub mod KeptBins
 pub mod Calculated

@@ -1,80 +1,91 @@
+-- `semivariogram::binning::write_kept` meets its contract: after i turns the areas are what the first i bins leave. Assumes nothing.
+use Prim.Native.Nat.{ℕ, _+_, _-_, _*_, _^_, _≤_, _<_}
+use mathlib.Core.Path.{_≡_, refl, ap, sym, subst, _∙_}
+use mathlib.Core.Logic.{⊎-elim}
+use native.Mathlib.Omega.{arith}
+use borrow.Author.Needs.{needs}
+use lib.ListN.{length, length-set, getD}
+use lib.Ieee.{Float}
+use Rattle.semivariogram.specs.Call.{Areas, areasOf}
+use Rattle.semivariogram.specs.Bins.{width}
+use Rattle.semivariogram.proofs.KeptBins.{Progress, none-yet, not-more, one-kept, not-kept, all-kept, all-bins}
 use Rattle.semivariogram.proofs.binning.write_kept.Statement.{statement}
 use Rattle.semivariogram.proofs.binning.write_kept.Tie as tie
-use Rattle.semivariogram.proofs.binning.write_kept.Reads as reads
-use Rattle.semivariogram.proofs.binning.write_kept.Lts as lts
-use Rattle.std.proofs.num.nearest_u64_to_f64.Reads as nearest-u64-to-f64-reads
 
 abbrev Inv-loop : tie.InvT-loop
 Inv-loop bin-width n-bins bin-sums bin-counts distances₀ semivariances₀ counts₀ kept₀ i₀ distances semivariances counts kept i =
-    ?
+    (i ≤ n-bins) × (kept ≤ i) × (length distances ≡ length distances₀) × (length semivariances ≡ length semivariances₀) × (length counts ≡ length counts₀)
+    × Progress bin-width bin-sums bin-counts i kept (areasOf distances₀ semivariances₀ counts₀) (areasOf distances semivariances counts)
 
 abbrev μ-loop : tie.MeasureT-loop
-μ-loop bin-width n-bins bin-sums bin-counts distances₀ semivariances₀ counts₀ kept₀ i₀ distances semivariances counts kept i =
-    ?
+μ-loop bin-width n-bins bin-sums bin-counts distances₀ semivariances₀ counts₀ kept₀ i₀ distances semivariances counts kept i = n-bins - i
+
+abbrev State : (tie.InvT-loop → tie.MeasureT-loop → Type 0) → Type 0
+State S = S Inv-loop μ-loop
 
 -- src/binning.rt:104:5
 loop-holds : tie.Need-loop-holds Inv-loop μ-loop
-loop-holds c = ?
+loop-holds c = (omega arith, omega arith, refl, refl, refl, none-yet _ _ _ _)
 
 -- src/binning.rt:105:21
 mul-count : tie.Need-mul-count Inv-loop μ-loop
-mul-count c = ?
+mul-count c = omega arith
 
 -- src/binning.rt:105:21
 shared-slice-read-count : tie.Need-shared-slice-read-count Inv-loop μ-loop
-shared-slice-read-count c = ?
+shared-slice-read-count c = omega arith
 
 -- src/binning.rt:107:32
 nearest-u64-to-f64-requires : tie.Need-nearest-u64-to-f64-requires Inv-loop μ-loop
-nearest-u64-to-f64-requires c κs = ?
+nearest-u64-to-f64-requires c κs = search needs
 
 -- src/binning.rt:107:13
 mul-distances : tie.Need-mul-distances Inv-loop μ-loop
-mul-distances c = ?
+mul-distances c = omega arith
 
 -- src/binning.rt:107:13
 slice-write-distances : tie.Need-slice-write-distances Inv-loop μ-loop
-slice-write-distances c = ?
+slice-write-distances c = omega arith
 
 -- src/binning.rt:108:35
 mul-semivariances : tie.Need-mul-semivariances Inv-loop μ-loop
-mul-semivariances c = ?
+mul-semivariances c = omega arith
 
 -- src/binning.rt:108:35
 shared-slice-read-semivariances : tie.Need-shared-slice-read-semivariances Inv-loop μ-loop
-shared-slice-read-semivariances c = ?
+shared-slice-read-semivariances c = omega arith
 
 -- src/binning.rt:108:49
 nearest-u64-to-f64-requires-2 : tie.Need-nearest-u64-to-f64-requires-2 Inv-loop μ-loop
-nearest-u64-to-f64-requires-2 c κs = ?
+nearest-u64-to-f64-requires-2 c κs = search needs
 
 -- src/binning.rt:108:13
 mul-semivariances-2 : tie.Need-mul-semivariances-2 Inv-loop μ-loop
-mul-semivariances-2 c = ?
+mul-semivariances-2 c = omega arith
 
 -- src/binning.rt:108:13
 slice-write-semivariances : tie.Need-slice-write-semivariances Inv-loop μ-loop
-slice-write-semivariances c = ?
+slice-write-semivariances c = omega arith
 
 -- src/binning.rt:109:13
 mul-counts : tie.Need-mul-counts Inv-loop μ-loop
-mul-counts c = ?
+mul-counts c = omega arith
 
 -- src/binning.rt:109:13
 slice-write-counts : tie.Need-slice-write-counts Inv-loop μ-loop
-slice-write-counts c = ?
+slice-write-counts c = omega arith
 
 -- src/binning.rt:110:13
 add-kept : tie.Need-add-kept Inv-loop μ-loop
-add-kept c = ?
+add-kept c = omega arith
 
 -- src/binning.rt:104:9
 add-i : tie.Need-add-i Inv-loop μ-loop
-add-i c = ?
+add-i c = omega arith
 
 -- src/binning.rt:104:5
 loop-less : tie.Need-loop-less Inv-loop μ-loop
-loop-less c = ?
+loop-less c = omega arith
 
 -- src/binning.rt:104:5
 loop-again : tie.Need-loop-again Inv-loop μ-loop
@@ -82,15 +93,15 @@ loop-again c = ?
 
 -- src/binning.rt:88:1
 same-length : tie.Need-same-length Inv-loop μ-loop
-same-length c = ?
+same-length c = search needs
 
 -- src/binning.rt:88:1
 same-length-2 : tie.Need-same-length-2 Inv-loop μ-loop
-same-length-2 c = ?
+same-length-2 c = search needs
 
 -- src/binning.rt:88:1
 same-length-3 : tie.Need-same-length-3 Inv-loop μ-loop
-same-length-3 c = ?
+same-length-3 c = search needs
 
 -- src/binning.rt:88:1
 returns : tie.Need-returns Inv-loop μ-loop
