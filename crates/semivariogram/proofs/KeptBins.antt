@@ -109,6 +109,16 @@ module _ (width : Float) (sums : List Float) (numbers : List ℕ) where
         ∙ ap (λ (ls : List ℕ). valuesAt (λ b. getD numbers b 0) ls (a .counts)) (sym more);
       }
 
+  -- where the areas and the number are known under other names
+  pub renamed : {i k n : ℕ} {a : Areas} {x y u v : List Float} {l m : List ℕ} → k ≡ n → x ≡ y → u ≡ v → l ≡ m
+      → Progress width sums numbers i n a (areasOf y v m) → Progress width sums numbers i k a (areasOf x u l)
+  renamed e f g h p = record {
+    kept-is = e ∙ p .kept-is;
+    distances-are = f ∙ p .distances-are;
+    semivariances-are = g ∙ p .semivariances-are;
+    counts-are = h ∙ p .counts-are;
+  }
+
   -- and one that has none
   pub not-kept : (i kept : ℕ) (a e : Areas) → Progress width sums numbers i kept a e → getD numbers i 0 ≤ 0 → Progress width sums numbers (i + 1) kept a e
   not-kept i kept a e p h =

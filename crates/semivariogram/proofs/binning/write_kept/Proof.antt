@@ -5,10 +5,10 @@ use mathlib.Core.Logic.{⊎-elim}
 use native.Mathlib.Omega.{arith}
 use borrow.Author.Needs.{needs}
 use lib.ListN.{length, length-set, getD}
-use lib.Ieee.{Float}
+use lib.Ieee.{Float, nan, binary64, add, mul, div}
 use Rattle.semivariogram.specs.Call.{Areas, areasOf}
-use Rattle.semivariogram.specs.Bins.{width}
-use Rattle.semivariogram.proofs.KeptBins.{Progress, none-yet, not-more, one-kept, not-kept, all-kept, all-bins}
+use Rattle.semivariogram.specs.Bins.{half, width}
+use Rattle.semivariogram.proofs.KeptBins.{Progress, none-yet, not-more, one-kept, renamed, not-kept, all-kept, all-bins}
 use Rattle.semivariogram.proofs.binning.write_kept.Statement.{statement}
 use Rattle.semivariogram.proofs.binning.write_kept.Tie as tie
 
@@ -22,6 +22,13 @@ abbrev μ-loop : tie.MeasureT-loop
 
 abbrev State : (tie.InvT-loop → tie.MeasureT-loop → Type 0) → Type 0
 State S = S Inv-loop μ-loop
+
+-- The states that the needs look back to: a name takes a later state back to its own.
+abbrev known-lists : State tie.After-slice-known3 → State tie.After-shared-slice-known2
+known-lists c = c .before .before .before
+
+abbrev at-entry : State tie.At-loop → State tie.Start
+at-entry c = known-lists (c .before) .before .before
 
 -- src/binning.rt:104:5
 loop-holds : tie.Need-loop-holds Inv-loop μ-loop
@@ -89,7 +96,35 @@ loop-less c = omega arith
 
 -- src/binning.rt:104:5
 loop-again : tie.Need-loop-again Inv-loop μ-loop
-loop-again c = ?
+loop-again c =
+    let l = c .before .before .before in
+    let s = at-entry l in
+    let v = l .loop .inv in
+    let sums = s .args .bin-sums .now in
+    let numbers = s .args .bin-counts .now in
+    let far = s .args .bin-width in
+    ⊎-elim
+    (λ w. (
+      omega arith,
+      omega (arith, w .7, v .1),
+      ap length (w .4) ∙ simp length-set (v .2),
+      ap length (w .5) ∙ simp length-set (v .3),
+      ap length (w .6) ∙ simp length-set (v .4),
+      renamed far sums numbers (w .7) (w .4) (w .5) (w .6)
+      (one-kept far sums numbers (l .loop .i) (l .loop .kept) _ _ _ _ _ (v .5) (w .0 .taken)
+      (ap (λ (x : Float). mul binary64 (add binary64 x half) far) (w .1 .ensures))
+      (ap (λ (x : Float). div binary64 (getD sums (l .loop .i) nan) x) (w .3 .ensures))
+      refl),
+    ))
+    (λ w. (
+      omega arith,
+      omega (arith, w .4, v .1),
+      ap length (w .1) ∙ v .2,
+      ap length (w .2) ∙ v .3,
+      ap length (w .3) ∙ v .4,
+      renamed far sums numbers (w .4) (w .1) (w .2) (w .3) (not-kept far sums numbers (l .loop .i) (l .loop .kept) _ _ (v .5) (w .0 .left)),
+    ))
+    (c .if1 .came)
 
 -- src/binning.rt:88:1
 same-length : tie.Need-same-length Inv-loop μ-loop
@@ -105,7 +140,17 @@ same-length-3 c = search needs
 
 -- src/binning.rt:88:1
 returns : tie.Need-returns Inv-loop μ-loop
-returns c = ?
+returns c q bins wide none =
+    let l = c .before in
+    let a = at-entry l .args in
+    let before : Areas = areasOf (a .distances .now) (a .semivariances .now) (a .counts .now) in
+    let after : Areas = areasOf (l .loop .distances) (l .loop .semivariances) (l .loop .counts) in
+    let n : ℕ = l .loop .kept in
+    let end : l .loop .i ≡ q .bins = omega arith in
+    let p : Progress (width q) (a .bin-sums .now) (a .bin-counts .now) (q .bins) n before after =
+    subst (λ (i : ℕ). Progress (width q) (a .bin-sums .now) (a .bin-counts .now) i n before after) end
+    (subst (λ (w : Float). Progress w (a .bin-sums .now) (a .bin-counts .now) (l .loop .i) n before after) wide (l .loop .inv .5)) in
+    (all-kept q (a .bin-sums .now) (a .bin-counts .now) none n before after p, all-bins q (a .bin-sums .now) (a .bin-counts .now) none n before after p)
 
 pub write-kept-spec : {M : Type 1} → statement M
 write-kept-spec =
