@@ -102,11 +102,11 @@ module _ (width : Float) (sums : List Float) (numbers : List ℕ) where
       record {
         kept-is = ap (λ (k : ℕ). k + 1) (p .kept-is) ∙ sym (length-append ks (i ∷ [])) ∙ ap length (sym more);
         distances-are = one-value (centreOf width) ks i kept x (a .distances) (e .distances) (p .kept-is) ex (p .distances-are)
-        ∙ ap (λ (ls : List ℕ). valuesAt (centreOf width) ls (a .distances)) (sym more);
+            ∙ ap (λ (ls : List ℕ). valuesAt (centreOf width) ls (a .distances)) (sym more);
         semivariances-are = one-value (averageOf sums numbers) ks i kept y (a .semivariances) (e .semivariances) (p .kept-is) ey (p .semivariances-are)
-        ∙ ap (λ (ls : List ℕ). valuesAt (averageOf sums numbers) ls (a .semivariances)) (sym more);
+            ∙ ap (λ (ls : List ℕ). valuesAt (averageOf sums numbers) ls (a .semivariances)) (sym more);
         counts-are = one-value (λ b. getD numbers b 0) ks i kept n (a .counts) (e .counts) (p .kept-is) en (p .counts-are)
-        ∙ ap (λ (ls : List ℕ). valuesAt (λ b. getD numbers b 0) ls (a .counts)) (sym more);
+            ∙ ap (λ (ls : List ℕ). valuesAt (λ b. getD numbers b 0) ls (a .counts)) (sym more);
       }
 
   -- where the areas and the number are known under other names

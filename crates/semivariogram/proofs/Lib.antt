@@ -11,3 +11,4 @@ pub mod Cast
 pub mod OnePass
 pub mod KeptBins
 pub mod Calculated
+pub mod Whole

@@ -4,7 +4,6 @@ use native.Mathlib.Numerals.{add-one}
 use native.Mathlib.Omega.{arith}
 use mathlib.Core.Path.{_≡_, refl, ap, sym, _∙_}
 use mathlib.Core.List.{List, [], _∷_, _++_, map, map-append}
-
 use lib.Ieee.{Float}
 use Rattle.ieee.specs.Floats.{maxOf}
 use Rattle.semivariogram.specs.Pairs.{Pair, pair, rising, pairsFrom, pairs}

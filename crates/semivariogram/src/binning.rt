@@ -80,7 +80,16 @@ pub fn add_pairs(
     ensures { λ _. ⌜ Left (samplesOf (now (points .entry)) (now (values .entry)) d «n_bins») [] (now («bin_sums» .exit)) (now («bin_counts» .exit)) ⌝ }
 {
     for i in 0..values.len() {
-        add_later(points, values, d, n_bins, bin_width, i, bin_sums, bin_counts);
+        add_later(
+            points,
+            values,
+            d,
+            n_bins,
+            bin_width,
+            i,
+            bin_sums,
+            bin_counts,
+        );
     }
 }
 

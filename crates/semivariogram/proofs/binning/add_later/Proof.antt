@@ -162,14 +162,13 @@ loop-again c =
     let b = at-bin c in
     let l = at-loop b in
     let s = at-entry l in
-    let v = l .loop .inv in
-    (
+    let v = l .loop .inv in (
       omega arith,
       refl,
       simp length-set (v .2),
       simp length-set (v .3),
       one-later (taken s) (s .args .i) (l .loop .j) _ (l .loop .bin-sums) (l .loop .bin-counts) (b .bin-of .result) _ (bin-is b) refl (omega arith)
-      (omega (arith, s .pre .1, v .2)) (omega (arith, s .pre .2, v .3)) (v .4),
+          (omega (arith, s .pre .1, v .2)) (omega (arith, s .pre .2, v .3)) (v .4),
     )
 
 -- src/binning.rt:39:1

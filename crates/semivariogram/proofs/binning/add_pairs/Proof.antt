@@ -45,8 +45,7 @@ taken c = let a = c .args in samplesOf (a .points .now) (a .values .now) (a .d) 
 loop-holds : tie.Need-loop-holds Inv-loop μ-loop
 loop-holds c =
     let s = known-lists c .before .before in
-    let a = s .args in
-    (
+    let a = s .args in (
       omega arith,
       refl,
       refl,
@@ -76,8 +75,7 @@ loop-again c =
     let s = at-entry l in
     let n : ℕ = length (s .args .values .now) in
     let kept = d .add-later .kept .1 .1 .1 .1 .1 .1 in
-    let last = d .add-later .last .1 .1 .1 .1 .1 .1 in
-    (
+    let last = d .add-later .last .1 .1 .1 .1 .1 .1 in (
       omega arith,
       refl,
       kept .0 ∙ l .loop .inv .2,

@@ -111,10 +111,10 @@ loop-again c =
       ap length (w .5) ∙ simp length-set (v .3),
       ap length (w .6) ∙ simp length-set (v .4),
       renamed far sums numbers (w .7) (w .4) (w .5) (w .6)
-      (one-kept far sums numbers (l .loop .i) (l .loop .kept) _ _ _ _ _ (v .5) (w .0 .taken)
-      (ap (λ (x : Float). mul binary64 (add binary64 x half) far) (w .1 .ensures))
-      (ap (λ (x : Float). div binary64 (getD sums (l .loop .i) nan) x) (w .3 .ensures))
-      refl),
+          (one-kept far sums numbers (l .loop .i) (l .loop .kept) _ _ _ _ _ (v .5) (w .0 .taken)
+          (ap (λ (x : Float). mul binary64 (add binary64 x half) far) (w .1 .ensures))
+          (ap (λ (x : Float). div binary64 (getD sums (l .loop .i) nan) x) (w .3 .ensures))
+          refl),
     ))
     (λ w. (
       omega arith,

@@ -39,11 +39,10 @@ loop-less c = omega arith
 loop-again : tie.Need-loop-again Inv-loop μ-loop
 loop-again c =
     let l = c .before .before in
-    let a = l .before .before .args in
-    (
+    let a = l .before .before .args in (
       omega arith,
       greatest-sample (lagIn (a .points .now) (a .d)) (l .loop .max-dist) (c .greatest-from .result) (l .loop .i) (a .n) (omega arith) (c .greatest-from .ensures)
-      ∙ l .loop .inv .1,
+          ∙ l .loop .inv .1,
     )
 
 -- max_dist
