@@ -1,7 +1,6 @@
 -- The kept bins as code writes them: bin after bin, from the sums and counts of one pass. Assumes nothing.
-use Prim.Native.Nat.{ℕ, zero, suc, _+_, _*_, _≤_, _<_}
+use Prim.Native.Nat.{ℕ, zero, suc, _+_, _≤_, _<_}
 use native.Mathlib.Nat.{zero-add}
-use native.Mathlib.Numerals.{add-one}
 use native.Mathlib.Omega.{arith}
 use mathlib.Core.Path.{_≡_, refl, ap, ap₂, sym, subst, _∙_}
 use mathlib.Core.Bool.{Bool, true, false, cond}
@@ -19,7 +18,7 @@ use Rattle.semivariogram.specs.Pairs.{rising, pairs, filtered}
 use Rattle.semivariogram.specs.Call.{Samples, Areas, samples, areasOf}
 use Rattle.semivariogram.specs.Bins.{asFloat, half, width, countIn, sumIn, count, average, centre, keptBins, filled}
 use Rattle.semivariogram.specs.Parts.{Left}
-use Rattle.semivariogram.proofs.Lists.{rising-add, filtered-append, filtered-length, length-rising, Ranked, from-rank}
+use Rattle.semivariogram.proofs.Lists.{rising-add, filtered-append, from-rank}
 
 -- ---- the numbers that pass a test, one more looked at
 module _ (keep : ℕ → Bool) (i : ℕ) where
@@ -50,7 +49,8 @@ one-value : {A : Type 0} (f : ℕ → A) (ks : List ℕ) (i n : ℕ) (v : A) (xs
 one-value {A} f ks i n v xs ys m e h =
     let ls : List ℕ = ks ++ (i ∷ []) in
     let g : ℕ → A = λ r. f (getD ls r 0) in
-    let same : ys ≡ written 0 (length ks) g xs = h ∙ same-values 0 (length ks) (λ r. f (getD ks r 0)) g xs (λ j b. ap f (sym (List·getD-append ks (i ∷ []) 0 j b))) in
+    let agree : (j : ℕ) → j < length ks → f (getD ks j 0) ≡ g j = λ j b. ap f (sym (List·getD-append ks (i ∷ []) 0 j b)) in
+    let same : ys ≡ written 0 (length ks) g xs = h ∙ same-values 0 (length ks) (λ r. f (getD ks r 0)) g xs agree in
     ap (λ (k : ℕ). set ys k v) m
     ∙ next-start (length ks) g xs ys v (e ∙ ap f (sym (getD-append-seam ks i [] 0))) same
     ∙ ap (λ (k : ℕ). written 0 k g xs) (sym (length-append ks (i ∷ [])))
@@ -86,10 +86,6 @@ module _ (width : Float) (sums : List Float) (numbers : List ℕ) where
   pub none-yet : (a : Areas) → Progress width sums numbers 0 0 a a
   unfolding rising filtered
   none-yet a = record { kept-is = refl; distances-are = refl; semivariances-are = refl; counts-are = refl }
-
-  -- no more are kept than were looked at
-  pub not-more : (i kept : ℕ) (a e : Areas) → Progress width sums numbers i kept a e → kept ≤ i
-  not-more i kept a e p = omega (arith, p .kept-is, filtered-length (hasPair numbers) (rising 0 i), length-rising 0 i)
 
   -- a bin that has a pair
   pub one-kept : (i kept : ℕ) (a e : Areas) (x y : Float) (n : ℕ) → Progress width sums numbers i kept a e
@@ -150,7 +146,9 @@ module _ (q : Samples) (sums : List Float) (numbers : List ℕ) (none : Left q [
 
   kept-are : keptOf numbers (q .bins) ≡ keptBins q
   unfolding keptBins
-  kept-are = same-tests (hasPair numbers) (λ b. ltb 0 (count q b)) 0 (q .bins) (λ b l. ap (ltb 0) (number-is b (subst (λ (m : ℕ). b < m) (zero-add (q .bins)) l)))
+  kept-are =
+      let inside : (b : ℕ) → b < 0 + q .bins → b < q .bins = λ b l. subst (λ (m : ℕ). b < m) (zero-add (q .bins)) l in
+      same-tests (hasPair numbers) (λ b. ltb 0 (count q b)) 0 (q .bins) (λ b l. ap (ltb 0) (number-is b (inside b l)))
 
   centres : (xs : List Float) → valuesAt (centreOf (width q)) (keptOf numbers (q .bins)) xs ≡ valuesAt (centre q) (keptBins q) xs
   unfolding centre

@@ -28,11 +28,12 @@ fn bin_of(dist: f64, bin_width: f64, n_bins: usize) -> usize
     requires { ⌜ 1 ≤ «n_bins» ⌝ }
     ensures { λ r. ⌜ r ≡ min (toUnsigned 64 (floorOf (div binary64 dist «bin_width»))) («n_bins» - 1) ⌝ }
 {
+    let last = n_bins - 1;
     let bin = as_usize(ieee::floor(dist / bin_width));
-    if bin < n_bins - 1 {
+    if bin < last {
         return bin;
     }
-    n_bins - 1
+    last
 }
 
 // The pairs of the sample i with each later one, each added to its bin.

@@ -1,8 +1,12 @@
 // The experimental semivariogram. What its call answers is defined in specs/.
 mod binning; // binning.rt: the pairs to their bins, and the kept bins to the areas
 mod distances; // distances.rt: the greatest distance
-pub mod refusals; // refusals.rt: what turns a call away
+mod refusals; // refusals.rt: what turns a call away
 
+use crate::binning::add_pairs;
+use crate::binning::write_kept;
+use crate::distances::greatest_distance;
+use crate::refusals::calculate_refusal;
 use error::Judgement;
 use error::Refusal;
 use survey::Limits;
@@ -42,7 +46,7 @@ impl SemivariogramCalculator {
             (outcomeOf r (areasOf (now (distances .exit)) (now (semivariances .exit)) (now (counts .exit)))) ⌝ }
     {
         let limits = Limits::base();
-        let judgement = refusals::calculate_refusal(
+        let judgement = calculate_refusal(
             limits,
             points,
             values,
@@ -55,11 +59,11 @@ impl SemivariogramCalculator {
         if let Judgement::Refused(refusal) = judgement {
             return Semivariogram::Refused(refusal);
         }
-        let max_dist = distances::greatest_distance(points, values.len(), d);
+        let max_dist = greatest_distance(points, values.len(), d);
         let bin_width = max_dist / std::num::nearest_u64_to_f64(n_bins as u64);
         let mut bin_sums = [0.0; 64];
         let mut bin_counts = [0; 64];
-        binning::add_pairs(
+        add_pairs(
             points,
             values,
             d,
@@ -68,7 +72,7 @@ impl SemivariogramCalculator {
             &mut bin_sums,
             &mut bin_counts,
         );
-        let kept = binning::write_kept(
+        let kept = write_kept(
             bin_width,
             n_bins,
             &bin_sums,

@@ -69,31 +69,28 @@ wide c =
     let b = c .nearest-u64-to-f64 in
     width-is (taken (at-entry (at-refusal (c .before .before)))) (g .result) (b .result) (g .ensures) (b .ensures)
 
--- src/lib.rt:44:13
+-- let limits = Limits::base();
 base-requires : tie.Need-base-requires
 base-requires c κs = search needs
 
--- src/lib.rt:45:13
+-- let judgement = calculate_refusal(
 calculate-refusal-requires : tie.Need-calculate-refusal-requires
 calculate-refusal-requires c κs = search needs
 
--- src/lib.rt:55:35
+-- if let Judgement::Refused(refusal) = judgement
 enum-known-judgement : tie.Need-enum-known-judgement
 enum-known-judgement c = search needs
 
--- src/lib.rt:56:13
+-- return Semivariogram::Refused(refusal);
 same-length : tie.Need-same-length
 same-length c = search needs
 
--- src/lib.rt:56:13
 same-length-2 : tie.Need-same-length-2
 same-length-2 c = search needs
 
--- src/lib.rt:56:13
 same-length-3 : tie.Need-same-length-3
 same-length-3 c = search needs
 
--- src/lib.rt:56:13
 returns : tie.Need-returns
 returns c =
     let g = c .before .judgement .given in
@@ -104,23 +101,23 @@ returns c =
 enum-told : tie.Need-enum-told
 enum-told c = search needs
 
--- src/lib.rt:58:13
+-- let max_dist = greatest_distance(points, values.len(), d);
 greatest-distance-requires : tie.Need-greatest-distance-requires
 greatest-distance-requires c κs = search needs
 
--- src/lib.rt:59:36
+-- let bin_width = max_dist / std::num::nearest_u64_to_f64(n_bins as u64);
 nearest-u64-to-f64-requires : tie.Need-nearest-u64-to-f64-requires
 nearest-u64-to-f64-requires c κs = search needs
 
--- src/lib.rt:68:13
+-- &mut bin_sums,
 slice-aggregate-add-pairs : tie.Need-slice-aggregate-add-pairs
 slice-aggregate-add-pairs c = search needs
 
--- src/lib.rt:69:13
+-- &mut bin_counts,
 slice-aggregate-add-pairs-2 : tie.Need-slice-aggregate-add-pairs-2
 slice-aggregate-add-pairs-2 c = search needs
 
--- src/lib.rt:62:9
+-- add_pairs(
 add-pairs-requires : tie.Need-add-pairs-requires
 add-pairs-requires c κs =
     let t = at-told c in
@@ -128,15 +125,15 @@ add-pairs-requires c κs =
     let k = is-accepted t in
     (k .bins .0, k .bins .1, k .bins .1, few-samples base (taken s) (lent s) (no-refusal t), wide (at-width c), none-added (taken s) (k .bins .1))
 
--- src/lib.rt:74:13
+-- &bin_sums,
 slice-aggregate-write-kept : tie.Need-slice-aggregate-write-kept
 slice-aggregate-write-kept c = search needs
 
--- src/lib.rt:75:13
+-- &bin_counts,
 slice-aggregate-write-kept-2 : tie.Need-slice-aggregate-write-kept-2
 slice-aggregate-write-kept-2 c = search needs
 
--- src/lib.rt:71:13
+-- let kept = write_kept(
 write-kept-requires : tie.Need-write-kept-requires
 write-kept-requires c κs =
     let d = at-added c in
@@ -144,19 +141,16 @@ write-kept-requires c κs =
     let kept = d .add-pairs .kept .1 .1 .1 .1 .1 in
     (omega (arith, k .bins .1, kept .0), omega (arith, k .bins .1, kept .1 .0), k .distances, k .semivariances, k .counts)
 
--- src/lib.rt:28:5
+-- at the end
 same-length-4 : tie.Need-same-length-4
 same-length-4 c = search needs
 
--- src/lib.rt:28:5
 same-length-5 : tie.Need-same-length-5
 same-length-5 c = search needs
 
--- src/lib.rt:28:5
 same-length-6 : tie.Need-same-length-6
 same-length-6 c = search needs
 
--- src/lib.rt:28:5
 returns-2 : tie.Need-returns-2
 returns-2 c =
     let w = at-written c in

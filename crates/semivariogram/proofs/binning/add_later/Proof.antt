@@ -1,17 +1,15 @@
 -- `semivariogram::binning::add_later` meets its contract: the pairs that are left are the sample's from j on, and those of the later samples. Assumes nothing.
-use Prim.Native.Nat.{ℕ, suc, _+_, _-_, _*_, _^_, _≤_, _<_}
-use mathlib.Core.Path.{_≡_, refl, ap, sym, _∙_}
+use Prim.Native.Nat.{suc, _-_, _*_, _^_, _≤_, _<_}
+use mathlib.Core.Path.{_≡_, refl, _∙_}
 use mathlib.Core.List.{_++_}
 use native.Mathlib.Omega.{arith}
 use borrow.Author.Needs.{needs}
 use lib.ListN.{length, length-set, getD}
-use lib.Ieee.{Float, nan, binary64, add, sub, mul, div}
 use Rattle.semivariogram.specs.Pairs.{Pair, pair, pairsFrom}
 use Rattle.semivariogram.specs.Call.{Samples, samplesOf}
 use Rattle.semivariogram.specs.Bins.{lag, halfSquare, binOf}
 use Rattle.semivariogram.specs.Parts.{Left}
 use Rattle.semivariogram.proofs.Passes.{laterFrom}
-use Rattle.semivariogram.proofs.Bins.{bin-below}
 use Rattle.semivariogram.proofs.OnePass.{bin-from, count-fits, one-later, first-later, last-later}
 use Rattle.semivariogram.proofs.binning.add_later.Statement.{statement}
 use Rattle.semivariogram.proofs.binning.add_later.Tie as tie
@@ -79,83 +77,70 @@ fits c =
     let l = at-loop c in
     count-fits (taken (at-entry l)) _ (l .loop .bin-sums) (l .loop .bin-counts) (c .bin-of .result) (at-entry l .pre .4) (below-bins c) (l .loop .inv .4)
 
--- src/binning.rt:56:14
+-- for j in i + 1..values.len()
 add-j : tie.Need-add-j Inv-loop μ-loop
 add-j c = omega arith
 
--- src/binning.rt:56:5
 loop-holds : tie.Need-loop-holds Inv-loop μ-loop
 loop-holds c = let s = known-lists c .before .before in (omega arith, refl, refl, refl, first-later (taken s) (s .args .i) _ _ (s .pre .3) (s .pre .6))
 
--- src/binning.rt:57:13
+-- let dist = variogram::calculate_distance(points, i, points, j, d);
 calculate-distance-requires : tie.Need-calculate-distance-requires Inv-loop μ-loop
 calculate-distance-requires c κs = search needs
 
--- src/binning.rt:58:20
+-- let diff = values[i] - values[j];
 mul-diff : tie.Need-mul-diff Inv-loop μ-loop
 mul-diff c = omega arith
 
--- src/binning.rt:58:20
 shared-slice-read-diff : tie.Need-shared-slice-read-diff Inv-loop μ-loop
 shared-slice-read-diff c = omega arith
 
--- src/binning.rt:58:32
 mul-diff-2 : tie.Need-mul-diff-2 Inv-loop μ-loop
 mul-diff-2 c = omega arith
 
--- src/binning.rt:58:32
 shared-slice-read-diff-2 : tie.Need-shared-slice-read-diff-2 Inv-loop μ-loop
 shared-slice-read-diff-2 c = omega arith
 
--- src/binning.rt:60:13
+-- let bin = bin_of(dist, bin_width, n_bins);
 bin-of-requires : tie.Need-bin-of-requires Inv-loop μ-loop
 bin-of-requires c κs = omega arith
 
--- src/binning.rt:61:25
+-- bin_sums[bin] = bin_sums[bin] + semivar;
 mul-bin-sums : tie.Need-mul-bin-sums Inv-loop μ-loop
 mul-bin-sums c = omega (arith, sum-place c)
 
--- src/binning.rt:61:25
 slice-read-bin-sums : tie.Need-slice-read-bin-sums Inv-loop μ-loop
 slice-read-bin-sums c = sum-inside (c .before)
 
--- src/binning.rt:61:9
 mul-bin-sums-2 : tie.Need-mul-bin-sums-2 Inv-loop μ-loop
 mul-bin-sums-2 c = omega (arith, sum-place (c .before))
 
--- src/binning.rt:61:9
 slice-write-bin-sums : tie.Need-slice-write-bin-sums Inv-loop μ-loop
 slice-write-bin-sums c = sum-inside (c .before)
 
--- src/binning.rt:62:27
+-- bin_counts[bin] = bin_counts[bin] + 1;
 mul-bin-counts : tie.Need-mul-bin-counts Inv-loop μ-loop
 mul-bin-counts c = omega (arith, sum-place (c .before))
 
--- src/binning.rt:62:27
 slice-read-bin-counts : tie.Need-slice-read-bin-counts Inv-loop μ-loop
 slice-read-bin-counts c = count-inside (at-bin c)
 
--- src/binning.rt:62:27
 add-bin-counts : tie.Need-add-bin-counts Inv-loop μ-loop
 add-bin-counts c = omega (arith, fits (at-bin c))
 
--- src/binning.rt:62:9
 mul-bin-counts-2 : tie.Need-mul-bin-counts-2 Inv-loop μ-loop
 mul-bin-counts-2 c = omega (arith, sum-place (at-bin c))
 
--- src/binning.rt:62:9
 slice-write-bin-counts : tie.Need-slice-write-bin-counts Inv-loop μ-loop
 slice-write-bin-counts c = count-inside (at-bin c)
 
--- src/binning.rt:56:9
+-- for j in i + 1..values.len()
 add-j-2 : tie.Need-add-j-2 Inv-loop μ-loop
 add-j-2 c = omega arith
 
--- src/binning.rt:56:5
 loop-less : tie.Need-loop-less Inv-loop μ-loop
 loop-less c = omega arith
 
--- src/binning.rt:56:5
 loop-again : tie.Need-loop-again Inv-loop μ-loop
 unfolding halfSquare
 loop-again c =
@@ -171,15 +156,13 @@ loop-again c =
           (omega (arith, s .pre .1, v .2)) (omega (arith, s .pre .2, v .3)) (v .4),
     )
 
--- src/binning.rt:39:1
+-- at the end
 same-length : tie.Need-same-length Inv-loop μ-loop
 same-length c = search needs
 
--- src/binning.rt:39:1
 same-length-2 : tie.Need-same-length-2 Inv-loop μ-loop
 same-length-2 c = search needs
 
--- src/binning.rt:39:1
 returns : tie.Need-returns Inv-loop μ-loop
 returns c =
     let l = c .before in

@@ -1,6 +1,6 @@
 -- `semivariogram::binning::write_kept` meets its contract: after i turns the areas are what the first i bins leave. Assumes nothing.
-use Prim.Native.Nat.{ℕ, _+_, _-_, _*_, _^_, _≤_, _<_}
-use mathlib.Core.Path.{_≡_, refl, ap, sym, subst, _∙_}
+use Prim.Native.Nat.{ℕ, _-_, _≤_}
+use mathlib.Core.Path.{_≡_, refl, ap, subst, _∙_}
 use mathlib.Core.Logic.{⊎-elim}
 use native.Mathlib.Omega.{arith}
 use borrow.Author.Needs.{needs}
@@ -8,7 +8,7 @@ use lib.ListN.{length, length-set, getD}
 use lib.Ieee.{Float, nan, binary64, add, mul, div}
 use Rattle.semivariogram.specs.Call.{Areas, areasOf}
 use Rattle.semivariogram.specs.Bins.{half, width}
-use Rattle.semivariogram.proofs.KeptBins.{Progress, none-yet, not-more, one-kept, renamed, not-kept, all-kept, all-bins}
+use Rattle.semivariogram.proofs.KeptBins.{Progress, none-yet, one-kept, renamed, not-kept, all-kept, all-bins}
 use Rattle.semivariogram.proofs.binning.write_kept.Statement.{statement}
 use Rattle.semivariogram.proofs.binning.write_kept.Tie as tie
 
@@ -30,71 +30,61 @@ known-lists c = c .before .before .before
 abbrev at-entry : State tie.At-loop → State tie.Start
 at-entry c = known-lists (c .before) .before .before
 
--- src/binning.rt:104:5
+-- for i in 0..n_bins
 loop-holds : tie.Need-loop-holds Inv-loop μ-loop
 loop-holds c = (omega arith, omega arith, refl, refl, refl, none-yet _ _ _ _)
 
--- src/binning.rt:105:21
+-- let count = bin_counts[i];
 mul-count : tie.Need-mul-count Inv-loop μ-loop
 mul-count c = omega arith
 
--- src/binning.rt:105:21
 shared-slice-read-count : tie.Need-shared-slice-read-count Inv-loop μ-loop
 shared-slice-read-count c = omega arith
 
--- src/binning.rt:107:32
+-- distances[kept] = (std::num::nearest_u64_to_f64(i as u64) + 0.5) * bin_width;
 nearest-u64-to-f64-requires : tie.Need-nearest-u64-to-f64-requires Inv-loop μ-loop
 nearest-u64-to-f64-requires c κs = search needs
 
--- src/binning.rt:107:13
 mul-distances : tie.Need-mul-distances Inv-loop μ-loop
 mul-distances c = omega arith
 
--- src/binning.rt:107:13
 slice-write-distances : tie.Need-slice-write-distances Inv-loop μ-loop
 slice-write-distances c = omega arith
 
--- src/binning.rt:108:35
+-- semivariances[kept] = bin_sums[i] / std::num::nearest_u64_to_f64(count as u64);
 mul-semivariances : tie.Need-mul-semivariances Inv-loop μ-loop
 mul-semivariances c = omega arith
 
--- src/binning.rt:108:35
 shared-slice-read-semivariances : tie.Need-shared-slice-read-semivariances Inv-loop μ-loop
 shared-slice-read-semivariances c = omega arith
 
--- src/binning.rt:108:49
 nearest-u64-to-f64-requires-2 : tie.Need-nearest-u64-to-f64-requires-2 Inv-loop μ-loop
 nearest-u64-to-f64-requires-2 c κs = search needs
 
--- src/binning.rt:108:13
 mul-semivariances-2 : tie.Need-mul-semivariances-2 Inv-loop μ-loop
 mul-semivariances-2 c = omega arith
 
--- src/binning.rt:108:13
 slice-write-semivariances : tie.Need-slice-write-semivariances Inv-loop μ-loop
 slice-write-semivariances c = omega arith
 
--- src/binning.rt:109:13
+-- counts[kept] = count;
 mul-counts : tie.Need-mul-counts Inv-loop μ-loop
 mul-counts c = omega arith
 
--- src/binning.rt:109:13
 slice-write-counts : tie.Need-slice-write-counts Inv-loop μ-loop
 slice-write-counts c = omega arith
 
--- src/binning.rt:110:13
+-- kept += 1;
 add-kept : tie.Need-add-kept Inv-loop μ-loop
 add-kept c = omega arith
 
--- src/binning.rt:104:9
+-- for i in 0..n_bins
 add-i : tie.Need-add-i Inv-loop μ-loop
 add-i c = omega arith
 
--- src/binning.rt:104:5
 loop-less : tie.Need-loop-less Inv-loop μ-loop
 loop-less c = omega arith
 
--- src/binning.rt:104:5
 loop-again : tie.Need-loop-again Inv-loop μ-loop
 loop-again c =
     let l = c .before .before .before in
@@ -126,19 +116,16 @@ loop-again c =
     ))
     (c .if1 .came)
 
--- src/binning.rt:88:1
+-- at the end
 same-length : tie.Need-same-length Inv-loop μ-loop
 same-length c = search needs
 
--- src/binning.rt:88:1
 same-length-2 : tie.Need-same-length-2 Inv-loop μ-loop
 same-length-2 c = search needs
 
--- src/binning.rt:88:1
 same-length-3 : tie.Need-same-length-3 Inv-loop μ-loop
 same-length-3 c = search needs
 
--- src/binning.rt:88:1
 returns : tie.Need-returns Inv-loop μ-loop
 returns c q bins wide none =
     let l = c .before in

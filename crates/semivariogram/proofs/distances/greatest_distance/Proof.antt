@@ -1,9 +1,8 @@
--- `semivariogram::distances::greatest_distance` meets its contract: the greatest so far, with the samples that are left, is the greatest of all. Assumes nothing.
+-- `semivariogram::distances::greatest_distance` meets its contract: the greatest so far, with the samples that are left, is that of all. Assumes nothing.
 use Prim.Native.Nat.{_-_, _≤_}
-use mathlib.Core.Path.{_≡_, refl, ap, sym, _∙_}
+use mathlib.Core.Path.{_≡_, ap, sym, _∙_}
 use mathlib.Core.List.{List, map}
 use native.Mathlib.Omega.{arith}
-use borrow.Author.Needs.{needs}
 use Rattle.ieee.specs.Floats.{zeroFloat}
 use Rattle.semivariogram.specs.Pairs.{Pair, pairsFrom, pairs}
 use Rattle.semivariogram.specs.Bins.{greatest}
@@ -39,9 +38,10 @@ loop-less c = omega arith
 loop-again : tie.Need-loop-again Inv-loop μ-loop
 loop-again c =
     let l = c .before .before in
-    let a = l .before .before .args in (
+    let a = l .before .before .args in
+    let g = c .greatest-from in (
       omega arith,
-      greatest-sample (lagIn (a .points .now) (a .d)) (l .loop .max-dist) (c .greatest-from .result) (l .loop .i) (a .n) (omega arith) (c .greatest-from .ensures)
+      greatest-sample (lagIn (a .points .now) (a .d)) (l .loop .max-dist) (g .result) (l .loop .i) (a .n) (omega arith) (g .ensures)
           ∙ l .loop .inv .1,
     )
 

@@ -44,10 +44,11 @@ loop-again : tie.Need-loop-again Inv-loop μ-loop
 loop-again c =
     let h = c .before in
     let l = h .before .before in
-    let a = l .before .before .args in (
+    let a = l .before .before .args in
+    let d = h .calculate-distance in (
       omega arith,
-      greatest-turn (lagIn (a .points .now) (a .d)) (l .loop .max-dist) (h .calculate-distance .result) (c .max .result) (a .i) (l .loop .j) (a .n) (omega arith)
-          (h .calculate-distance .ensures) (c .max .ensures)
+      greatest-turn (lagIn (a .points .now) (a .d)) (l .loop .max-dist) (d .result) (c .max .result) (a .i) (l .loop .j) (a .n) (omega arith)
+          (d .ensures) (c .max .ensures)
           ∙ l .loop .inv .1,
     )
 

@@ -1,11 +1,10 @@
 -- `semivariogram::refusals::calculate_refusal` meets its contract: test after test. Assumes nothing.
-use Prim.Native.Nat.{ℕ, _*_}
+use Prim.Native.Nat.{ℕ}
 use mathlib.Core.Path.{_≡_, refl, sym, ap, _∙_}
-use mathlib.Core.Bool.{Bool, not}
+use mathlib.Core.Bool.{not}
 use mathlib.Core.List.{List, [], _∷_}
 use borrow.Author.Needs.{needs}
 use borrow.Author.Tests.{lt-ltb, le-ltb}
-use lib.Dec.{eqb}
 use lib.ListN.{length}
 use Rattle.error.specs.Tests.{Test, test, firstOf}
 use Rattle.error.proofs.First.{here, past, none, one, other}
