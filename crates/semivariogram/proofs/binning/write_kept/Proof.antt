@@ -101,7 +101,7 @@ loop-again c =
       ap length (w .5) ∙ simp length-set (v .3),
       ap length (w .6) ∙ simp length-set (v .4),
       renamed far sums numbers (w .7) (w .4) (w .5) (w .6)
-          (one-kept far sums numbers (l .loop .i) (l .loop .kept) _ _ _ _ _ (v .5) (w .0 .taken)
+          (one-kept far sums numbers (l .loop .i) (l .loop .kept) _ _ _ _ _ (v .5) (omega (arith, w .0 .taken))
           (ap (λ (x : Float). mul binary64 (add binary64 x half) far) (w .1 .ensures))
           (ap (λ (x : Float). div binary64 (getD sums (l .loop .i) nan) x) (w .3 .ensures))
           refl),
@@ -112,7 +112,7 @@ loop-again c =
       ap length (w .1) ∙ v .2,
       ap length (w .2) ∙ v .3,
       ap length (w .3) ∙ v .4,
-      renamed far sums numbers (w .4) (w .1) (w .2) (w .3) (not-kept far sums numbers (l .loop .i) (l .loop .kept) _ _ (v .5) (w .0 .left)),
+      renamed far sums numbers (w .4) (w .1) (w .2) (w .3) (not-kept far sums numbers (l .loop .i) (l .loop .kept) _ _ (v .5) (omega (arith, w .0 .left))),
     ))
     (c .if1 .came)
 
