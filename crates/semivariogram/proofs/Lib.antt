@@ -6,4 +6,9 @@ pub mod Accepted
 pub mod Greatest
 pub mod Farthest
 pub mod BinOf
+pub mod Passes
+pub mod Cast
+pub mod OnePass
+pub mod KeptBins
 pub mod Calculated
+pub mod Whole

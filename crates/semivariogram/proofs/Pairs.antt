@@ -12,7 +12,7 @@ use Rattle.semivariogram.specs.Pairs.{Pair, pair, rising, pairsFrom, pai
 use Rattle.semivariogram.proofs.Lists.{length-rising}
 
 -- twice the pairs of k samples, and one for each sample, is k times k
-twice : (i k : ℕ) → 2 * length (pairsFrom i k) + k ≡ k * k
+pub twice : (i k : ℕ) → 2 * length (pairsFrom i k) + k ≡ k * k
 unfolding pairsFrom
 twice i zero = refl
 twice i (suc k) =

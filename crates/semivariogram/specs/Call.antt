@@ -31,6 +31,14 @@ abbrev pub outcomeOf : Semivariogram → Areas → Outcome
 outcomeOf (Bins k) a = record { number = 0; kept = k; areas = a }
 outcomeOf (Refused r) a = record { number = numberOf r; kept = 0; areas = a }
 
+-- a call's lists and numbers as what it takes
+abbrev pub samplesOf : List Float → List Float → ℕ → ℕ → Samples
+samplesOf points values d bins = record { dimension = d; values = values; points = points; bins = bins }
+
+-- and its three areas as what it is lent
+abbrev pub areasOf : List Float → List Float → List ℕ → Areas
+areasOf distances semivariances counts = record { distances = distances; semivariances = semivariances; counts = counts }
+
 -- n, the number of samples
 abbrev pub samples : Samples → ℕ
 samples q = length (q .values)

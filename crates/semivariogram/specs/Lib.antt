@@ -3,5 +3,6 @@ pub mod Call
 pub mod Rules
 pub mod Refusals
 pub mod Bins
+pub mod Parts
 pub mod Semivariogram
 pub mod Binned

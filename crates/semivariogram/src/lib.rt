@@ -1,8 +1,20 @@
-// The experimental semivariogram: the answer of its call. What the call answers is defined in specs/.
-use error::Refusal;
+// The experimental semivariogram. What its call answers is defined in specs/.
+mod binning; // binning.rt: the pairs to their bins, and the kept bins to the areas
+mod distances; // distances.rt: the greatest distance
+mod refusals; // refusals.rt: what turns a call away
 
-// Semivariogram calculator
-pub struct SemivariogramCalculator;
+use crate::binning::add_pairs;
+use crate::binning::write_kept;
+use crate::distances::greatest_distance;
+use crate::refusals::calculate_refusal;
+use error::Judgement;
+use error::Refusal;
+use survey::Limits;
+ghost use mathlib.Core.Path.{_≡_};
+ghost use Rattle.survey.specs.Limits.{base};
+ghost use Rattle.semivariogram.specs.Call.{samplesOf, areasOf, outcomeOf};
+ghost use Rattle.semivariogram.specs.Semivariogram.{calculated};
+ghost use Rattle.semivariogram.specs.Binned.{Ends};
 
 // How a call of the calculator ends.
 pub enum Semivariogram {
@@ -10,4 +22,65 @@ pub enum Semivariogram {
     Bins(usize),
     // What turned the call away.
     Refused(Refusal),
+}
+
+// Semivariogram calculator
+pub struct SemivariogramCalculator;
+
+impl SemivariogramCalculator {
+    // Calculate the experimental semivariogram of points of d numbers, row after row, with a value at each.
+    pub fn calculate(
+        points: &[f64],
+        values: &[f64],
+        d: usize,
+        n_bins: usize,
+        distances: &mut [f64],
+        semivariances: &mut [f64],
+        counts: &mut [usize],
+    ) -> Semivariogram
+        ensures is { λ r. ⌜ outcomeOf r (areasOf (now (distances .exit)) (now (semivariances .exit)) (now (counts .exit)))
+            ≡ calculated base (samplesOf (now (points .entry)) (now (values .entry)) d «n_bins»)
+            (areasOf (now (distances .entry)) (now (semivariances .entry)) (now (counts .entry))) ⌝ }
+        ensures ends { λ r. ⌜ Ends base (samplesOf (now (points .entry)) (now (values .entry)) d «n_bins»)
+            (areasOf (now (distances .entry)) (now (semivariances .entry)) (now (counts .entry)))
+            (outcomeOf r (areasOf (now (distances .exit)) (now (semivariances .exit)) (now (counts .exit)))) ⌝ }
+    {
+        let limits = Limits::base();
+        let judgement = calculate_refusal(
+            limits,
+            points,
+            values,
+            d,
+            n_bins,
+            distances,
+            semivariances,
+            counts,
+        );
+        if let Judgement::Refused(refusal) = judgement {
+            return Semivariogram::Refused(refusal);
+        }
+        let max_dist = greatest_distance(points, values.len(), d);
+        let bin_width = max_dist / std::num::nearest_u64_to_f64(n_bins as u64);
+        let mut bin_sums = [0.0; 64];
+        let mut bin_counts = [0; 64];
+        add_pairs(
+            points,
+            values,
+            d,
+            n_bins,
+            bin_width,
+            &mut bin_sums,
+            &mut bin_counts,
+        );
+        let kept = write_kept(
+            bin_width,
+            n_bins,
+            &bin_sums,
+            &bin_counts,
+            distances,
+            semivariances,
+            counts,
+        );
+        Semivariogram::Bins(kept)
+    }
 }

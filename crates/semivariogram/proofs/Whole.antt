@@ -1,0 +1,67 @@
+-- The call's parts put together: what it starts from, and what it comes to, refused or not. Assumes nothing.
+use Prim.Native.Nat.{ℕ, zero, suc, _+_, _≤_}
+use native.Mathlib.Nat.{zero-add}
+use native.Mathlib.Omega.{arith}
+use mathlib.Core.Path.{_≡_, refl, ap, ap₂, sym, subst, _∙_}
+use mathlib.Core.Logic.{_≢_}
+use mathlib.Core.Bool.{true}
+use mathlib.Core.List.{[], _∷_, map}
+use lib.ListN.{length, replicate, getD-replicate}
+use lib.Ieee.{Float, nan, binary64, div}
+use Rattle.error.specs.Numbers.{numberOf}
+use Rattle.error.specs.Tests.{test}
+use Rattle.error.specs.declared.Judgement.the-variants.{Refused}
+use Rattle.error.specs.declared.Refusal.{Refusal}
+use Rattle.error.proofs.First.{here, none, refused}
+use Rattle.ieee.specs.Floats.{zeroFloat}
+use Rattle.survey.specs.declared.Limits.{Limits}
+use Rattle.semivariogram.specs.Pairs.{pairs}
+use Rattle.semivariogram.specs.Call.{Samples, Areas, Outcome, samples}
+use Rattle.semivariogram.specs.Refusals.{refusal}
+use Rattle.semivariogram.specs.Bins.{asFloat, lag, greatest, longest, width, sumIn, count, keptBins, filled}
+use Rattle.semivariogram.specs.Parts.{lagIn, Left}
+use Rattle.semivariogram.specs.Semivariogram.{callWhere, calculated}
+use Rattle.semivariogram.specs.Binned.{Ends}
+use Rattle.semivariogram.proofs.Calculated.{is-done, ends}
+
+-- ---- the start
+-- "Width = greatest distance / bins"
+pub width-is : (q : Samples) (h b : Float) → h ≡ greatest zeroFloat (map (lagIn (q .points) (q .dimension)) (pairs (samples q))) → b ≡ asFloat (q .bins)
+    → div binary64 h b ≡ width q
+unfolding width longest lag
+width-is q h b e f = ap₂ (λ (x y : Float). div binary64 x y) e f
+
+-- before the first pair all sums and counts are 0
+pub none-added : (q : Samples) → q .bins ≤ 64 → Left q (pairs (samples q)) (replicate 64 zeroFloat) (replicate 64 0)
+unfolding count
+none-added q h = record {
+  sum = λ b l. ap (λ (s : Float). sumIn q b s (pairs (samples q))) (getD-replicate 64 b zeroFloat nan (omega arith));
+  number = λ b l. ap (λ (n : ℕ). n + count q b) (getD-replicate 64 b 0 0 (omega arith)) ∙ zero-add (count q b);
+}
+
+-- ---- the end
+numbered : (r : Refusal) → numberOf r ≢ 0
+numbered r z =
+    let one : numberOf r ≡ 1 = refused (Refused r) r [] (test 1 true ∷ []) refl (z ∙ sym none) ∙ here 1 [] refl in
+    omega arith
+
+-- "A refusal carries only its number and writes nothing"
+pub refused-is : (limits : Limits) (q : Samples) (a : Areas) (r : Refusal) → numberOf r ≡ refusal limits q a
+    → (record { number = numberOf r; kept = 0; areas = a }) ≡ calculated limits q a
+unfolding calculated callWhere
+refused-is limits q a r e = go (refusal limits q a) e
+  where
+    go : (n : ℕ) → numberOf r ≡ n → (record { number = numberOf r; kept = 0; areas = a }) ≡ callWhere n q a
+    go zero f = absurd (numbered r f)
+    go (suc k) f = ap (λ (n : ℕ). record { number = n; kept = 0; areas = a }) f
+
+pub done-is : (limits : Limits) (q : Samples) (a e : Areas) (n : ℕ) → refusal limits q a ≡ 0 → n ≡ length (keptBins q) → e ≡ filled q a
+    → (record { number = 0; kept = n; areas = e }) ≡ calculated limits q a
+done-is limits q a e n h f g =
+    ap (λ (m : ℕ). record { number = 0; kept = m; areas = e }) f
+    ∙ ap (λ (d : Areas). record { number = 0; kept = length (keptBins q); areas = d }) g
+    ∙ sym (is-done limits q a h)
+
+-- what equals the definition has all that holds of it
+pub has-ends : (limits : Limits) (q : Samples) (a : Areas) (o : Outcome) → o ≡ calculated limits q a → (o ≡ calculated limits q a) × Ends limits q a o
+has-ends limits q a o e = (e, subst (Ends limits q a) (sym e) (ends limits q a))

@@ -1,0 +1,124 @@
+// The bins: each pair is added to its own, in one pass over the pairs, and the kept ones are written.
+ghost use mathlib.Core.Path.{_≡_};
+ghost use mathlib.Core.List.{[]};
+ghost use Prim.Native.Nat.{suc, _-_, _≤_, _<_, min};
+ghost use lib.ListN.{length};
+ghost use lib.Ieee.{binary64, div, toUnsigned};
+ghost use Rattle.ieee.specs.Floats.{floorOf};
+ghost use Rattle.semivariogram.specs.Pairs.{pairsFrom, pairs};
+ghost use Rattle.semivariogram.specs.Call.{Samples, samplesOf, areasOf};
+ghost use Rattle.semivariogram.specs.Bins.{width, keptBins, filled};
+ghost use Rattle.semivariogram.specs.Parts.{Left};
+
+// x as a whole number, as the Rust's cast has it at every x: without its fraction, 0 for a NaN and below zero, and the greatest there is where x is above that.
+fn as_usize(x: f64) -> usize
+    ensures { λ r. ⌜ r ≡ toUnsigned 64 x ⌝ }
+{
+    if x > -1.0 {
+        if x < 18446744073709551616.0 {
+            return std::num::truncating_f64_to_u64(x) as usize;
+        }
+        return 0xffff_ffff_ffff_ffff;
+    }
+    0
+}
+
+// The bin of a distance: of what is above the last one, the last.
+fn bin_of(dist: f64, bin_width: f64, n_bins: usize) -> usize
+    requires { ⌜ 1 ≤ «n_bins» ⌝ }
+    ensures { λ r. ⌜ r ≡ min (toUnsigned 64 (floorOf (div binary64 dist «bin_width»))) («n_bins» - 1) ⌝ }
+{
+    let last = n_bins - 1;
+    let bin = as_usize(ieee::floor(dist / bin_width));
+    if bin < last {
+        return bin;
+    }
+    last
+}
+
+// The pairs of the sample i with each later one, each added to its bin.
+fn add_later(
+    points: &[f64],
+    values: &[f64],
+    d: usize,
+    n_bins: usize,
+    bin_width: f64,
+    i: usize,
+    bin_sums: &mut [f64],
+    bin_counts: &mut [usize],
+)
+    requires { ⌜ (1 ≤ «n_bins») × («n_bins» ≤ length (now «bin_sums»)) × («n_bins» ≤ length (now «bin_counts»))
+        × (i < length (now values)) × (length (now values) ≤ 48)
+        × («bin_width» ≡ width (samplesOf (now points) (now values) d «n_bins»))
+        × Left (samplesOf (now points) (now values) d «n_bins») (pairsFrom i (length (now values) - i)) (now «bin_sums») (now «bin_counts») ⌝ }
+    ensures { λ _. ⌜ Left (samplesOf (now (points .entry)) (now (values .entry)) d «n_bins»)
+        (pairsFrom (suc i) (length (now (values .entry)) - suc i)) (now («bin_sums» .exit)) (now («bin_counts» .exit)) ⌝ }
+{
+    for j in i + 1..values.len() {
+        let dist = variogram::calculate_distance(points, i, points, j, d);
+        let diff = values[i] - values[j];
+        let semivar = 0.5 * (diff * diff);
+        let bin = bin_of(dist, bin_width, n_bins);
+        bin_sums[bin] = bin_sums[bin] + semivar;
+        bin_counts[bin] = bin_counts[bin] + 1;
+    }
+}
+
+// All pairs, each added to its bin.
+pub fn add_pairs(
+    points: &[f64],
+    values: &[f64],
+    d: usize,
+    n_bins: usize,
+    bin_width: f64,
+    bin_sums: &mut [f64],
+    bin_counts: &mut [usize],
+)
+    requires { ⌜ (1 ≤ «n_bins») × («n_bins» ≤ length (now «bin_sums»)) × («n_bins» ≤ length (now «bin_counts»))
+        × (length (now values) ≤ 48)
+        × («bin_width» ≡ width (samplesOf (now points) (now values) d «n_bins»))
+        × Left (samplesOf (now points) (now values) d «n_bins») (pairs (length (now values))) (now «bin_sums») (now «bin_counts») ⌝ }
+    ensures { λ _. ⌜ Left (samplesOf (now (points .entry)) (now (values .entry)) d «n_bins») [] (now («bin_sums» .exit)) (now («bin_counts» .exit)) ⌝ }
+{
+    for i in 0..values.len() {
+        add_later(
+            points,
+            values,
+            d,
+            n_bins,
+            bin_width,
+            i,
+            bin_sums,
+            bin_counts,
+        );
+    }
+}
+
+// The kept bins, rising, to the first places of the areas: centre, average and count. How many they are.
+pub fn write_kept(
+    bin_width: f64,
+    n_bins: usize,
+    bin_sums: &[f64],
+    bin_counts: &[usize],
+    distances: &mut [f64],
+    semivariances: &mut [f64],
+    counts: &mut [usize],
+) -> usize
+    requires { ⌜ («n_bins» ≤ length (now «bin_sums»)) × («n_bins» ≤ length (now «bin_counts»))
+        × («n_bins» ≤ length (now distances)) × («n_bins» ≤ length (now semivariances)) × («n_bins» ≤ length (now counts)) ⌝ }
+    ensures { λ r. ⌜ ((q : Samples) → q .bins ≡ «n_bins» → «bin_width» ≡ width q → Left q [] (now («bin_sums» .entry)) (now («bin_counts» .entry))
+        → (r ≡ length (keptBins q)) × (areasOf (now (distances .exit)) (now (semivariances .exit)) (now (counts .exit))
+        ≡ filled q (areasOf (now (distances .entry)) (now (semivariances .entry)) (now (counts .entry))))) ⌝ }
+{
+    let mut kept = 0;
+    for i in 0..n_bins {
+        let count = bin_counts[i];
+        if count > 0 {
+            distances[kept] = (std::num::nearest_u64_to_f64(i as u64) + 0.5) * bin_width;
+            semivariances[kept] = bin_sums[i] / std::num::nearest_u64_to_f64(count as u64);
+            counts[kept] = count;
+            kept += 1;
+        }
+    }
+    kept
+}
