@@ -20,8 +20,9 @@ evaluate-requires c κs = search needs
 
 returns : tie.Need-returns
 returns c =
-    let v = at-entry (c .before) .args .variogram in
-    ap (λ (x : Float). sub binary64 (v .sill) x) (c .evaluate .ensures ∙ ap (semivariance v) (c .before .calculate-distance .ensures))
+    let e = c .before in
+    let v = at-entry (e .before) .args .variogram in
+    ap (λ (x : Float). sub binary64 (v .sill) x) (e .evaluate .ensures ∙ ap (semivariance v) (e .before .calculate-distance .ensures))
 
 pub covariance-spec : {M : Type 1} → statement M
 covariance-spec = tie.close (tie.spec calculate-distance-requires evaluate-requires returns)

@@ -7,17 +7,18 @@ use borrow.Author.Needs.{needs}
 use Rattle.area.specs.Area.{written}
 use Rattle.area.proofs.Places.{next, all-turns}
 use Rattle.elimination.specs.Inverse.{besideIdentity}
-use Rattle.interpolator.proofs.Entries.{matrix}
+use Rattle.interpolator.specs.Call.{known}
+use Rattle.interpolator.specs.Assembly.{entry}
 use Rattle.interpolator.proofs.assembly.fill_matrix_row.Statement.{statement}
 use Rattle.interpolator.proofs.assembly.fill_matrix_row.Tie as tie
 
 abbrev Inv-loop : tie.InvT-loop
-Inv-loop coords options drift n p i work₀ width row j₀ work j =
-    (j ≤ width) × (width ≡ 2 * (n + p)) × (row ≡ i * (2 * (n + p))) × (length work ≡ length work₀)
-    × (work ≡ written (i * (2 * (n + p))) j (besideIdentity (n + p) (matrix coords options drift n p) i) work₀)
+Inv-loop interpolator values points d size i work₀ width row j₀ work j =
+    (j ≤ width) × (width ≡ 2 * size) × (row ≡ i * (2 * size)) × (length work ≡ length work₀)
+    × (work ≡ written (i * (2 * size)) j (besideIdentity size (entry (known interpolator values points d)) i) work₀)
 
 abbrev μ-loop : tie.MeasureT-loop
-μ-loop coords options drift n p i work₀ width row j₀ work j = width - j
+μ-loop interpolator values points d size i work₀ width row j₀ work j = width - j
 
 -- The states that the needs look back to, in the order of the code: a name takes a later state back to its own.
 abbrev State : (tie.InvT-loop → tie.MeasureT-loop → Type 0) → Type 0
@@ -31,10 +32,7 @@ at-entry c = at-lent c .before .before
 
 -- The needs, grouped below the lines of src/ that they are for.
 
--- let width = 2 * (n + p);
-add-width : tie.Need-add-width Inv-loop μ-loop
-add-width c = omega arith
-
+-- let width = 2 * size;
 mul-width : tie.Need-mul-width Inv-loop μ-loop
 mul-width c = omega arith
 
@@ -46,9 +44,12 @@ mul-row c = omega arith
 loop-holds : tie.Need-loop-holds Inv-loop μ-loop
 loop-holds c = (omega arith, refl, refl, refl, refl)
 
--- work[row + j] = entry_beside(coords, options, drift, n, p, i, j);
+-- work[row + j] = entry_beside(interpolator, values, points, d, size, i, j);
 entry-beside-requires : tie.Need-entry-beside-requires Inv-loop μ-loop
-entry-beside-requires c κs = omega arith
+entry-beside-requires c κs =
+    let h = c .before in
+    let p = at-entry h .pre in
+    (p .0, omega arith, p .1, p .2, p .3)
 
 add-work : tie.Need-add-work Inv-loop μ-loop
 add-work c = omega arith
@@ -71,15 +72,15 @@ loop-again c =
     let h = c .before .before in
     let l = h .loop in
     let a = at-entry h .args in
-    let e = besideIdentity (a .n + a .p) (matrix (a .coords .now) (a .options) (a .drift .now) (a .n) (a .p)) (a .i) in (
+    let e = besideIdentity (a .size) (entry (known (a .interpolator) (a .values .now) (a .points .now) (a .d))) (a .i) in (
       omega arith,
       refl,
       refl,
       simp length-set (l .inv .3),
-      next (a .i * (2 * (a .n + a .p))) (l .j) e (a .work .now) (l .work) (c .entry-beside .result) (c .entry-beside .ensures) (l .inv .4),
+      next (a .i * (2 * a .size)) (l .j) e (a .work .now) (l .work) (c .entry-beside .result) (c .entry-beside .ensures) (l .inv .4),
     )
 
--- fn fill_matrix_row(coords: &[f64], options: UniversalKrigingOptions, drift: &[f64], n: usize, p: usize, i: usize, work: &mut [f64])
+-- fn fill_matrix_row(..)
 same-length : tie.Need-same-length Inv-loop μ-loop
 same-length c = search needs
 
@@ -87,7 +88,7 @@ returns : tie.Need-returns Inv-loop μ-loop
 returns c =
     let l = c .before .loop in
     let a = at-entry (c .before) .args in
-    let all : l .j ≡ 2 * (a .n + a .p) = omega arith in
+    let all : l .j ≡ 2 * a .size = omega arith in
     all-turns _ _ _ all (l .inv .4)
 
 pub fill-matrix-row-spec : {M : Type 1} → statement M
@@ -96,7 +97,6 @@ fill-matrix-row-spec =
     (tie.spec
     Inv-loop
     μ-loop
-    add-width
     mul-width
     mul-row
     loop-holds
