@@ -13,7 +13,8 @@ use Rattle.variogram.specs.Distance.{axisFrom, distance}
 use Rattle.elimination.specs.Inverse.{besideIdentity}
 use Rattle.interpolator.specs.declared.KrigingType.{KrigingType}
 use Rattle.interpolator.specs.declared.KrigingType.the-variants.{Ordinary, Universal}
-use Rattle.interpolator.specs.Call.{Query, wells, added}
+use Rattle.interpolator.specs.declared.KrigingInterpolator.{KrigingInterpolator}
+use Rattle.interpolator.specs.Call.{Query, queryOf, known, wells, added}
 use Rattle.interpolator.specs.Assembly.{covariance, trend, trendAt, column, entry}
 
 -- ---- a term of the trend
@@ -69,6 +70,16 @@ module _ (q : Query) (i j : ℕ) where
   pub lower-right : wells q ≤ j → wells q ≤ i → zeroFloat ≡ entry q i j
   unfolding entry
   lower-right h k = rw (le-ltb j (wells q) h, le-ltb i (wells q) k)
+
+-- ---- neither reads the targets
+module _ (interpolator : KrigingInterpolator) (values points targets : List Float) (d : ℕ) where
+  pub column-unread : (ys : List Float) (j : ℕ) → column (known interpolator values points d) ys j ≡ column (queryOf interpolator values points targets d) ys j
+  unfolding column covariance trendAt
+  column-unread ys j = refl
+
+  pub entry-unread : entry (known interpolator values points d) ≡ entry (queryOf interpolator values points targets d)
+  unfolding entry column covariance trendAt
+  entry-unread = refl
 
 -- ---- the identity beside a matrix
 module _ (s : ℕ) (matrix : ℕ → ℕ → Float) (i c : ℕ) where

@@ -8,13 +8,14 @@ use lib.ListN.{length, getD}
 use lib.Ieee.{Float, nan, binary64, sub, mul}
 use Rattle.area.specs.Area.{written}
 use Rattle.area.proofs.Start.{from-start}
+use Rattle.area.proofs.Places.{all-turns}
 use Rattle.ieee.specs.Floats.{notBelowZero}
 use Rattle.ieee.specs.Sums.{runningSum, lessEach}
 use Rattle.ieee.proofs.Sums.{same-sum, same-less}
 use Rattle.elimination.specs.Inverse.{inverseAt, timesInverse}
-use Rattle.interpolator.specs.Call.{Query, Areas, areasOf, wells, size}
+use Rattle.interpolator.specs.Call.{Query, Areas, areasOf, wells, nodeCount, size}
 use Rattle.interpolator.specs.Assembly.{rightSide}
-use Rattle.interpolator.specs.Interpolation.{solution, figure, variance}
+use Rattle.interpolator.specs.Interpolation.{solution, figure, variance, answered}
 
 -- ---- a loop that takes a term away a turn: before its first turn, one turn more, and where it ends
 pub none-taken : (x : Float) (f : ℕ → Float) → x ≡ lessEach x 0 f
@@ -40,12 +41,12 @@ unfolding timesInverse
 same-times s work f g i h = same-sum s _ _ (λ j l. ap (λ (x : Float). mul binary64 (inverseAt s work i j) x) (h j l))
 
 -- as the two fills leave them
-pub filled-solved : (q : Query) (work : List Float) (t s : ℕ) (b₀ z₀ : List Float) {b z : List Float} → s ≡ size q → s ≤ length b₀ → s ≤ length z₀
-    → b ≡ written 0 s (rightSide q t) b₀ → z ≡ written 0 s (timesInverse s work (λ j. getD b j nan)) z₀ → Solved q work t s b z
+pub filled-solved : (q : Query) (work : List Float) (t s : ℕ) (b₀ z₀ b z : List Float) (g : ℕ → Float) → s ≡ size q → g ≡ rightSide q t
+    → b ≡ written 0 s g b₀ → z ≡ written 0 s (timesInverse s work (λ j. getD b j nan)) z₀ → s ≤ length b₀ → s ≤ length z₀ → Solved q work t s b z
 unfolding solution
-filled-solved q work t s b₀ z₀ {b} {z} e lb lz hb hz =
+filled-solved q work t s b₀ z₀ b z g e u hb hz lb lz =
     let right : (i : ℕ) → i < s → getD b i nan ≡ rightSide q t i =
-      λ i h. ap (λ (xs : List Float). getD xs i nan) hb ∙ from-start s (rightSide q t) b₀ i nan lb h in
+      λ i h. ap (λ (xs : List Float). getD xs i nan) hb ∙ from-start s g b₀ i nan lb h ∙ ap (λ (f : ℕ → Float). f i) u in
     record {
       sized = e;
       right = right;
@@ -72,3 +73,9 @@ module _ (q : Query) (work : List Float) (t s : ℕ) (b z : List Float) (h : Sol
       ∙ ap notBelowZero (
       same-less (q .variogram .sill) s _ _ (λ i l. ap₂ (λ (x y : Float). mul binary64 x y) (h .solved i l) (h .right i l))
       ∙ ap (λ (n : ℕ). lessEach (q .variogram .sill) n (λ i. mul binary64 (solution q work t i) (rightSide q t i))) (h .sized))
+
+-- ---- every target: what so many turns have left in the answer areas is the answer once they are all
+pub all-answered : (q : Query) (a : Areas) {m : ℕ} {fs vs : List Float} → m ≡ nodeCount q → fs ≡ written 0 m (figure q (a .work)) (a .figures)
+    → vs ≡ written 0 m (variance q (a .work)) (a .variances) → areasOf (a .work) fs vs ≡ answered q a (a .work)
+unfolding answered
+all-answered q a e f v = ap₂ (λ (xs ys : List Float). areasOf (a .work) xs ys) (all-turns 0 _ _ e f) (all-turns 0 _ _ e v)
