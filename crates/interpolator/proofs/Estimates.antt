@@ -46,7 +46,7 @@ pub filled-solved : (q : Query) (work : List Float) (t s : ℕ) (b₀ z₀ b z :
 unfolding solution
 filled-solved q work t s b₀ z₀ b z g e u hb hz lb lz =
     let right : (i : ℕ) → i < s → getD b i nan ≡ rightSide q t i =
-      λ i h. ap (λ (xs : List Float). getD xs i nan) hb ∙ from-start s g b₀ i nan lb h ∙ ap (λ (f : ℕ → Float). f i) u in
+    λ i h. ap (λ (xs : List Float). getD xs i nan) hb ∙ from-start s g b₀ i nan lb h ∙ ap (λ (f : ℕ → Float). f i) u in
     record {
       sized = e;
       right = right;

@@ -1,28 +1,24 @@
-// The interpolator's matrix beside the identity, in the lent work area.
+// The interpolator's matrix beside the identity, in the lent work area, and its elimination there.
 use crate::KrigingInterpolator;
 use crate::trend::trend_term;
+use elimination::Elimination;
 use variogram::Variogram;
 ghost use mathlib.Core.Path.{_≡_};
+ghost use mathlib.Core.Bool.{false};
 ghost use Prim.Native.Nat.{_+_, _*_, _^_, _≤_, _<_};
 ghost use lib.ListN.{length};
 ghost use lib.Ieee.{binary64, sub};
 ghost use Rattle.area.specs.Area.{written};
 ghost use Rattle.variogram.specs.Model.{semivariance};
 ghost use Rattle.variogram.specs.Distance.{distance};
+ghost use Rattle.elimination.specs.Elimination.{outcomeOf, eliminated};
 ghost use Rattle.elimination.specs.Inverse.{besideIdentity, laid};
 ghost use Rattle.interpolator.specs.declared.KrigingType.the-variants.{Universal};
 ghost use Rattle.interpolator.specs.Call.{known, added};
 ghost use Rattle.interpolator.specs.Assembly.{column, entry};
 
 // Sill less the variogram, between the known point i and the point j of a list. On the diagonal too: the variogram is 0 there.
-fn covariance(
-    variogram: Variogram,
-    points: &[f64],
-    i: usize,
-    ys: &[f64],
-    j: usize,
-    d: usize,
-) -> f64
+fn covariance(variogram: Variogram, points: &[f64], i: usize, ys: &[f64], j: usize, d: usize) -> f64
     ensures { λ r. ⌜ r ≡ sub binary64 (variogram .sill) (semivariance variogram (distance (now (points .entry)) i (now (ys .entry)) j d)) ⌝ }
 {
     let dist = variogram::calculate_distance(points, i, ys, j, d);
@@ -136,4 +132,11 @@ pub fn build_covariance_matrix(
     for i in 0..size {
         fill_matrix_row(interpolator, values, points, d, size, i, work);
     }
+}
+
+// The elimination of the matrix, in place: the interpolator's, which skips no zero factor.
+pub fn solve_kriging_system(work: &mut [f64], size: usize) -> Elimination
+    ensures { λ r. ⌜ outcomeOf r (now (work .exit)) ≡ eliminated false size (now (work .entry)) ⌝ }
+{
+    elimination::matrix_inverse(work, size)
 }

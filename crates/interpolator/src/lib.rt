@@ -1,7 +1,7 @@
 // Kriging interpolation. What the call answers is defined in specs/.
 mod refusals; // refusals.rt: 13, 1, 2, 9, 11, 12, 17, 18
 mod trend; // trend.rt: the terms beside the covariances
-mod assembly; // assembly.rt: the matrix beside the identity
+mod assembly; // assembly.rt: the matrix beside the identity, and its elimination
 mod point; // point.rt: one target, and every target
 
 use elimination::Elimination;
@@ -81,7 +81,7 @@ impl KrigingInterpolator {
         let kriging_type = self.kriging_type;
         let size = values.len() + trend::trend_terms(kriging_type);
         assembly::build_covariance_matrix(self, values, points, d, size, work);
-        let elimination = elimination::matrix_inverse(work, size);
+        let elimination = assembly::solve_kriging_system(work, size);
         match elimination {
             Elimination::Done => {
                 point::interpolate_points(

@@ -62,7 +62,7 @@ fn weighted_sum(z: &[f64], numbers: &[f64], count: usize) -> f64
     requires { ⌜ (count ≤ length (now z)) × (count ≤ length (now numbers)) ⌝ }
     ensures { λ r. ⌜ r ≡ runningSum count (λ i. mul binary64 (getD (now (z .entry)) i nan) (getD (now (numbers .entry)) i nan)) ⌝ }
 {
-    let mut acc = 0.0;
+    let mut acc = 0.0; // not the first product, which may be -0
     for i in 0..count {
         acc += z[i] * numbers[i];
     }
@@ -137,16 +137,7 @@ pub fn interpolate_points(
         (areasOf (now (work .entry)) (now (figures .entry)) (now (variances .entry))) (now (work .entry)) ⌝ }
 {
     for t in 0..targets.len() / d {
-        let estimate = interpolate_point(
-            interpolator,
-            values,
-            points,
-            targets,
-            d,
-            t,
-            size,
-            work,
-        );
+        let estimate = interpolate_point(interpolator, values, points, targets, d, t, size, work);
         figures[t] = estimate.value;
         variances[t] = estimate.variance;
     }

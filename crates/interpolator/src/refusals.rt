@@ -113,7 +113,8 @@ pub fn interpolation_refusal(
     if let Judgement::Refused(_) = model {
         return model;
     }
-    if elimination::too_short(work.len(), n + trend_terms(kriging_type)) {
+    let size = n + trend_terms(kriging_type);
+    if elimination::too_short(work.len(), size) {
         return Judgement::Refused(Refusal::WorkArea);
     }
     if either_above(m, figures.len(), m, variances.len()) {

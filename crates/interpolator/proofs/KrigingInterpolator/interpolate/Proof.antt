@@ -58,16 +58,16 @@ at-judged c = c .before .before
 abbrev at-accepted : tie.After-trend-terms → tie.Start
 at-accepted c = at-entry (at-judged (c .before))
 
-abbrev at-work : tie.After-matrix-inverse → tie.After-work
+abbrev at-work : tie.After-solve-kriging-system → tie.After-work
 at-work c = c .before .before .before
 
-abbrev at-matrix : tie.After-matrix-inverse → tie.After-build-covariance-matrix
+abbrev at-matrix : tie.After-solve-kriging-system → tie.After-build-covariance-matrix
 at-matrix c = at-work c .before
 
-abbrev at-terms : tie.After-matrix-inverse → tie.After-trend-terms
+abbrev at-terms : tie.After-solve-kriging-system → tie.After-trend-terms
 at-terms c = at-matrix c .before .before
 
-abbrev at-inverse : tie.After-slice-known5 → tie.After-matrix-inverse
+abbrev at-inverse : tie.After-slice-known5 → tie.After-solve-kriging-system
 at-inverse c = c .before .before
 
 abbrev at-done : tie.After-interpolate-points-arg3 → tie.After-enum-told2
@@ -103,12 +103,12 @@ work-long : (c : tie.After-trend-terms) → 2 * size-of c * size-of c ≤ length
 work-long c = subst (λ (s : ℕ). 2 * s * s ≤ length (at-accepted c .args .work .now)) (sym (sized c)) (known-of c .work)
 
 -- the elimination, as it ended, is that of the matrix; the work area keeps its length
-kept-long : (c : tie.After-matrix-inverse) → length (c .matrix-inverse .last .0) ≡ length (at-accepted (at-terms c) .args .work .now)
-kept-long c = c .matrix-inverse .kept .0 ∙ at-matrix c .build-covariance-matrix .kept .1 .1 .1 .1 .1 .0
+kept-long : (c : tie.After-solve-kriging-system) → length (c .solve-kriging-system .last .0) ≡ length (at-accepted (at-terms c) .args .work .now)
+kept-long c = c .solve-kriging-system .kept .0 ∙ at-matrix c .build-covariance-matrix .kept .1 .1 .1 .1 .1 .0
 
-ended : (c : tie.After-matrix-inverse) (o : Elimination) → c .matrix-inverse .result ≡ o
-    → outcomeOf o (c .matrix-inverse .last .0) ≡ eliminated false (size-of (at-terms c)) (at-matrix c .build-covariance-matrix .last .1 .1 .1 .1 .1 .0)
-ended c o e = ap (λ (r : Elimination). outcomeOf r (c .matrix-inverse .last .0)) (sym e) ∙ c .matrix-inverse .ensures
+ended : (c : tie.After-solve-kriging-system) (o : Elimination) → c .solve-kriging-system .result ≡ o
+    → outcomeOf o (c .solve-kriging-system .last .0) ≡ eliminated false (size-of (at-terms c)) (at-matrix c .build-covariance-matrix .last .1 .1 .1 .1 .1 .0)
+ended c o e = ap (λ (r : Elimination). outcomeOf r (c .solve-kriging-system .last .0)) (sym e) ∙ c .solve-kriging-system .ensures
 
 entries : (c : tie.After-trend-terms) → let a = at-accepted c .args in entry (known (a .self) (a .values .now) (a .points .now) (a .d)) ≡ entry (query (at-accepted c))
 entries c = let a = at-accepted c .args in entry-unread (a .self) (a .values .now) (a .points .now) (a .targets .now) (a .d)
@@ -157,9 +157,9 @@ build-covariance-matrix-requires c κs =
     let k = known-of t in
     (sized t, k .surface, omega (arith, k .points), work-long t)
 
--- let elimination = elimination::matrix_inverse(work, size);
-matrix-inverse-requires : tie.Need-matrix-inverse-requires
-matrix-inverse-requires c κs = search needs
+-- let elimination = assembly::solve_kriging_system(work, size);
+solve-kriging-system-requires : tie.Need-solve-kriging-system-requires
+solve-kriging-system-requires c κs = search needs
 
 -- Elimination::Done
 enum-told-2 : tie.Need-enum-told-2
@@ -201,7 +201,7 @@ returns-2 c =
     let t = at-terms v in
     let s = at-accepted t in
     both s _
-    (gone-through base (query s) (areas s) (none-given (t .before)) (size-of t) (sized t) _ (entries t) _ (v .matrix-inverse .last .0)
+    (gone-through base (query s) (areas s) (none-given (t .before)) (size-of t) (sized t) _ (entries t) _ (v .solve-kriging-system .last .0)
     (at-matrix v .build-covariance-matrix .ensures) _ _ (ended v Done (d .enum-told2 .given .1)) (p .interpolate-points .ensures))
 
 same-length-7 : tie.Need-same-length-7
@@ -220,7 +220,7 @@ returns-3 c =
     let s = at-accepted t in
     let g = c .enum-told3 .given in
     both s _
-    (stopped-at base (query s) (areas s) (none-given (t .before)) (size-of t) (sized t) _ (entries t) _ (v .matrix-inverse .last .0)
+    (stopped-at base (query s) (areas s) (none-given (t .before)) (size-of t) (sized t) _ (entries t) _ (v .solve-kriging-system .last .0)
     (at-matrix v .build-covariance-matrix .ensures) _ (ended v _ (g .1)))
 
 same-length-10 : tie.Need-same-length-10
@@ -238,7 +238,7 @@ returns-4 c =
     let t = at-terms v in
     let s = at-accepted t in
     absurd
-    (never-short base (query s) (areas s) (none-given (t .before)) (size-of t) (sized t) _ (entries t) _ (v .matrix-inverse .last .0)
+    (never-short base (query s) (areas s) (none-given (t .before)) (size-of t) (sized t) _ (entries t) _ (v .solve-kriging-system .last .0)
     (at-matrix v .build-covariance-matrix .ensures) (ended v TooShort (c .enum-told4 .given .1)))
 
 pub interpolate-spec : {M : Type 1} → statement M
@@ -256,7 +256,7 @@ interpolate-spec =
     trend-terms-requires
     add-size
     build-covariance-matrix-requires
-    matrix-inverse-requires
+    solve-kriging-system-requires
     enum-told-2
     interpolate-points-requires
     enum-told-3

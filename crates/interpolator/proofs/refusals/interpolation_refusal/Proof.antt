@@ -171,15 +171,16 @@ past-12 c =
     past-11 (h .before)
     ∙ accepted (h .model-refusal .result) (modelTests (s .args .interpolator .variogram)) (left-17 s) tt (c .enum-told2 .given .1) e
 
--- if elimination::too_short(work.len(), n + trend_terms(kriging_type))
+-- let size = n + trend_terms(kriging_type);
 trend-terms-requires : tie.Need-trend-terms-requires
 trend-terms-requires c κs = search needs
 
-add-too-short : tie.Need-add-too-short
-add-too-short c =
+add-size : tie.Need-add-size
+add-size c =
     let a = entry-m (c .before) .args in
     omega (arith, c .trend-terms .ensures, added-few (a .interpolator .«kriging_type»))
 
+-- if elimination::too_short(work.len(), size)
 too-short-requires : tie.Need-too-short-requires
 too-short-requires c κs = search needs
 
@@ -227,7 +228,7 @@ interpolation-refusal-spec =
     returns-6
     enum-told-2
     trend-terms-requires
-    add-too-short
+    add-size
     too-short-requires
     returns-7
     either-above-requires-2
