@@ -1,16 +1,15 @@
 -- The whole call as the code goes through it: turned away, or eliminated, and then by how the elimination ended. Assumes nothing.
-use Prim.Native.Nat.{ℕ, zero, suc, _*_, _<_}
+use Prim.Native.Nat.{ℕ, zero, suc}
 use native.Mathlib.Omega.{arith}
-use mathlib.Core.Path.{_≡_, refl, ap, sym, _∙_, subst}
+use mathlib.Core.Path.{_≡_, refl, ap, sym, _∙_}
 use mathlib.Core.Logic.{_≢_}
 use mathlib.Core.Bool.{true, false}
 use mathlib.Core.List.{List, [], _∷_}
-use lib.ListN.{length}
 use lib.Ieee.{Float}
 use Rattle.error.specs.declared.Judgement.the-variants.{Refused}
 use Rattle.error.specs.declared.Refusal.{Refusal}
 use Rattle.error.specs.Numbers.{numberOf}
-use Rattle.error.specs.Outcome.{Outcome, outcome}
+use Rattle.error.specs.Outcome.{outcome}
 use Rattle.error.specs.Tests.{test}
 use Rattle.error.specs.Rules.{NoneApplies}
 use Rattle.error.proofs.First.{refused, here, none}

@@ -1,9 +1,9 @@
 -- Counts of a query: of the axes of a point, and of the terms of a trend. Assumes nothing.
-use Prim.Native.Nat.{ℕ, _+_, _*_, _≤_, _<_}
+use Prim.Native.Nat.{ℕ, _≤_}
 use native.Mathlib.Decide.{decLt}
 use native.Mathlib.Omega.{arith}
-use mathlib.Core.Path.{_≡_, refl, ap, sym, _∙_}
-use mathlib.Core.Bool.{Bool, true, false, not, _||_, false≢true}
+use mathlib.Core.Path.{_≡_, ap, sym, _∙_}
+use mathlib.Core.Bool.{Bool, false, not, _||_, false≢true}
 use Rattle.variogram.specs.Distance.{offered}
 use Rattle.variogram.proofs.Distance.{none-offered}
 use Rattle.interpolator.specs.declared.KrigingType.{KrigingType}

@@ -46,6 +46,7 @@ impl KrigingInterpolator {
             variogram,
         }
     }
+
     // The values at targets, from those at points of d numbers each: their figures and variances, into the lent areas.
     pub fn interpolate(
         self,

@@ -3,8 +3,10 @@ use Prim.Native.Nat.{ℕ, _+_, _*_, _≤_}
 use native.Mathlib.Omega.{arith}
 use mathlib.Core.Path.{_≡_, ap, sym, _∙_, subst}
 use mathlib.Core.Bool.{false}
+use mathlib.Core.List.{List}
 use borrow.Author.Needs.{needs}
 use lib.ListN.{length}
+use lib.Ieee.{Float}
 use Rattle.error.specs.Numbers.{judged}
 use Rattle.error.specs.Outcome.{Outcome}
 use Rattle.error.specs.Rules.{NoneApplies}
@@ -102,15 +104,23 @@ sized c = ap (λ (k : ℕ). length (at-accepted c .args .values .now) + k) (c .t
 work-long : (c : tie.After-trend-terms) → 2 * size-of c * size-of c ≤ length (at-accepted c .args .work .now)
 work-long c = subst (λ (s : ℕ). 2 * s * s ≤ length (at-accepted c .args .work .now)) (sym (sized c)) (known-of c .work)
 
--- the elimination, as it ended, is that of the matrix; the work area keeps its length
-kept-long : (c : tie.After-solve-kriging-system) → length (c .solve-kriging-system .last .0) ≡ length (at-accepted (at-terms c) .args .work .now)
+-- what the work area holds after the assembly, and after the elimination
+abbrev assembled : tie.After-build-covariance-matrix → List Float
+assembled c = c .build-covariance-matrix .last .1 .1 .1 .1 .1 .0
+
+abbrev finished : tie.After-solve-kriging-system → List Float
+finished c = c .solve-kriging-system .last .0
+
+-- it keeps its length, and the elimination, as it ended, is that of the matrix
+kept-long : (c : tie.After-solve-kriging-system) → length (finished c) ≡ length (at-accepted (at-terms c) .args .work .now)
 kept-long c = c .solve-kriging-system .kept .0 ∙ at-matrix c .build-covariance-matrix .kept .1 .1 .1 .1 .1 .0
 
 ended : (c : tie.After-solve-kriging-system) (o : Elimination) → c .solve-kriging-system .result ≡ o
-    → outcomeOf o (c .solve-kriging-system .last .0) ≡ eliminated false (size-of (at-terms c)) (at-matrix c .build-covariance-matrix .last .1 .1 .1 .1 .1 .0)
-ended c o e = ap (λ (r : Elimination). outcomeOf r (c .solve-kriging-system .last .0)) (sym e) ∙ c .solve-kriging-system .ensures
+    → outcomeOf o (finished c) ≡ eliminated false (size-of (at-terms c)) (assembled (at-matrix c))
+ended c o e = ap (λ (r : Elimination). outcomeOf r (finished c)) (sym e) ∙ c .solve-kriging-system .ensures
 
-entries : (c : tie.After-trend-terms) → let a = at-accepted c .args in entry (known (a .self) (a .values .now) (a .points .now) (a .d)) ≡ entry (query (at-accepted c))
+entries : (c : tie.After-trend-terms) → let a = at-accepted c .args in
+    entry (known (a .self) (a .values .now) (a .points .now) (a .d)) ≡ entry (query (at-accepted c))
 entries c = let a = at-accepted c .args in entry-unread (a .self) (a .values .now) (a .points .now) (a .targets .now) (a .d)
 
 -- let judgement = refusals::interpolation_refusal(Limits::base(), ..);
@@ -184,6 +194,7 @@ enum-told-3 c = search needs
 enum-told-4 : tie.Need-enum-told-4
 enum-told-4 c = search needs
 
+-- Interpolation::Done
 same-length-4 : tie.Need-same-length-4
 same-length-4 c = search needs
 
@@ -201,9 +212,10 @@ returns-2 c =
     let t = at-terms v in
     let s = at-accepted t in
     both s _
-    (gone-through base (query s) (areas s) (none-given (t .before)) (size-of t) (sized t) _ (entries t) _ (v .solve-kriging-system .last .0)
+    (gone-through base (query s) (areas s) (none-given (t .before)) (size-of t) (sized t) _ (entries t) _ (finished v)
     (at-matrix v .build-covariance-matrix .ensures) _ _ (ended v Done (d .enum-told2 .given .1)) (p .interpolate-points .ensures))
 
+-- Interpolation::Refused(Refusal::Singular)
 same-length-7 : tie.Need-same-length-7
 same-length-7 c = search needs
 
@@ -220,9 +232,10 @@ returns-3 c =
     let s = at-accepted t in
     let g = c .enum-told3 .given in
     both s _
-    (stopped-at base (query s) (areas s) (none-given (t .before)) (size-of t) (sized t) _ (entries t) _ (v .solve-kriging-system .last .0)
+    (stopped-at base (query s) (areas s) (none-given (t .before)) (size-of t) (sized t) _ (entries t) _ (finished v)
     (at-matrix v .build-covariance-matrix .ensures) _ (ended v _ (g .1)))
 
+-- Interpolation::Refused(Refusal::WorkArea): never
 same-length-10 : tie.Need-same-length-10
 same-length-10 c = search needs
 
@@ -238,7 +251,7 @@ returns-4 c =
     let t = at-terms v in
     let s = at-accepted t in
     absurd
-    (never-short base (query s) (areas s) (none-given (t .before)) (size-of t) (sized t) _ (entries t) _ (v .solve-kriging-system .last .0)
+    (never-short base (query s) (areas s) (none-given (t .before)) (size-of t) (sized t) _ (entries t) _ (finished v)
     (at-matrix v .build-covariance-matrix .ensures) (ended v TooShort (c .enum-told4 .given .1)))
 
 pub interpolate-spec : {M : Type 1} → statement M

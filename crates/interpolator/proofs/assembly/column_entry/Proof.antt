@@ -1,5 +1,5 @@
 -- `interpolator::assembly::column_entry` meets its contract: a known point's covariance, or a term of the trend. Assumes nothing.
-use Prim.Native.Nat.{_+_, _*_, _-_, _≤_, _<_}
+use Prim.Native.Nat.{_-_, _<_}
 use native.Mathlib.Omega.{arith}
 use borrow.Author.Needs.{needs}
 use lib.ListN.{length}

@@ -1,7 +1,6 @@
 -- `interpolator::assembly::entry_beside` meets its contract: the matrix on the left, the identity on the right. Assumes nothing.
 use Prim.Native.Nat.{ℕ}
 use native.Mathlib.Omega.{arith}
-use borrow.Author.Needs.{needs}
 use lib.Ieee.{Float}
 use Rattle.interpolator.specs.Call.{known}
 use Rattle.interpolator.specs.Assembly.{entry}

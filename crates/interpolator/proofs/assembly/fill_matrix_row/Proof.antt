@@ -1,5 +1,5 @@
 -- `interpolator::assembly::fill_matrix_row` meets its contract: after j turns the area is what j stores write. Assumes nothing.
-use Prim.Native.Nat.{_+_, _*_, _-_, _≤_}
+use Prim.Native.Nat.{_*_, _-_, _≤_}
 use native.Mathlib.Omega.{arith}
 use mathlib.Core.Path.{_≡_, refl}
 use lib.ListN.{length, length-set}

@@ -1,7 +1,6 @@
 -- `interpolator::assembly::matrix_entry` meets its contract: by the part of the matrix that the entry stands in. Assumes nothing.
 use Prim.Native.Nat.{_+_, _*_, _-_, _≤_, _<_}
 use native.Mathlib.Omega.{arith}
-use borrow.Author.Needs.{needs}
 use lib.ListN.{length}
 use Rattle.area.proofs.Rows.{row-end}
 use Rattle.interpolator.specs.Call.{Query, known, added}

@@ -1,10 +1,10 @@
 -- `interpolator::point::fill_z` meets its contract: after i turns z is what i stores write. Assumes nothing.
-use Prim.Native.Nat.{ℕ, _≤_, _*_, _+_, _-_}
-use mathlib.Core.Path.{_≡_, refl, ap, sym, _∙_}
+use Prim.Native.Nat.{_≤_, _-_}
+use mathlib.Core.Path.{_≡_, refl}
 use native.Mathlib.Omega.{arith}
 use borrow.Author.Needs.{needs}
 use lib.ListN.{length, length-set, getD}
-use lib.Ieee.{Float, nan, binary64, add, mul}
+use lib.Ieee.{nan}
 use Rattle.area.specs.Area.{written}
 use Rattle.area.proofs.Start.{next-start}
 use Rattle.area.proofs.Places.{all-turns}
@@ -29,37 +29,32 @@ at-entry c = c .before .before .before .before
 loop-holds : tie.Need-loop-holds Inv-loop μ-loop
 loop-holds c = (omega arith, refl, refl)
 
--- src/point.rt:42:16
+-- z[i] = times_inverse(work, size, b, i);
 times-inverse-requires : tie.Need-times-inverse-requires Inv-loop μ-loop
 times-inverse-requires c κs = let p = at-entry (c .before) .pre in (omega arith, p .0, p .1)
 
--- src/point.rt:42:9
 mul-z : tie.Need-mul-z Inv-loop μ-loop
 mul-z c = omega arith
 
--- src/point.rt:42:9
 slice-write-z : tie.Need-slice-write-z Inv-loop μ-loop
 slice-write-z c = omega arith
 
--- src/point.rt:41:9
+-- for i in 0..size
 add-i : tie.Need-add-i Inv-loop μ-loop
 add-i c = omega arith
 
--- src/point.rt:41:5
 loop-less : tie.Need-loop-less Inv-loop μ-loop
 loop-less c = omega arith
 
--- src/point.rt:41:5
 loop-again : tie.Need-loop-again Inv-loop μ-loop
 loop-again c =
     let l = c .before .before .loop in
     (omega arith, simp length-set (l .inv .1), next-start (l .i) _ _ (l .z) _ (c .times-inverse .ensures) (l .inv .2))
 
--- src/point.rt:37:1
+-- fn fill_z(..)
 same-length : tie.Need-same-length Inv-loop μ-loop
 same-length c = search needs
 
--- src/point.rt:37:1
 returns : tie.Need-returns Inv-loop μ-loop
 returns c =
     let l = c .before .loop in

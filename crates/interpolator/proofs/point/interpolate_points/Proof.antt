@@ -1,8 +1,8 @@
 -- `interpolator::point::interpolate_points` meets its contract: after t turns the answer areas hold the first t targets'. Assumes nothing.
-use Prim.Native.Nat.{_+_, _*_, _/_, _-_, _≤_, _<_}
+use Prim.Native.Nat.{_/_, _-_, _≤_, _<_}
 use native.Mathlib.Nat.{div-add-mod'}
 use native.Mathlib.Omega.{arith}
-use mathlib.Core.Path.{_≡_, refl, _∙_}
+use mathlib.Core.Path.{_≡_, refl}
 use borrow.Author.Needs.{needs}
 use lib.ListN.{length, length-set}
 use Rattle.area.specs.Area.{written}

@@ -1,10 +1,9 @@
 -- `interpolator::point::times_inverse` meets its contract: after j turns acc is the sum of the first j products. Assumes nothing.
 use Prim.Native.Nat.{ℕ, _≤_, _*_, _+_, _-_}
-use mathlib.Core.Path.{_≡_, refl, ap, sym, _∙_}
+use mathlib.Core.Path.{_≡_, refl, ap}
 use native.Mathlib.Omega.{arith}
-use borrow.Author.Needs.{needs}
-use lib.ListN.{length, length-set, getD}
-use lib.Ieee.{Float, nan, binary64, add, mul}
+use lib.ListN.{length, getD}
+use lib.Ieee.{nan, binary64, mul}
 use Rattle.ieee.specs.Sums.{runningSum}
 use Rattle.ieee.proofs.Sums.{no-terms, sum-turn, all-terms}
 use Rattle.elimination.proofs.Rows.{row-inside}
@@ -26,51 +25,43 @@ State S = S Inv-loop μ-loop
 inside : (c : State tie.Start) → let a = c .args in a .i * (2 * a .size) + 2 * a .size ≤ length (a .work .now)
 inside c = let a = c .args in row-inside (a .size) (a .i) (length (a .work .now)) (c .pre .0) (c .pre .1)
 
--- src/point.rt:28:20
+-- let row = i * (2 * size) + size;
 mul-row : tie.Need-mul-row Inv-loop μ-loop
 mul-row c = omega (arith, inside c)
 
--- src/point.rt:28:15
 mul-row-2 : tie.Need-mul-row-2 Inv-loop μ-loop
 mul-row-2 c = omega (arith, inside c)
 
--- src/point.rt:28:15
 add-row : tie.Need-add-row Inv-loop μ-loop
 add-row c = omega (arith, inside c)
 
--- src/point.rt:30:5
+-- for j in 0..size
 loop-holds : tie.Need-loop-holds Inv-loop μ-loop
 loop-holds c = (omega arith, refl, no-terms _)
 
--- src/point.rt:31:21
+-- acc += work[row + j] * b[j];
 add-acc : tie.Need-add-acc Inv-loop μ-loop
 add-acc c = omega (arith, inside (c .before .before))
 
--- src/point.rt:31:16
 mul-acc : tie.Need-mul-acc Inv-loop μ-loop
 mul-acc c = omega (arith, inside (c .before .before))
 
--- src/point.rt:31:16
 shared-slice-read-acc : tie.Need-shared-slice-read-acc Inv-loop μ-loop
 shared-slice-read-acc c = omega (arith, inside (c .before .before .before))
 
--- src/point.rt:31:32
 mul-acc-2 : tie.Need-mul-acc-2 Inv-loop μ-loop
 mul-acc-2 c = omega arith
 
--- src/point.rt:31:32
 shared-slice-read-acc-2 : tie.Need-shared-slice-read-acc-2 Inv-loop μ-loop
 shared-slice-read-acc-2 c = omega arith
 
--- src/point.rt:30:9
+-- for j in 0..size
 add-j : tie.Need-add-j Inv-loop μ-loop
 add-j c = omega arith
 
--- src/point.rt:30:5
 loop-less : tie.Need-loop-less Inv-loop μ-loop
 loop-less c = omega arith
 
--- src/point.rt:30:5
 -- the product is that of column j
 product : (c : State tie.At-loop) → let a = c .before .args in let j = c .loop .j in
     mul binary64 (getD (a .work .now) (a .i * (2 * a .size) + a .size + j) nan) (getD (a .b .now) j nan)
@@ -84,7 +75,7 @@ product c =
 loop-again : tie.Need-loop-again Inv-loop μ-loop
 loop-again c = let l = c .before .before .before .loop in (omega arith, refl, sum-turn (l .j) _ (l .acc) _ (product (c .before .before .before)) (l .inv .2))
 
--- src/point.rt:24:1
+-- acc
 returns : tie.Need-returns Inv-loop μ-loop
 unfolding timesInverse
 returns c =

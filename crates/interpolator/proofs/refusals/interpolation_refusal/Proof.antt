@@ -2,7 +2,7 @@
 use Prim.Native.Nat.{ℕ, _+_, _*_, _%_, _≤_}
 use native.Mathlib.Omega.{arith}
 use mathlib.Core.Path.{_≡_, refl, sym, ap, _∙_}
-use mathlib.Core.Bool.{Bool, not}
+use mathlib.Core.Bool.{not}
 use mathlib.Core.List.{List, [], _∷_, _++_}
 use borrow.Author.Needs.{needs}
 use borrow.Author.Tests.{eq-eqb, ne-eqb}
@@ -12,8 +12,8 @@ use Rattle.error.specs.Tests.{Test, test, firstOf}
 use Rattle.error.proofs.First.{here, past, none, refused, accepted}
 use Rattle.elimination.specs.Call.{workTests}
 use Rattle.survey.specs.Refusals.{modelTests}
-use Rattle.interpolator.specs.Call.{Query, Areas, queryOf, areasOf, wells, size}
-use Rattle.interpolator.specs.Refusals.{wrongPoints, wrongTargets, tooMany, numberNotFinite, shortAnswer, wrongDimension, tests, refusal}
+use Rattle.interpolator.specs.Call.{Query, Areas, queryOf, areasOf, size}
+use Rattle.interpolator.specs.Refusals.{wrongPoints, wrongTargets, tooMany, numberNotFinite, shortAnswer, wrongDimension, refusal}
 use Rattle.interpolator.proofs.Sizes.{some-axis, added-few}
 use Rattle.interpolator.proofs.refusals.interpolation_refusal.Statement.{statement}
 use Rattle.interpolator.proofs.refusals.interpolation_refusal.Tie as tie
