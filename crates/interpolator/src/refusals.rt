@@ -96,10 +96,12 @@ pub fn interpolation_refusal(
     if wrong_dimension(kriging_type, d) {
         return Judgement::Refused(Refusal::Dimension);
     }
-    if !survey::counts::is_product(points.len(), n, d) {
+    let points_fit = survey::counts::is_product(points.len(), n, d);
+    let left_over = targets.len() % d;
+    if !points_fit {
         return Judgement::Refused(Refusal::CoordinatesLength);
     }
-    if targets.len() % d != 0 {
+    if left_over != 0 {
         return Judgement::Refused(Refusal::NodesLength);
     }
     let m = targets.len() / d;

@@ -97,20 +97,22 @@ past-13 c = let h = c .before in opens (entry-0 h) ∙ past 13 _ (sym (h .wrong-
 axis : (c : tie.Else1) → 1 ≤ entry-1 c .args .d
 axis c = let a = entry-1 c .args in some-axis (a .d) _ (sym (c .before .wrong-dimension .ensures) ∙ c .if1 .left)
 
--- if !survey::counts::is_product(points.len(), n, d)
+-- let points_fit = survey::counts::is_product(points.len(), n, d);
 is-product-requires : tie.Need-is-product-requires
 is-product-requires c κs = search needs
 
+-- let left_over = targets.len() % d;
+rem-left-over : tie.Need-rem-left-over
+rem-left-over c = omega (arith, axis (c .before))
+
+-- if !points_fit
 returns-2 : tie.Need-returns-2
 returns-2 c = let h = c .before in sym (past-13 (h .before) ∙ here 1 _ (sym (ap not (h .is-product .ensures)) ∙ c .if2 .taken))
 
 past-1 : (c : tie.Else2) → whole (entry-2 c) ≡ firstOf (left-2 (entry-2 c))
 past-1 c = let h = c .before in past-13 (h .before) ∙ past 1 _ (sym (ap not (h .is-product .ensures)) ∙ c .if2 .left)
 
--- if targets.len() % d != 0
-rem-if3 : tie.Need-rem-if3
-rem-if3 c = omega (arith, axis (c .before .before))
-
+-- if left_over != 0
 returns-3 : tie.Need-returns-3
 returns-3 c =
     let a = entry-2 (c .before) .args in
@@ -215,8 +217,8 @@ interpolation-refusal-spec =
     wrong-dimension-requires
     returns
     is-product-requires
+    rem-left-over
     returns-2
-    rem-if3
     returns-3
     div-m
     either-above-requires
