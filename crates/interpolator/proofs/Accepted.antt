@@ -16,11 +16,14 @@ use Rattle.ieee.proofs.FiniteLists.{is-finite}
 use Rattle.variogram.specs.Distance.{offered}
 use Rattle.variogram.proofs.Distance.{is-offered}
 use Rattle.survey.specs.declared.Limits.{Limits}
+use Rattle.interpolator.specs.declared.KrigingType.the-variants.{Universal}
 use Rattle.interpolator.specs.Call.{Query, Areas, wells, nodeCount, size}
 use Rattle.interpolator.specs.Rules.{rules}
 
 pub record Accepted (q : Query) (a : Areas) : Type 0 where
   pub dimension : offered (q .dimension) ≡ true
+  pub axes : 1 ≤ q .dimension
+  pub surface : q .krigingType ≡ Universal → 2 ≤ q .dimension
   pub points : length (q .points) ≡ wells q * q .dimension
   pub targets : length (q .targets) ≡ nodeCount q * q .dimension
   pub coordinates : (k : ℕ) → k < length (q .points) → T (finite (getD (q .points) k nan))
@@ -31,10 +34,11 @@ pub record Accepted (q : Query) (a : Areas) : Type 0 where
 -- each from the rule that it does not break
 pub accepted : (limits : Limits) (q : Query) (a : Areas) → NoneApplies (rules limits q a) → Accepted q a
 accepted limits q a none =
+    let d = stable (both (at-most 1 (q .dimension)) (at-most (q .dimension) 3)) (λ x. no-rule 13 (inl x)) in
     record {
-      dimension =
-          let d = stable (both (at-most 1 (q .dimension)) (at-most (q .dimension) 3)) (λ x. no-rule 13 (inl x)) in
-          is-offered (q .dimension) (d .0) (d .1);
+      dimension = is-offered (q .dimension) (d .0) (d .1);
+      axes = d .0;
+      surface = λ u. let h : ¬ (q .dimension ≡ 1) = λ e. no-rule 13 (inr (e, u)) in omega (arith, d .0);
       points = stable (equal (length (q .points)) (wells q * q .dimension)) (no-rule 1);
       targets =
           let e = stable (equal (length (q .targets) % q .dimension) 0) (no-rule 2) in
@@ -48,3 +52,7 @@ accepted limits q a none =
   where
     no-rule : (k : ℕ) → ¬ Condition (rules limits q a) k
     no-rule = no-condition (rules limits q a) none
+
+-- and no more wells than its limits say
+pub few-wells : (limits : Limits) (q : Query) (a : Areas) → NoneApplies (rules limits q a) → wells q ≤ limits .wells
+few-wells limits q a none = let h : ¬ (limits .wells < wells q) = λ x. no-condition (rules limits q a) none 9 (inl x) in omega arith

@@ -1,6 +1,6 @@
 -- A call of the interpolator: what it takes, what it is lent, and how it ends. Assumes nothing.
 use Prim.Native.Nat.{ℕ, _+_, _/_}
-use mathlib.Core.List.{List}
+use mathlib.Core.List.{List, []}
 use lib.ListN.{length}
 use lib.Ieee.{Float}
 use Rattle.error.specs.Numbers.{numberOf}
@@ -25,12 +25,30 @@ pub record Query : Type 0 where
   pub points : List Float
   pub targets : List Float
 
+-- the query of an interpolator's call, and the same without targets: the matrix reads none
+abbrev pub queryOf : KrigingInterpolator → List Float → List Float → List Float → ℕ → Query
+queryOf interpolator values points targets d = record {
+  krigingType = interpolator .«kriging_type»;
+  variogram = interpolator .variogram;
+  dimension = d;
+  values = values;
+  points = points;
+  targets = targets;
+}
+
+abbrev pub known : KrigingInterpolator → List Float → List Float → ℕ → Query
+known interpolator values points d = queryOf interpolator values points [] d
+
 -- ---- areas
 -- what it is lent, at entry or at exit: the work area, and the answer's
 pub record Areas : Type 0 where
   pub work : List Float
   pub figures : List Float
   pub variances : List Float
+
+-- these areas
+abbrev pub areasOf : List Float → List Float → List Float → Areas
+areasOf work figures variances = record { work = work; figures = figures; variances = variances }
 
 -- the areas with another one for one of them
 abbrev pub withWork : Areas → List Float → Areas

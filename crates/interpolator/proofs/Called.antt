@@ -1,0 +1,91 @@
+-- The whole call as the code goes through it: turned away, or eliminated, and then by how the elimination ended. Assumes nothing.
+use Prim.Native.Nat.{ℕ, zero, suc}
+use native.Mathlib.Omega.{arith}
+use mathlib.Core.Path.{_≡_, refl, ap, sym, _∙_}
+use mathlib.Core.Logic.{_≢_}
+use mathlib.Core.Bool.{true, false}
+use mathlib.Core.List.{List, [], _∷_}
+use lib.Ieee.{Float}
+use Rattle.error.specs.declared.Judgement.the-variants.{Refused}
+use Rattle.error.specs.declared.Refusal.{Refusal}
+use Rattle.error.specs.Numbers.{numberOf}
+use Rattle.error.specs.Outcome.{outcome}
+use Rattle.error.specs.Tests.{test}
+use Rattle.error.specs.Rules.{NoneApplies}
+use Rattle.error.proofs.First.{refused, here, none}
+use Rattle.error.proofs.Rules.{none-exactly}
+use Rattle.elimination.specs.declared.Elimination.{Elimination}
+use Rattle.elimination.specs.declared.Elimination.the-variants.{Done, Stopped, TooShort}
+use Rattle.elimination.specs.Elimination.{eliminated, outcomeOf, Outcome as Eliminated}
+use Rattle.elimination.specs.Inverse.{laid}
+use Rattle.elimination.specs.Call.{Call, afterElimination, callWhere, called}
+use Rattle.elimination.proofs.Laid.{kept-laid}
+use Rattle.elimination.proofs.Stops.{refused-exactly}
+use Rattle.survey.specs.declared.Limits.{Limits}
+use Rattle.interpolator.specs.Call.{Query, Areas, withWork, areasOf, size}
+use Rattle.interpolator.specs.Rules.{rules}
+use Rattle.interpolator.specs.Refusals.{refusal}
+use Rattle.interpolator.specs.Assembly.{entry}
+use Rattle.interpolator.specs.Interpolation.{answered, interpolationCall, interpolated}
+use Rattle.interpolator.proofs.Told.{all-told}
+use Rattle.interpolator.proofs.Accepted.{accepted}
+
+-- 0 is no refusal's number: a test past it would count
+some-number : (r : Refusal) → numberOf r ≢ 0
+some-number r z =
+    let e : numberOf r ≡ 1 = refused (Refused r) r [] (test 1 true ∷ []) refl (z ∙ sym none) ∙ here 1 [] refl in
+    omega arith
+
+-- any number but 0 turns a call away
+by-number : {A : Type 0} (n : ℕ) (c : Call A) → n ≢ 0 → callWhere n c ≡ outcome n (c .lent)
+unfolding callWhere
+by-number zero c h = absurd (h refl)
+by-number (suc n) c h = refl
+
+module _ (limits : Limits) (q : Query) (a : Areas) where
+  -- "A refusal carries only its number and writes nothing"
+  pub turned-away : (r : Refusal) → numberOf r ≡ refusal limits q a → outcome (numberOf r) a ≡ interpolated limits q a
+  unfolding interpolated called
+  turned-away r e =
+      let c : Call Areas = interpolationCall limits q a in
+      sym (by-number (numberOf r) c (some-number r)) ∙ ap (λ (n : ℕ). callWhere n c) e
+
+  -- where no number is given, no rule applies
+  pub not-turned-away : refusal limits q a ≡ 0 → NoneApplies (rules limits q a)
+  unfolding refusal
+  not-turned-away e = none-exactly (all-told limits q a) tt .0 e
+
+  -- the elimination of the matrix, of this size and with these entries, in the work area
+  module _ (zero : refusal limits q a ≡ 0) (s : ℕ) (sized : s ≡ size q) (matrix : ℕ → ℕ → Float) (entries : matrix ≡ entry q)
+      (xs work : List Float) (assembled : xs ≡ laid s matrix (a .work)) where
+    whole : (o : Elimination) → outcomeOf o work ≡ eliminated false s xs → outcomeOf o work ≡ eliminated false (size q) (laid (size q) (entry q) (a .work))
+    whole o e =
+        e
+        ∙ ap (λ (ys : List Float). eliminated false s ys) (assembled ∙ ap (λ (m : ℕ → ℕ → Float). laid s m (a .work)) entries)
+        ∙ ap (λ (n : ℕ). eliminated false n (laid n (entry q) (a .work))) sized
+
+    after : (o : Elimination) → outcomeOf o work ≡ eliminated false s xs
+        → afterElimination (interpolationCall limits q a) o work ≡ interpolated limits q a
+    unfolding interpolated called callWhere
+    after o e =
+        let c : Call Areas = interpolationCall limits q a in
+        ap (λ (d : Eliminated). afterElimination c (d .answer) (d .area)) (whole o e) ∙ ap (λ (n : ℕ). callWhere n c) (sym zero)
+
+    -- "On success the work area holds the finished elimination": every target is answered from it
+    pub gone-through : (fs vs : List Float) → outcomeOf Done work ≡ eliminated false s xs
+        → areasOf work fs vs ≡ answered q (areasOf work (a .figures) (a .variances)) work → outcome 0 (areasOf work fs vs) ≡ interpolated limits q a
+    unfolding afterElimination answered
+    gone-through fs vs e f = ap (λ (b : Areas). outcome 0 b) f ∙ after Done e
+
+    -- "19 leaves the work area as elimination stopped"
+    pub stopped-at : (i : ℕ) → outcomeOf (Stopped i) work ≡ eliminated false s xs → outcome 19 (withWork a work) ≡ interpolated limits q a
+    unfolding afterElimination
+    stopped-at i e = after (Stopped i) e
+
+    -- 17 came before
+    pub never-short : outcomeOf TooShort work ≢ eliminated false s xs
+    never-short e =
+        let long = accepted limits q a (not-turned-away zero) .work in
+        let m = kept-laid (size q) (entry q) (a .work) .len in
+        let r = refused-exactly false (size q) (laid (size q) (entry q) (a .work)) .0 (sym (ap (λ (d : Eliminated). d .answer) (whole TooShort e))) in
+        omega arith
