@@ -34,7 +34,8 @@ use Rattle.kriging.proofs.MatrixEntries.{upper-left, upper-right, lower
 module _ (s : Survey) where
   -- F, row after row in a list that is long enough
   pub drift-laid : (F xs : List Float) → wells s * columns s ≤ length xs → F ≡ filled (columns s) (wells s) (drift s) xs → DriftIn s F
-  drift-laid F xs long e i j h k = ap (λ (ys : List Float). getD ys (i * columns s + j) nan) e ∙ Filled.entry (columns s) (wells s) (drift s) xs i j nan long h k
+  drift-laid F xs long e i j h k =
+      ap (λ (ys : List Float). getD ys (i * columns s + j) nan) e ∙ Filled.entry (columns s) (wells s) (drift s) xs i j nan long h k
 
   -- the matrix with F read from that list is the paper's
   same-entry : (F : List Float) → DriftIn s F → (i j : ℕ) → i < size s → j < size s

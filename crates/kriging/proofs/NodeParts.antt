@@ -1,4 +1,5 @@
--- A node's parts as the code has them, z in the first places of a longer list and F row after row in another: they are the parts of the paper's node. Assumes nothing.
+-- A node's parts as the code has them, z in the first places of a longer list and F row after row in another: they are those of the paper's node.
+-- Assumes nothing.
 use Prim.Native.Nat.{ℕ, _+_, _-_, _*_, _≤_, _<_}
 use native.Mathlib.Omega.{arith}
 use mathlib.Core.Path.{_≡_, refl, ap, sym, _∙_, subst}
@@ -92,8 +93,12 @@ module _ (s : Survey) (work : List Float) (q : ℕ) (b zs F : List Float) (given
   with-columns : Parts s work q b zs F given variance figure c v (columns s) → Is
   with-columns h =
       let len = right-length s q in
-      let hz = subst (λ (k : ℕ). take k zs ≡ zOf k work (rightHand s q)) len (subst (λ (l : List Float). take (length l) zs ≡ zOf (length l) work l) (h .right) (h .z-of)) in
-      let hv = subst (λ (k : ℕ). variance ≡ varianceOf k zs (rightHand s q)) len (subst (λ (l : List Float). variance ≡ varianceOf (length l) zs l) (h .right) (h .variance-of)) in
+      let hz =
+      subst (λ (k : ℕ). take k zs ≡ zOf k work (rightHand s q)) len
+      (subst (λ (l : List Float). take (length l) zs ≡ zOf (length l) work l) (h .right) (h .z-of)) in
+      let hv =
+      subst (λ (k : ℕ). variance ≡ varianceOf k zs (rightHand s q)) len
+      (subst (λ (l : List Float). variance ≡ varianceOf (length l) zs l) (h .right) (h .variance-of)) in
       let f0 : drop (wells s) b ≡ nodeRow s q = ap (λ (l : List Float). drop (wells s) l) (h .right) ∙ f0-is s work q in
       let fig = h .figure-of ∙ figure-is s work q zs F given (h .long) hz hF (h .scanned) in
       let col = subst (λ (l : List Float). c ≡ columnVerdictGiven given (weighedIn (take (wells s) zs) F l (s .tolerance))) f0 (h .columns-of)

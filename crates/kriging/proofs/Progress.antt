@@ -57,12 +57,15 @@ module _ (s : Survey) (a : Areas) (node : ℕ → Node) where
   pub one-more : {p : ℕ} → columns s ≡ p → (q : ℕ) (e : Areas) (z ws cs : List Float) (figure variance : Float) (verdict : ℕ)
       → size s ≤ length z → take (size s) z ≡ node q .z → figure ≡ node q .figure → variance ≡ node q .variance → verdict ≡ node q .verdict
       → ws ≡ written (q * wells s) (length (take (wells s) z)) (λ j. getD (take (wells s) z) j nan) (e .weights)
-      → cs ≡ written 0 (length (take (wells s + p - wells s) (drop (wells s) z))) (λ j. getD (take (wells s + p - wells s) (drop (wells s) z)) j nan) (e .coefficients)
+      → cs
+      ≡ written 0 (length (take (wells s + p - wells s) (drop (wells s) z))) (λ j. getD (take (wells s + p - wells s) (drop (wells s) z)) j nan)
+      (e .coefficients)
       → Progress s a node q e
       → Progress s a node (q + 1) (areasOf (e .work) (set (e .predicted) q figure) (set (e .variance) q variance) (set (e .verdicts) q verdict) ws cs)
   one-more {p} ep q e z ws cs figure variance verdict long hz hf hv hd hw hc h =
       let n = wells s in
-      let at : (i : ℕ) → i < size s → getD z i nan ≡ getD (node q .z) i nan = λ i l. sym (getD-take (size s) z i nan l) ∙ ap (λ (zs : List Float). getD zs i nan) hz in
+      let at : (i : ℕ) → i < size s → getD z i nan ≡ getD (node q .z) i nan =
+      λ i l. sym (getD-take (size s) z i nan l) ∙ ap (λ (zs : List Float). getD zs i nan) hz in
       let first : written (q * n) (length (take n z)) (λ j. getD (take n z) j nan) (e .weights) ≡ written (q * n) n (λ j. getD (node q .z) j nan) (e .weights) =
       ap (λ (k : ℕ). written (q * n) k (λ j. getD (take n z) j nan) (e .weights)) (length-take-le n z (omega arith))
       ∙ same-values (q * n) n _ _ (e .weights) (λ j l. getD-take n z j nan l ∙ at j (omega arith)) in

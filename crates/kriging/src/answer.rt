@@ -64,7 +64,8 @@ pub fn krige_nodes(
         DriftIn s (now (drift .entry))
         → areasOf (now (work .entry)) (now (predicted .exit)) (now (variance .exit)) (now (verdicts .exit)) (now (weights .exit)) (now (coefficients .exit))
         ≡ answered s
-        (areasOf (now (work .entry)) (now (predicted .entry)) (now (variance .entry)) (now (verdicts .entry)) (now (weights .entry)) (now (coefficients .entry)))
+        (areasOf (now (work .entry)) (now (predicted .entry)) (now (variance .entry)) (now (verdicts .entry))
+        (now (weights .entry)) (now (coefficients .entry)))
         (now (work .entry)) (nodeOf s (now (work .entry)))) ⌝ }
 {
     let n = values.len();

@@ -40,7 +40,8 @@ pub enum Fit {
     Refused(Refusal),
 }
 
-// Universal kriging with external drift: values and coordinates of n wells, basis codes, external values column after column, m nodes with theirs node after node.
+// Universal kriging with external drift: values and coordinates of n wells, basis codes, external values column after column, m nodes with theirs
+// node after node.
 // Lent are a work area, and areas for m figures, variances and verdicts, n·m weights node after node, and p coefficients.
 pub fn universal_kriging_fit(
     values: &[f64],

@@ -73,8 +73,11 @@ fn fill_right_hand(
     q: usize,
     b: &mut [f64],
 )
-    requires { ⌜ (2 * n ≤ length (now coords)) × (2 * q + 1 < length (now nodes)) × (externalCount (now bases) ≡ k) × (q * k + k ≤ length (now «node_external»)) × (n + columnSum (now bases) ≤ length (now b)) ⌝ }
-    ensures { λ _. ⌜ take (n + columnSum (now (bases .entry))) (now (b .exit)) ≡ rightHandOf n (gammaTo variogram (now (coords .entry)) (xOf (now (nodes .entry)) q) (yOf (now (nodes .entry)) q)) (driftRow (now (bases .entry)) (xOf (now (nodes .entry)) q) (yOf (now (nodes .entry)) q) (λ c. getD (now («node_external» .entry)) (q * k + c) nan) 0) ⌝ }
+    requires { ⌜ (2 * n ≤ length (now coords)) × (2 * q + 1 < length (now nodes)) × (externalCount (now bases) ≡ k)
+        × (q * k + k ≤ length (now «node_external»)) × (n + columnSum (now bases) ≤ length (now b)) ⌝ }
+    ensures { λ _. ⌜ take (n + columnSum (now (bases .entry))) (now (b .exit))
+        ≡ rightHandOf n (gammaTo variogram (now (coords .entry)) (xOf (now (nodes .entry)) q) (yOf (now (nodes .entry)) q))
+        (driftRow (now (bases .entry)) (xOf (now (nodes .entry)) q) (yOf (now (nodes .entry)) q) (λ c. getD (now («node_external» .entry)) (q * k + c) nan) 0) ⌝ }
 {
     let x = nodes[2 * q];
     let y = nodes[2 * q + 1];
@@ -101,7 +104,8 @@ fn solve_node(
     ensures places { λ r. ⌜ length (r .z) ≡ 60 ⌝ }
     ensures z { λ r. ⌜ take (length (now (b .entry))) (r .z) ≡ zOf (length (now (b .entry))) (now (work .entry)) (now (b .entry)) ⌝ }
     ensures variance { λ r. ⌜ r .variance ≡ varianceOf (length (now (b .entry))) (r .z) (now (b .entry)) ⌝ }
-    ensures columns { λ r. ⌜ r .columns ≡ columnVerdictGiven «finite_drift» (weighedIn (take n (r .z)) (now (drift .entry)) (drop n (now (b .entry))) tolerance) ⌝ }
+    ensures columns { λ r. ⌜ r .columns ≡ columnVerdictGiven «finite_drift»
+        (weighedIn (take n (r .z)) (now (drift .entry)) (drop n (now (b .entry))) tolerance) ⌝ }
 {
     let size = b.len();
     let mut z = [0.0; 60];

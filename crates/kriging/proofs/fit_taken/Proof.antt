@@ -22,7 +22,8 @@ use Rattle.fit.specs.Areas.{Areas, areasOf}
 use Rattle.fit.specs.Drift.{DriftIn, driftRow, drift}
 use Rattle.fit.specs.Assembly.{between, joined, entry, assembled}
 use Rattle.fit.specs.Fit.{answered}
-use Rattle.kriging.proofs.Taken.{few-wells, few-columns, columns-counted, coords-twice, externals-whole, node-externals, work-long, predicted-long, variance-long, verdicts-long, weights-long, coefficients-long}
+use Rattle.kriging.proofs.Taken.{few-wells, few-columns, columns-counted, coords-twice, externals-whole, node-externals}
+use Rattle.kriging.proofs.Taken.{work-long, predicted-long, variance-long, verdicts-long, weights-long, coefficients-long}
 use Rattle.kriging.proofs.Fitting.{drift-laid, matrix-laid, taken-there}
 use Rattle.kriging.proofs.fit_taken.Statement.{statement}
 use Rattle.kriging.proofs.fit_taken.Tie as tie
@@ -64,13 +65,17 @@ fits c =
     let l : wells s < 49 = omega arith in
     omega (arith, row-end (columns s) (wells s) 49 l, p)
 
--- src/lib.rt:152:9
+-- let p = survey::counts::drift_columns(bases);
 drift-columns-requires : tie.Need-drift-columns-requires
 drift-columns-requires c κs = search needs
 
--- src/lib.rt:154:47
+-- fill_drift(bases, external, coords, n, p, &mut drift);
 slice-aggregate-fill-drift : tie.Need-slice-aggregate-fill-drift
 slice-aggregate-fill-drift c = search needs
+
+-- F as its list holds it
+abbrev F-of : tie.After-fill-drift → List Float
+F-of c = c .fill-drift .last .1 .1 .1 .1 .1 .0
 
 -- F in its list, and the matrix in the work area, are the paper's
 drift-in : (c : tie.After-fill-drift) → DriftIn (survey-of (at-columns c)) (c .fill-drift .last .1 .1 .1 .1 .1 .0)
@@ -79,13 +84,16 @@ drift-in c =
     let s = survey-of d in
     drift-laid s _ _ (fits d) (c .fill-drift .ensures ∙ ap (λ (p : ℕ). filled p (wells s) (drift s) _) (counted d))
 
-matrix-in : (c : tie.After-assemble) → let d = at-columns (at-drift c) in c .assemble .last .1 .1 .1 .1 .1 .0 ≡ assembled (survey-of d) (at-entry d .args .work .now)
+matrix-in : (c : tie.After-assemble) → let d = at-columns (at-drift c) in
+    c .assemble .last .1 .1 .1 .1 .1 .0 ≡ assembled (survey-of d) (at-entry d .args .work .now)
 matrix-in c =
     let f = at-drift c in
     let d = at-columns f in
     let s = survey-of d in
     c .assemble .ensures
-    ∙ ap (λ (p : ℕ). laid (wells s + p) (joined (wells s) (between (s .options) (s .coords)) (λ i j. getD (f .fill-drift .last .1 .1 .1 .1 .1 .0) (i * p + j) nan)) (at-entry d .args .work .now)) (counted d)
+    ∙ ap
+    (λ (p : ℕ). laid (wells s + p) (joined (wells s) (between (s .options) (s .coords)) (λ i j. getD (F-of f) (i * p + j) nan)) (at-entry d .args .work .now))
+    (counted d)
     ∙ matrix-laid s (f .fill-drift .last .1 .1 .1 .1 .1 .0) (at-entry d .args .work .now) (drift-in f)
 
 -- the elimination is that of the definition
@@ -104,7 +112,6 @@ eliminated-in c =
 not-short : (s : Survey) (w : List Float) → 2 * size s * size s ≤ length w → ¬ (length (assembled s w) < 2 * size s * size s)
 not-short s w h l = omega (arith, kept-laid (size s) (entry s) w .len)
 
--- src/lib.rt:154:5
 fill-drift-requires : tie.Need-fill-drift-requires
 fill-drift-requires c κs =
     let d = c .before in
@@ -115,11 +122,10 @@ fill-drift-requires c κs =
     let k = coords-twice s a t in
     (sym (counted d), omega arith, omega arith, subst (λ (p : ℕ). wells s * p ≤ 576) (sym (counted d)) (fits d))
 
--- src/lib.rt:155:31
+-- assemble(coords, options, &drift, n, p, work);
 slice-aggregate-assemble : tie.Need-slice-aggregate-assemble
 slice-aggregate-assemble c = search needs
 
--- src/lib.rt:155:5
 assemble-requires : tie.Need-assemble-requires
 assemble-requires c κs =
     let f = c .before .before .before in
@@ -134,19 +140,17 @@ assemble-requires c κs =
       subst (λ (p : ℕ). 2 * (wells s + p) * (wells s + p) ≤ length (at-entry d .args .work .now)) (sym (counted d)) (work-long s a t),
     )
 
--- src/lib.rt:156:55
+-- match elimination::gauss_jordan_invert_uked(work, n + p) {
 add-gauss-jordan-invert-uked : tie.Need-add-gauss-jordan-invert-uked
 add-gauss-jordan-invert-uked c = search needs
 
--- src/lib.rt:156:11
 gauss-jordan-invert-uked-requires : tie.Need-gauss-jordan-invert-uked-requires
 gauss-jordan-invert-uked-requires c κs = search needs
 
--- src/lib.rt:166:17
+-- &drift,
 enum-told : tie.Need-enum-told
 enum-told c = search needs
 
--- src/lib.rt:166:17
 slice-aggregate-krige-nodes : tie.Need-slice-aggregate-krige-nodes
 slice-aggregate-krige-nodes c = search needs
 
@@ -156,7 +160,7 @@ at-done c = c .before .before .before .before .before .before .before
 abbrev at-solved : tie.After-krige-nodes-arg6 → tie.After-gauss-jordan-invert-uked
 at-solved c = at-done c .before .before .before .before
 
--- src/lib.rt:158:13
+-- krige_nodes(
 krige-nodes-requires : tie.Need-krige-nodes-requires
 krige-nodes-requires c κs =
     let g = at-solved c in
@@ -179,42 +183,36 @@ krige-nodes-requires c κs =
       subst (λ (p : ℕ). p ≤ length (at-entry d .args .coefficients .now)) (sym (counted d)) (coefficients-long s a t),
     )
 
--- src/lib.rt:177:49
+-- Elimination::Stopped(_) => Fit::Refused(Refusal::Singular),
 enum-told-2 : tie.Need-enum-told-2
 enum-told-2 c = search needs
 
--- src/lib.rt:178:47
+-- Elimination::TooShort => Fit::Refused(Refusal::WorkArea), // the work area was looked at before
 enum-told-3 : tie.Need-enum-told-3
 enum-told-3 c = search needs
 
 abbrev at-nodes : tie.After-slice-known13 → tie.After-krige-nodes
 at-nodes c = c .before .before .before .before .before .before .before .before .before .before
 
--- src/lib.rt:125:1
+-- fn fit_taken(
 same-length : tie.Need-same-length
 same-length c = search needs
 
--- src/lib.rt:125:1
 same-length-2 : tie.Need-same-length-2
 same-length-2 c = search needs
 
--- src/lib.rt:125:1
 same-length-3 : tie.Need-same-length-3
 same-length-3 c = search needs
 
--- src/lib.rt:125:1
 same-length-4 : tie.Need-same-length-4
 same-length-4 c = search needs
 
--- src/lib.rt:125:1
 same-length-5 : tie.Need-same-length-5
 same-length-5 c = search needs
 
--- src/lib.rt:125:1
 same-length-6 : tie.Need-same-length-6
 same-length-6 c = search needs
 
--- src/lib.rt:125:1
 returns : tie.Need-returns
 unfolding afterElimination answered
 returns c =
@@ -224,13 +222,13 @@ returns c =
     let s = survey-of d in
     let a = areas-of d in
     ap (outcome 0) (n .krige-nodes .ensures (at-entry d .args .external .now) (drift-in (at-drift (at-matrix g))))
-    ∙ taken-there s a Done (g .gauss-jordan-invert-uked .last .0) (at-entry d .pre) (ap (λ (r : Elimination). elimination.outcomeOf r (g .gauss-jordan-invert-uked .last .0)) (sym (at-done (n .before) .enum-told .given .1)) ∙ eliminated-in g)
+    ∙ taken-there s a Done (g .gauss-jordan-invert-uked .last .0) (at-entry d .pre)
+    (ap (λ (r : Elimination). elimination.outcomeOf r (g .gauss-jordan-invert-uked .last .0)) (sym (at-done (n .before) .enum-told .given .1))
+    ∙ eliminated-in g)
 
--- src/lib.rt:125:1
 same-length-7 : tie.Need-same-length-7
 same-length-7 c = search needs
 
--- src/lib.rt:125:1
 returns-2 : tie.Need-returns-2
 unfolding afterElimination
 returns-2 c =
@@ -239,18 +237,17 @@ returns-2 c =
     taken-there (survey-of d) (areas-of d) (Stopped _) (g .gauss-jordan-invert-uked .last .0) (at-entry d .pre)
     (ap (λ (r : Elimination). elimination.outcomeOf r (g .gauss-jordan-invert-uked .last .0)) (sym (c .enum-told2 .given .1)) ∙ eliminated-in g)
 
--- src/lib.rt:125:1
 same-length-8 : tie.Need-same-length-8
 same-length-8 c = search needs
 
--- src/lib.rt:125:1
 returns-3 : tie.Need-returns-3
 returns-3 c =
     let g = c .before .before .before .before in
     let d = at-columns (at-drift (at-matrix g)) in
     let s = survey-of d in
     let w = at-entry d .args .work .now in
-    let short : elimination.eliminated true (size s) (assembled s w) .answer ≡ TooShort = ap (λ (o : elimination.Outcome). o .answer) (sym (eliminated-in g)) ∙ c .enum-told3 .given .1 in
+    let short : elimination.eliminated true (size s) (assembled s w) .answer ≡ TooShort =
+    ap (λ (o : elimination.Outcome). o .answer) (sym (eliminated-in g)) ∙ c .enum-told3 .given .1 in
     absurd (not-short s w (work-long s (areas-of d) (at-entry d .pre)) (refused-exactly true (size s) (assembled s w) .0 short))
 
 pub fit-taken-spec : {M : Type 1} → statement M

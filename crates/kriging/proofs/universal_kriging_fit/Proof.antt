@@ -39,43 +39,37 @@ areas-of c =
 judgement : (c : tie.After-fit-refusal) → judged (c .fit-refusal .result) ≡ refusal base (survey-of c) (areas-of c)
 judgement c = c .fit-refusal .ensures ∙ ap (λ (l : Limits). refusal l (survey-of c) (areas-of c)) (at-limits c .base .ensures)
 
--- src/lib.rt:87:9
+-- Limits::base(),
 base-requires : tie.Need-base-requires
 base-requires c κs = search needs
 
--- src/lib.rt:86:9
+-- let judgement = fit_refusal(
 fit-refusal-requires : tie.Need-fit-refusal-requires
 fit-refusal-requires c κs = search needs
 
--- src/lib.rt:103:31
+-- if let Judgement::Refused(refusal) = judgement {
 enum-known-judgement : tie.Need-enum-known-judgement
 enum-known-judgement c = search needs
 
--- src/lib.rt:104:9
+-- return Fit::Refused(refusal);
 same-length : tie.Need-same-length
 same-length c = search needs
 
--- src/lib.rt:104:9
 same-length-2 : tie.Need-same-length-2
 same-length-2 c = search needs
 
--- src/lib.rt:104:9
 same-length-3 : tie.Need-same-length-3
 same-length-3 c = search needs
 
--- src/lib.rt:104:9
 same-length-4 : tie.Need-same-length-4
 same-length-4 c = search needs
 
--- src/lib.rt:104:9
 same-length-5 : tie.Need-same-length-5
 same-length-5 c = search needs
 
--- src/lib.rt:104:9
 same-length-6 : tie.Need-same-length-6
 same-length-6 c = search needs
 
--- src/lib.rt:104:9
 returns : tie.Need-returns
 returns c =
     let f = c .before .before .before in
@@ -85,38 +79,32 @@ returns c =
 enum-told : tie.Need-enum-told
 enum-told c = search needs
 
--- src/lib.rt:106:5
+-- fit_taken(
 fit-taken-requires : tie.Need-fit-taken-requires
 fit-taken-requires c κs =
     let t = at-taken c in
     let f = t .before .before in
     sym (judgement f) ∙ ap judged (t .enum-told .given .1)
 
--- src/lib.rt:44:1
+-- pub fn universal_kriging_fit(
 same-length-7 : tie.Need-same-length-7
 same-length-7 c = search needs
 
--- src/lib.rt:44:1
 same-length-8 : tie.Need-same-length-8
 same-length-8 c = search needs
 
--- src/lib.rt:44:1
 same-length-9 : tie.Need-same-length-9
 same-length-9 c = search needs
 
--- src/lib.rt:44:1
 same-length-10 : tie.Need-same-length-10
 same-length-10 c = search needs
 
--- src/lib.rt:44:1
 same-length-11 : tie.Need-same-length-11
 same-length-11 c = search needs
 
--- src/lib.rt:44:1
 same-length-12 : tie.Need-same-length-12
 same-length-12 c = search needs
 
--- src/lib.rt:44:1
 returns-2 : tie.Need-returns-2
 returns-2 c =
     let t = c .before .before .before .before .before .before .before .before .before .before .before .before in

@@ -26,7 +26,9 @@ Inv-loop values coords bases options nodes node-external tolerance drift p work 
     × (length predicted ≡ length predicted₀) × (length variance ≡ length variance₀) × (length verdicts ≡ length verdicts₀)
     × (length weights ≡ length weights₀) × (length coefficients ≡ length coefficients₀)
     × ((external : List Float) → let s = surveyOf values coords bases external nodes node-external options tolerance in
-    DriftIn s drift → Progress s (areasOf work predicted₀ variance₀ verdicts₀ weights₀ coefficients₀) (nodeOf s work) q (areasOf work predicted variance verdicts weights coefficients))
+    DriftIn s drift
+    → Progress s (areasOf work predicted₀ variance₀ verdicts₀ weights₀ coefficients₀) (nodeOf s work) q
+    (areasOf work predicted variance verdicts weights coefficients))
 
 abbrev μ-loop : tie.MeasureT-loop
 μ-loop values coords bases options nodes node-external tolerance drift p work predicted₀ variance₀ verdicts₀ weights₀ coefficients₀ n size k finite-drift q₀ q-end predicted variance verdicts weights coefficients q = q-end - q
@@ -67,27 +69,43 @@ row-inside w q m len h k = omega (arith, row-end w q m h, mul-comm w m)
 below : (c : State tie.In-loop) → c .before .loop .q < length (at-entry (c .before) .args .nodes .now) / 2
 below c = omega (arith, c .before .loop .inv .1)
 
--- src/answer.rt:71:16
+-- let size = n + p;
 add-size : tie.Need-add-size Inv-loop μ-loop
 add-size c = omega arith
 
--- src/answer.rt:72:9
+-- let k = survey::counts::external_columns(bases);
 external-columns-requires : tie.Need-external-columns-requires Inv-loop μ-loop
 external-columns-requires c κs = search needs
 
--- src/answer.rt:73:9
+-- let finite_drift = audit::drift_finite(drift, n, p);
 drift-finite-requires : tie.Need-drift-finite-requires Inv-loop μ-loop
 drift-finite-requires c κs = search needs
 
--- src/answer.rt:74:5
+-- store_zeros(coefficients, p);
 store-zeros-requires : tie.Need-store-zeros-requires Inv-loop μ-loop
 store-zeros-requires c κs = at-columns (c .before .before) .pre .9
 
--- src/answer.rt:75:5
+-- for q in 0..nodes.len() / 2 {
 loop-holds : tie.Need-loop-holds Inv-loop μ-loop
-loop-holds c = (omega arith, refl, refl, refl, c .before .before .before .before .before .external-columns .ensures, c .before .before .before .before .drift-finite .ensures, refl, refl, refl, refl, refl, λ external hF. none-yet _ _ _ (at-columns (c .before .before .before .before .before) .pre .1) _ (c .before .before .store-zeros .ensures))
+loop-holds c =
+    let zeros = c .before .before in
+    let scan = zeros .before .before in
+    let k = scan .before in (
+      omega arith,
+      refl,
+      refl,
+      refl,
+      k .external-columns .ensures,
+      scan .drift-finite .ensures,
+      refl,
+      refl,
+      refl,
+      refl,
+      refl,
+      λ external hF. none-yet _ _ _ (at-columns k .pre .1) _ (zeros .store-zeros .ensures),
+    )
 
--- src/answer.rt:76:13
+-- let node = krige_node(
 krige-node-requires : tie.Need-krige-node-requires Inv-loop μ-loop
 krige-node-requires c κs =
     let l = c .before in
@@ -98,32 +116,34 @@ krige-node-requires c κs =
       sym (v .4),
       pre .2,
       omega (arith, below c),
-      subst (λ (k : ℕ). l .loop .q * k + k ≤ length (at-entry l .args .node-external .now)) (sym (v .4)) (row-inside _ (l .loop .q) _ _ (below c) (pre .3)),
+      subst (λ (k : ℕ). l .loop .q * k + k ≤ length (at-entry l .args .node-external .now)) (sym (v .4))
+          (row-inside _ (l .loop .q) _ _ (below c) (pre .3)),
       pre .4,
       v .5,
     )
 
--- src/answer.rt:91:9
+-- predicted[q] = node.figure;
 mul-predicted : tie.Need-mul-predicted Inv-loop μ-loop
-mul-predicted c = let l = c .before .before in omega (arith, below (c .before), at-entry l .pre .5, l .loop .inv .6, at-entry l .good .1 .1 .1 .1 .1 .1 .1 .1 .1 .1 .0 .1)
+mul-predicted c =
+    let l = c .before .before in
+    omega (arith, below (c .before), at-entry l .pre .5, l .loop .inv .6, at-entry l .good .1 .1 .1 .1 .1 .1 .1 .1 .1 .1 .0 .1)
 
--- src/answer.rt:91:9
 slice-write-predicted : tie.Need-slice-write-predicted Inv-loop μ-loop
 slice-write-predicted c = let l = c .before .before in omega (arith, below (c .before), at-entry l .pre .5, l .loop .inv .6)
 
--- src/answer.rt:92:9
+-- variance[q] = node.variance;
 mul-variance : tie.Need-mul-variance Inv-loop μ-loop
-mul-variance c = let l = c .before .before in omega (arith, below (c .before), at-entry l .pre .5, l .loop .inv .6, at-entry l .good .1 .1 .1 .1 .1 .1 .1 .1 .1 .1 .0 .1)
+mul-variance c =
+    let l = c .before .before in
+    omega (arith, below (c .before), at-entry l .pre .5, l .loop .inv .6, at-entry l .good .1 .1 .1 .1 .1 .1 .1 .1 .1 .1 .0 .1)
 
--- src/answer.rt:92:9
 slice-write-variance : tie.Need-slice-write-variance Inv-loop μ-loop
 slice-write-variance c = let l = c .before .before in omega (arith, below (c .before), at-entry l .pre .6, l .loop .inv .7)
 
--- src/answer.rt:93:23
+-- verdicts[q] = node.verdict as u8;
 cast-verdicts : tie.Need-cast-verdicts Inv-loop μ-loop
 cast-verdicts c = record { fits = c .before .krige-node .ensures .1 .0 }
 
--- src/answer.rt:93:9
 slice-write-verdicts : tie.Need-slice-write-verdicts Inv-loop μ-loop
 slice-write-verdicts c = let l = c .before .before .before in omega (arith, below (c .before .before), at-entry l .pre .7, l .loop .inv .8)
 
@@ -152,53 +172,48 @@ weights-inside c =
     let l = loop-of c in
     omega (arith, row-inside (length (at-entry l .args .values .now)) (l .loop .q) _ _ (below (c .before)) (at-entry l .pre .8), l .loop .inv .9)
 
--- src/answer.rt:95:15
+-- store(&z[..n], weights, q * n);
 array-share-prefix-z : tie.Need-array-share-prefix-z Inv-loop μ-loop
 array-share-prefix-z c = z-inside (c .before .before)
 
--- src/answer.rt:95:15
 slice-aggregate-store : tie.Need-slice-aggregate-store Inv-loop μ-loop
 slice-aggregate-store c = sym (z-first (c .before .before .before))
 
--- src/answer.rt:95:33
 mul-store : tie.Need-mul-store Inv-loop μ-loop
-mul-store c = let l = loop-of (c .before .before .before .before) in omega (arith, weights-inside (c .before .before .before .before), at-entry l .good .1 .1 .1 .1 .1 .1 .1 .1 .1 .1 .1 .1 .1 .0 .1)
+mul-store c =
+    let v = c .before .before .before .before in
+    omega (arith, weights-inside v, at-entry (loop-of v) .good .1 .1 .1 .1 .1 .1 .1 .1 .1 .1 .1 .1 .1 .0 .1)
 
--- src/answer.rt:95:9
 store-requires : tie.Need-store-requires Inv-loop μ-loop
 store-requires c κs = omega (arith, weights-inside (c .before .before .before .before), z-first (c .before .before .before .before))
 
--- src/answer.rt:96:15
+-- store(&z[n..size], coefficients, 0);
 mul-store-2 : tie.Need-mul-store-2 Inv-loop μ-loop
 mul-store-2 c = let l = loop-of (at-node (c .before .before)) in omega (arith, at-entry l .pre .2)
 
--- src/answer.rt:96:15
 sub-store : tie.Need-sub-store Inv-loop μ-loop
 sub-store c = omega arith
 
--- src/answer.rt:96:15
 part-store-start : tie.Need-part-store-start Inv-loop μ-loop
 part-store-start c = omega arith
 
--- src/answer.rt:96:15
 part-store-end : tie.Need-part-store-end Inv-loop μ-loop
 part-store-end c = let v = at-node (c .before .before .before) in omega (arith, v .krige-node .ensures .0, at-entry (loop-of v) .pre .2)
 
--- src/answer.rt:96:9
 store-requires-2 : tie.Need-store-requires-2 Inv-loop μ-loop
-store-requires-2 c κs = let v = at-node (c .before .before .before .before .before) in omega (arith, z-last v, at-entry (loop-of v) .pre .9, loop-of v .loop .inv .10)
+store-requires-2 c κs =
+    let v = at-node (c .before .before .before .before .before) in
+    omega (arith, z-last v, at-entry (loop-of v) .pre .9, loop-of v .loop .inv .10)
 
--- src/answer.rt:75:9
+-- for q in 0..nodes.len() / 2 {
 add-q : tie.Need-add-q Inv-loop μ-loop
 add-q c =
     let v = at-node (at-first (c .before .before)) in
     omega (arith, below (v .before), at-entry (loop-of v) .good .1 .1 .1 .1 .0 .1)
 
--- src/answer.rt:75:5
 loop-less : tie.Need-loop-less Inv-loop μ-loop
 loop-less c = omega arith
 
--- src/answer.rt:75:5
 loop-again : tie.Need-loop-again Inv-loop μ-loop
 loop-again c =
     let first = at-first (c .before .before) in
@@ -225,27 +240,22 @@ loop-again c =
           (first .store .ensures) (last .store2 .ensures) (i .11 external hF),
     )
 
--- src/answer.rt:38:1
+-- pub fn krige_nodes(
 same-length : tie.Need-same-length Inv-loop μ-loop
 same-length c = search needs
 
--- src/answer.rt:38:1
 same-length-2 : tie.Need-same-length-2 Inv-loop μ-loop
 same-length-2 c = search needs
 
--- src/answer.rt:38:1
 same-length-3 : tie.Need-same-length-3 Inv-loop μ-loop
 same-length-3 c = search needs
 
--- src/answer.rt:38:1
 same-length-4 : tie.Need-same-length-4 Inv-loop μ-loop
 same-length-4 c = search needs
 
--- src/answer.rt:38:1
 same-length-5 : tie.Need-same-length-5 Inv-loop μ-loop
 same-length-5 c = search needs
 
--- src/answer.rt:38:1
 returns : tie.Need-returns Inv-loop μ-loop
 returns c =
     let l = c .before in

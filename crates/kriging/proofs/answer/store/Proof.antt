@@ -17,49 +17,42 @@ Inv-loop numbers area₀ at j₀ j-end area j =
 abbrev μ-loop : tie.MeasureT-loop
 μ-loop numbers area₀ at j₀ j-end area j = length numbers - j
 
--- src/answer.rt:22:5
+-- for j in 0..numbers.len() {
 loop-holds : tie.Need-loop-holds Inv-loop μ-loop
 loop-holds c = (omega arith, refl, refl, refl)
 
--- src/answer.rt:23:24
+-- area[at + j] = numbers[j];
 mul-area : tie.Need-mul-area Inv-loop μ-loop
 mul-area c = omega arith
 
--- src/answer.rt:23:24
 shared-slice-read-area : tie.Need-shared-slice-read-area Inv-loop μ-loop
 shared-slice-read-area c = omega arith
 
--- src/answer.rt:23:14
 add-area : tie.Need-add-area Inv-loop μ-loop
 add-area c = omega arith
 
--- src/answer.rt:23:9
 mul-area-2 : tie.Need-mul-area-2 Inv-loop μ-loop
 mul-area-2 c = omega arith
 
--- src/answer.rt:23:9
 slice-write-area : tie.Need-slice-write-area Inv-loop μ-loop
 slice-write-area c = omega arith
 
--- src/answer.rt:22:9
+-- for j in 0..numbers.len() {
 add-j : tie.Need-add-j Inv-loop μ-loop
 add-j c = omega arith
 
--- src/answer.rt:22:5
 loop-less : tie.Need-loop-less Inv-loop μ-loop
 loop-less c = omega arith
 
--- src/answer.rt:22:5
 loop-again : tie.Need-loop-again Inv-loop μ-loop
 loop-again c =
     let l = c .before .before .loop in
     (omega arith, l .inv .1, simp length-set (l .inv .2), next _ (l .j) _ _ (l .area) _ refl (l .inv .3))
 
--- src/answer.rt:18:1
+-- fn store(numbers: &[f64], area: &mut [f64], at: usize)
 same-length : tie.Need-same-length Inv-loop μ-loop
 same-length c = search needs
 
--- src/answer.rt:18:1
 returns : tie.Need-returns Inv-loop μ-loop
 returns c =
     let l = c .before .loop in

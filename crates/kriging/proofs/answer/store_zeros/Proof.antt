@@ -19,37 +19,33 @@ Inv-loop area₀ count j₀ area j =
 abbrev μ-loop : tie.MeasureT-loop
 μ-loop area₀ count j₀ area j = count - j
 
--- src/answer.rt:32:5
+-- for j in 0..count {
 loop-holds : tie.Need-loop-holds Inv-loop μ-loop
 loop-holds c = (omega arith, refl, refl)
 
--- src/answer.rt:33:9
+-- area[j] = 0.0;
 mul-area : tie.Need-mul-area Inv-loop μ-loop
 mul-area c = omega arith
 
--- src/answer.rt:33:9
 slice-write-area : tie.Need-slice-write-area Inv-loop μ-loop
 slice-write-area c = omega arith
 
--- src/answer.rt:32:9
+-- for j in 0..count {
 add-j : tie.Need-add-j Inv-loop μ-loop
 add-j c = omega arith
 
--- src/answer.rt:32:5
 loop-less : tie.Need-loop-less Inv-loop μ-loop
 loop-less c = omega arith
 
--- src/answer.rt:32:5
 loop-again : tie.Need-loop-again Inv-loop μ-loop
 loop-again c =
     let l = c .before .loop in
     (omega arith, simp length-set (l .inv .1), next-start (l .j) _ _ (l .area) _ refl (l .inv .2))
 
--- src/answer.rt:28:1
+-- fn store_zeros(area: &mut [f64], count: usize)
 same-length : tie.Need-same-length Inv-loop μ-loop
 same-length c = search needs
 
--- src/answer.rt:28:1
 returns : tie.Need-returns Inv-loop μ-loop
 returns c =
     let l = c .before .loop in

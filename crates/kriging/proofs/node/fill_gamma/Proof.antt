@@ -20,74 +20,64 @@ Inv-loop coords variogram x y n b₀ i₀ b i =
 abbrev μ-loop : tie.MeasureT-loop
 μ-loop coords variogram x y n b₀ i₀ b i = n - i
 
--- src/node.rt:17:5
+-- for i in 0..n {
 loop-holds : tie.Need-loop-holds Inv-loop μ-loop
 loop-holds c = (omega arith, refl, refl)
 
--- src/node.rt:18:47
+-- let h = variogram::distance_2d(coords[2 * i], coords[2 * i + 1], x, y);
 mul-distance-2d : tie.Need-mul-distance-2d Inv-loop μ-loop
 mul-distance-2d c = omega arith
 
--- src/node.rt:18:40
 mul-distance-2d-2 : tie.Need-mul-distance-2d-2 Inv-loop μ-loop
 mul-distance-2d-2 c = omega arith
 
--- src/node.rt:18:40
 shared-slice-read-distance-2d : tie.Need-shared-slice-read-distance-2d Inv-loop μ-loop
 shared-slice-read-distance-2d c = omega arith
 
--- src/node.rt:18:62
 mul-distance-2d-3 : tie.Need-mul-distance-2d-3 Inv-loop μ-loop
 mul-distance-2d-3 c = omega arith
 
--- src/node.rt:18:62
 add-distance-2d : tie.Need-add-distance-2d Inv-loop μ-loop
 add-distance-2d c = omega arith
 
--- src/node.rt:18:55
 mul-distance-2d-4 : tie.Need-mul-distance-2d-4 Inv-loop μ-loop
 mul-distance-2d-4 c = omega arith
 
--- src/node.rt:18:55
 shared-slice-read-distance-2d-2 : tie.Need-shared-slice-read-distance-2d-2 Inv-loop μ-loop
 shared-slice-read-distance-2d-2 c = omega arith
 
--- src/node.rt:18:13
 distance-2d-requires : tie.Need-distance-2d-requires Inv-loop μ-loop
 distance-2d-requires c κs = search needs
 
--- src/node.rt:19:16
+-- b[i] = variogram.evaluate(h);
 evaluate-requires : tie.Need-evaluate-requires Inv-loop μ-loop
 evaluate-requires c κs = search needs
 
--- src/node.rt:19:9
 mul-b : tie.Need-mul-b Inv-loop μ-loop
 mul-b c = omega arith
 
--- src/node.rt:19:9
 slice-write-b : tie.Need-slice-write-b Inv-loop μ-loop
 slice-write-b c = omega arith
 
--- src/node.rt:17:9
+-- for i in 0..n {
 add-i : tie.Need-add-i Inv-loop μ-loop
 add-i c = omega arith
 
--- src/node.rt:17:5
 loop-less : tie.Need-loop-less Inv-loop μ-loop
 loop-less c = omega arith
 
--- src/node.rt:17:5
 loop-again : tie.Need-loop-again Inv-loop μ-loop
 unfolding gammaTo
 loop-again c =
     let l = c .before .before .before .before .before .loop in
-    (omega arith, simp length-set (l .inv .1), next-start (l .i) _ _ (l .b) _ (c .evaluate .ensures ∙ ap (semivariance (c .before .before .before .before .before .before .before .before .args .variogram)) (c .before .distance-2d .ensures)) (l .inv .2))
+    let v = c .before .before .before .before .before .before .before .before .args .variogram in
+    let e = c .evaluate .ensures ∙ ap (semivariance v) (c .before .distance-2d .ensures) in
+    (omega arith, simp length-set (l .inv .1), next-start (l .i) _ _ (l .b) _ e (l .inv .2))
 
--- src/node.rt:13:1
+-- fn fill_gamma(coords: &[f64], variogram: Variogram, x: f64, y: f64, n: usize, b: &mut [f64])
 same-length : tie.Need-same-length Inv-loop μ-loop
 same-length c = search needs
 
--- src/node.rt:13:1
 returns : tie.Need-returns Inv-loop μ-loop
 returns c =
     let l = c .before .loop in

@@ -16,50 +16,44 @@ at-entry c = c .before .before .before .before .before .before .before .before .
 abbrev at-gamma : tie.After-fill-query-drift-row-arg → tie.After-fill-gamma
 at-gamma c = c .before .before .before
 
--- src/node.rt:77:19
+-- let x = nodes[2 * q];
 mul-x : tie.Need-mul-x
 mul-x c = omega arith
 
--- src/node.rt:77:13
 mul-x-2 : tie.Need-mul-x-2
 mul-x-2 c = omega arith
 
--- src/node.rt:77:13
 shared-slice-read-x : tie.Need-shared-slice-read-x
 shared-slice-read-x c = omega arith
 
--- src/node.rt:78:19
+-- let y = nodes[2 * q + 1];
 mul-y : tie.Need-mul-y
 mul-y c = omega arith
 
--- src/node.rt:78:19
 add-y : tie.Need-add-y
 add-y c = omega arith
 
--- src/node.rt:78:13
 mul-y-2 : tie.Need-mul-y-2
 mul-y-2 c = omega arith
 
--- src/node.rt:78:13
 shared-slice-read-y : tie.Need-shared-slice-read-y
 shared-slice-read-y c = omega arith
 
--- src/node.rt:79:5
+-- fill_gamma(coords, variogram, x, y, n, b);
 fill-gamma-requires : tie.Need-fill-gamma-requires
 fill-gamma-requires c κs = omega arith
 
--- src/node.rt:80:5
+-- crate::drift::fill_query_drift_row(bases, node_external, k, q, x, y, b, n);
 fill-query-drift-row-requires : tie.Need-fill-query-drift-row-requires
 fill-query-drift-row-requires c κs =
     let g = at-gamma c in
     let p = at-entry g .pre in
     (omega (arith, p .4, g .fill-gamma .kept .1 .1 .1 .1 .1 .0), p .2, omega (arith, p .3))
 
--- src/node.rt:63:1
+-- fn fill_right_hand(
 same-length : tie.Need-same-length
 same-length c = search needs
 
--- src/node.rt:63:1
 returns : tie.Need-returns
 returns c =
     let d = c .before .before in

@@ -26,40 +26,36 @@ abbrev at-entry : State tie.At-loop → State tie.Start
 at-entry c = c .before .before .before .before
 
 -- for i in 0..size
+-- for i in 0..size {
 loop-holds : tie.Need-loop-holds Inv-loop μ-loop
 loop-holds c = (omega arith, refl, refl)
 
--- src/node.rt:42:16
+-- z[i] = times_inverse(work, size, b, i);
 times-inverse-requires : tie.Need-times-inverse-requires Inv-loop μ-loop
 times-inverse-requires c κs = let p = at-entry (c .before) .pre in (omega arith, p .0, p .1)
 
--- src/node.rt:42:9
 mul-z : tie.Need-mul-z Inv-loop μ-loop
 mul-z c = omega arith
 
--- src/node.rt:42:9
 slice-write-z : tie.Need-slice-write-z Inv-loop μ-loop
 slice-write-z c = omega arith
 
--- src/node.rt:41:9
+-- for i in 0..size {
 add-i : tie.Need-add-i Inv-loop μ-loop
 add-i c = omega arith
 
--- src/node.rt:41:5
 loop-less : tie.Need-loop-less Inv-loop μ-loop
 loop-less c = omega arith
 
--- src/node.rt:41:5
 loop-again : tie.Need-loop-again Inv-loop μ-loop
 loop-again c =
     let l = c .before .before .loop in
     (omega arith, simp length-set (l .inv .1), next-start (l .i) _ _ (l .z) _ (c .times-inverse .ensures) (l .inv .2))
 
--- src/node.rt:37:1
+-- fn fill_z(work: &[f64], size: usize, b: &[f64], z: &mut [f64])
 same-length : tie.Need-same-length Inv-loop μ-loop
 same-length c = search needs
 
--- src/node.rt:37:1
 returns : tie.Need-returns Inv-loop μ-loop
 returns c =
     let l = c .before .loop in

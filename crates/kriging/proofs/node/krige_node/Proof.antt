@@ -31,6 +31,10 @@ at-entry c = c .before .before .before .before .before .before .before .before .
 abbrev at-right : tie.After-b3 → tie.After-fill-right-hand
 at-right c = c .before .before
 
+-- what b holds then
+abbrev b-of : tie.After-fill-right-hand → List Float
+b-of c = c .fill-right-hand .last .1 .1 .1 .1 .1 .1 .1 .1 .0
+
 abbrev at-b : tie.After-solve-node → tie.After-b3
 at-b c = c .before
 
@@ -40,77 +44,76 @@ at-solved c = c .before .before .before .before
 abbrev size-of : tie.Start → ℕ
 size-of c = length (c .args .values .now) + c .args .p
 
--- src/node.rt:153:16
+-- let size = n + p;
 add-size : tie.Need-add-size
 add-size c = search needs
 
--- src/node.rt:164:9
+-- &mut b,
 slice-aggregate-fill-right-hand : tie.Need-slice-aggregate-fill-right-hand
 slice-aggregate-fill-right-hand c = search needs
 
--- src/node.rt:155:5
+-- fill_right_hand(
 fill-right-hand-requires : tie.Need-fill-right-hand-requires
 fill-right-hand-requires c κs = search needs
 
--- src/node.rt:166:37
+-- let solution = solve_node(work, &b[..size], drift, finite_drift, n, tolerance);
 array-share-prefix-b : tie.Need-array-share-prefix-b
 array-share-prefix-b c = search needs
 
 -- b has its 60 places, and so the part of it that is lent has size ones
-b-length : (c : tie.After-b3) → length (take (size-of (at-entry (at-right c))) (at-right c .fill-right-hand .last .1 .1 .1 .1 .1 .1 .1 .1 .0)) ≡ size-of (at-entry (at-right c))
+b-length : (c : tie.After-b3) → let r = at-right c in length (take (size-of (at-entry r)) (b-of r)) ≡ size-of (at-entry r)
 b-length c =
     let r = at-right c in
-    length-take-le (size-of (at-entry r)) (r .fill-right-hand .last .1 .1 .1 .1 .1 .1 .1 .1 .0) (omega (arith, r .fill-right-hand .kept .1 .1 .1 .1 .1 .1 .1 .1 .0, at-entry r .pre .3))
+    length-take-le (size-of (at-entry r)) (b-of r) (omega (arith, r .fill-right-hand .kept .1 .1 .1 .1 .1 .1 .1 .1 .0, at-entry r .pre .3))
 
--- src/node.rt:166:37
 slice-aggregate-solve-node : tie.Need-slice-aggregate-solve-node
 slice-aggregate-solve-node c = sym (b-length c)
 
--- src/node.rt:166:9
 solve-node-requires : tie.Need-solve-node-requires
-solve-node-requires c κs = let p = at-entry (at-right c) .pre in (omega (arith, b-length c), omega (arith, b-length c, p .3), subst (λ (l : ℕ). 2 * l * l ≤ length (at-entry (at-right c) .args .work .now)) (sym (b-length c)) (p .6))
+solve-node-requires c κs =
+    let p = at-entry (at-right c) .pre in
+    let work = at-entry (at-right c) .args .work .now in
+    (omega (arith, b-length c), omega (arith, b-length c, p .3), subst (λ (l : ℕ). 2 * l * l ≤ length work) (sym (b-length c)) (p .6))
 
 -- z has its 60 places
 z-inside : (c : tie.After-solve-node) → length (at-entry (at-right (at-b c)) .args .values .now) ≤ length (c .solve-node .result .z)
 z-inside c = omega (arith, c .solve-node .ensures .0, at-entry (at-right (at-b c)) .pre .3)
 
--- src/node.rt:168:31
+-- let figure = weighted_sum(&z, values, n);
 slice-aggregate-weighted-sum : tie.Need-slice-aggregate-weighted-sum
 slice-aggregate-weighted-sum c = search needs
 
--- src/node.rt:168:9
 weighted-sum-requires : tie.Need-weighted-sum-requires
 weighted-sum-requires c κs = (z-inside (c .before .before), omega arith)
 
--- src/node.rt:171:9
+-- &z[..n],
 array-share-prefix-z : tie.Need-array-share-prefix-z
 array-share-prefix-z c = z-inside (c .before .before .before)
 
--- src/node.rt:171:9
 slice-aggregate-audit-figure : tie.Need-slice-aggregate-audit-figure
 slice-aggregate-audit-figure c = sym (length-take-le _ _ (z-inside (at-solved c)))
 
--- src/node.rt:172:9
+-- &b[n..size],
 mul-audit-figure : tie.Need-mul-audit-figure
 mul-audit-figure c = search needs
 
--- src/node.rt:172:9
 sub-audit-figure : tie.Need-sub-audit-figure
 sub-audit-figure c = search needs
 
--- src/node.rt:172:9
 part-audit-figure-start : tie.Need-part-audit-figure-start
 part-audit-figure-start c = search needs
 
--- src/node.rt:172:9
 part-audit-figure-end : tie.Need-part-audit-figure-end
 part-audit-figure-end c = search needs
 
--- src/node.rt:169:9
+-- let verdict = audit::audit_figure(
 audit-figure-requires : tie.Need-audit-figure-requires
 audit-figure-requires c κs = search needs
 
--- the number of wells, and f0 as it lies in b
+-- the figure, the number of wells, and f0 as it lies in b
+abbrev figure-of : tie.After-audit-figure → Float
+figure-of c = c .before .before .before .before .weighted-sum .result
+
 abbrev wells-of : tie.After-solve-node → ℕ
 wells-of v = length (at-entry (at-right (at-b v)) .args .values .now)
 
@@ -120,14 +123,14 @@ f0-of v = let r = at-right (at-b v) in drop (wells-of v) (take (size-of (at-entr
 f0-length : (v : tie.After-solve-node) → length (f0-of v) ≤ 60
 f0-length v =
     let r = at-right (at-b v) in
-    omega (arith, length-drop (wells-of v) (take (size-of (at-entry r)) (r .fill-right-hand .last .1 .1 .1 .1 .1 .1 .1 .1 .0)), b-length (at-b v), at-entry r .pre .3)
+    omega (arith, length-drop (wells-of v) (take (size-of (at-entry r)) (b-of r)), b-length (at-b v), at-entry r .pre .3)
 
 -- the verdict, as the last call answers it
 audited : (c : tie.After-audit-figure) → let v = at-solved (c .before .before .before) in
     let a = at-entry (at-right (at-b v)) .args in
     c .audit-figure .result
     ≡ verdictWith (v .solve-node .result .columns)
-    (auditedIn (weighedIn (take (wells-of v) (v .solve-node .result .z)) [] (f0-of v) (a .tolerance)) (a .values .now) (c .before .before .before .before .weighted-sum .result))
+    (auditedIn (weighedIn (take (wells-of v) (v .solve-node .result .z)) [] (f0-of v) (a .tolerance)) (a .values .now) (figure-of c))
 audited c =
     let v = at-solved (c .before .before .before) in
     let r = at-right (at-b v) in
@@ -135,7 +138,7 @@ audited c =
     c .audit-figure .ensures
     ∙ ap
     (λ (f0 : List Float). verdictWith (v .solve-node .result .columns)
-    (auditedIn (weighedIn (take (wells-of v) (v .solve-node .result .z)) [] f0 (a .tolerance)) (a .values .now) (c .before .before .before .before .weighted-sum .result)))
+    (auditedIn (weighedIn (take (wells-of v) (v .solve-node .result .z)) [] f0 (a .tolerance)) (a .values .now) (figure-of c)))
     (part-is (wells-of v) (a .p) (r .fill-right-hand .last .1 .1 .1 .1 .1 .1 .1 .1 .0)
     (omega (arith, r .fill-right-hand .kept .1 .1 .1 .1 .1 .1 .1 .1 .0, at-entry r .pre .3)))
 
@@ -144,10 +147,12 @@ byte : (c : tie.After-audit-figure) → c .audit-figure .result ≤ 255
 byte c =
     let v = at-solved (c .before .before .before) in
     let few = f0-length v in
-    let columns : v .solve-node .result .columns ≤ 255 = subst (λ (k : ℕ). k ≤ 255) (sym (v .solve-node .ensures .1 .1 .1)) (columns-bound _ _ (omega (arith, few))) in
+    let columns : v .solve-node .result .columns ≤ 255 =
+    subst (λ (k : ℕ). k ≤ 255) (sym (v .solve-node .ensures .1 .1 .1)) (columns-bound _ _ (omega (arith, few))) in
     subst (λ (k : ℕ). k ≤ 255) (sym (audited c)) (verdict-bound _ _ columns (omega (arith, few)))
 
 -- Node { .. }
+-- pub fn krige_node(
 returns : tie.Need-returns
 unfolding rightHand
 returns c =
@@ -160,8 +165,10 @@ returns c =
       (
         omega (arith, byte c),
         λ external hF.
-            let s : Survey = surveyOf (a .values .now) (a .coords .now) (a .bases .now) external (a .nodes .now) (a .node-external .now) (a .options) (a .tolerance) in
-            node-is s (a .work .now) (a .q) (take (size-of (at-entry r)) bs) (v .solve-node .result .z) (a .drift .now) (a .finite-drift) _ _ _ _ hF (pre .1) (record {
+            let s : Survey =
+            surveyOf (a .values .now) (a .coords .now) (a .bases .now) external (a .nodes .now) (a .node-external .now) (a .options) (a .tolerance) in
+            node-is s (a .work .now) (a .q) (take (size-of (at-entry r)) bs) (v .solve-node .result .z) (a .drift .now) (a .finite-drift) _ _ _ _ hF
+            (pre .1) (record {
               long = omega (arith, v .solve-node .ensures .0, pre .3);
               right =
                   ap (λ (p : ℕ). take (wells-of v + p) bs) (sym (pre .1))

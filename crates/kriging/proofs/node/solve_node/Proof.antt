@@ -26,27 +26,24 @@ at-entry c = c .before .before .before .before .before
 abbrev at-z : tie.After-z4 → tie.After-fill-z
 at-z c = c .before .before .before .before .before
 
--- src/node.rt:98:27
+-- fill_z(work, size, b, &mut z);
 slice-aggregate-fill-z : tie.Need-slice-aggregate-fill-z
 slice-aggregate-fill-z c = search needs
 
--- src/node.rt:98:5
 fill-z-requires : tie.Need-fill-z-requires
 fill-z-requires c κs = search needs
 
--- src/node.rt:99:43
+-- let variance = ieee::max(weighted_sum(&z, b, size), 0.0);
 slice-aggregate-weighted-sum : tie.Need-slice-aggregate-weighted-sum
 slice-aggregate-weighted-sum c = search needs
 
--- src/node.rt:99:30
 weighted-sum-requires : tie.Need-weighted-sum-requires
 weighted-sum-requires c κs = search needs
 
--- src/node.rt:99:9
 max-requires : tie.Need-max-requires
 max-requires c κs = search needs
 
--- src/node.rt:100:40
+-- let columns = audit::audit_columns(&z[..n], drift, finite_drift, &b[n..], tolerance);
 array-share-prefix-z : tie.Need-array-share-prefix-z
 array-share-prefix-z c = search needs
 
@@ -54,31 +51,25 @@ array-share-prefix-z c = search needs
 long : (c : tie.After-z4) → length (at-z c .fill-z .last .1 .1 .1 .0) ≡ 60
 long c = at-z c .fill-z .kept .1 .1 .1 .0
 
--- src/node.rt:100:40
 slice-aggregate-audit-columns : tie.Need-slice-aggregate-audit-columns
 slice-aggregate-audit-columns c = sym (length-take-le _ _ (omega (arith, long c)))
 
--- src/node.rt:100:70
 mul-audit-columns : tie.Need-mul-audit-columns
 mul-audit-columns c = search needs
 
--- src/node.rt:100:70
 sub-audit-columns : tie.Need-sub-audit-columns
 sub-audit-columns c = search needs
 
--- src/node.rt:100:70
 part-audit-columns-start : tie.Need-part-audit-columns-start
 part-audit-columns-start c = search needs
 
--- src/node.rt:100:70
 part-audit-columns-end : tie.Need-part-audit-columns-end
 part-audit-columns-end c = search needs
 
--- src/node.rt:100:9
 audit-columns-requires : tie.Need-audit-columns-requires
 audit-columns-requires c κs = search needs
 
--- src/node.rt:90:1
+-- fn solve_node(
 returns : tie.Need-returns
 unfolding zOf varianceOf
 returns c =

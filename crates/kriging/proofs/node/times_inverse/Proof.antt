@@ -26,51 +26,43 @@ State S = S Inv-loop μ-loop
 inside : (c : State tie.Start) → let a = c .args in a .i * (2 * a .size) + 2 * a .size ≤ length (a .work .now)
 inside c = let a = c .args in row-inside (a .size) (a .i) (length (a .work .now)) (c .pre .0) (c .pre .1)
 
--- src/node.rt:28:20
+-- let row = i * (2 * size) + size;
 mul-row : tie.Need-mul-row Inv-loop μ-loop
 mul-row c = omega (arith, inside c)
 
--- src/node.rt:28:15
 mul-row-2 : tie.Need-mul-row-2 Inv-loop μ-loop
 mul-row-2 c = omega (arith, inside c)
 
--- src/node.rt:28:15
 add-row : tie.Need-add-row Inv-loop μ-loop
 add-row c = omega (arith, inside c)
 
--- src/node.rt:30:5
+-- for j in 0..size {
 loop-holds : tie.Need-loop-holds Inv-loop μ-loop
 loop-holds c = (omega arith, refl, no-terms _)
 
--- src/node.rt:31:21
+-- acc += work[row + j] * b[j];
 add-acc : tie.Need-add-acc Inv-loop μ-loop
 add-acc c = omega (arith, inside (c .before .before))
 
--- src/node.rt:31:16
 mul-acc : tie.Need-mul-acc Inv-loop μ-loop
 mul-acc c = omega (arith, inside (c .before .before))
 
--- src/node.rt:31:16
 shared-slice-read-acc : tie.Need-shared-slice-read-acc Inv-loop μ-loop
 shared-slice-read-acc c = omega (arith, inside (c .before .before .before))
 
--- src/node.rt:31:32
 mul-acc-2 : tie.Need-mul-acc-2 Inv-loop μ-loop
 mul-acc-2 c = omega arith
 
--- src/node.rt:31:32
 shared-slice-read-acc-2 : tie.Need-shared-slice-read-acc-2 Inv-loop μ-loop
 shared-slice-read-acc-2 c = omega arith
 
--- src/node.rt:30:9
+-- for j in 0..size {
 add-j : tie.Need-add-j Inv-loop μ-loop
 add-j c = omega arith
 
--- src/node.rt:30:5
 loop-less : tie.Need-loop-less Inv-loop μ-loop
 loop-less c = omega arith
 
--- src/node.rt:30:5
 -- the product is that of column j
 product : (c : State tie.At-loop) → let a = c .before .args in let j = c .loop .j in
     mul binary64 (getD (a .work .now) (a .i * (2 * a .size) + a .size + j) nan) (getD (a .b .now) j nan)
@@ -84,7 +76,7 @@ product c =
 loop-again : tie.Need-loop-again Inv-loop μ-loop
 loop-again c = let l = c .before .before .before .loop in (omega arith, refl, sum-turn (l .j) _ (l .acc) _ (product (c .before .before .before)) (l .inv .2))
 
--- src/node.rt:24:1
+-- fn times_inverse(work: &[f64], size: usize, b: &[f64], i: usize) -> f64
 returns : tie.Need-returns Inv-loop μ-loop
 unfolding timesInverse
 returns c =

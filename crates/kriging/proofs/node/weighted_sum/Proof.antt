@@ -17,39 +17,34 @@ Inv-loop z numbers count sum₀ i₀ sum i =
 abbrev μ-loop : tie.MeasureT-loop
 μ-loop z numbers count sum₀ i₀ sum i = count - i
 
--- src/node.rt:52:5
+-- for i in 0..count {
 loop-holds : tie.Need-loop-holds Inv-loop μ-loop
 loop-holds c = (omega arith, no-terms _)
 
--- src/node.rt:53:16
+-- sum += z[i] * numbers[i];
 mul-sum : tie.Need-mul-sum Inv-loop μ-loop
 mul-sum c = omega arith
 
--- src/node.rt:53:16
 shared-slice-read-sum : tie.Need-shared-slice-read-sum Inv-loop μ-loop
 shared-slice-read-sum c = omega arith
 
--- src/node.rt:53:23
 mul-sum-2 : tie.Need-mul-sum-2 Inv-loop μ-loop
 mul-sum-2 c = omega arith
 
--- src/node.rt:53:23
 shared-slice-read-sum-2 : tie.Need-shared-slice-read-sum-2 Inv-loop μ-loop
 shared-slice-read-sum-2 c = omega arith
 
--- src/node.rt:52:9
+-- for i in 0..count {
 add-i : tie.Need-add-i Inv-loop μ-loop
 add-i c = omega arith
 
--- src/node.rt:52:5
 loop-less : tie.Need-loop-less Inv-loop μ-loop
 loop-less c = omega arith
 
--- src/node.rt:52:5
 loop-again : tie.Need-loop-again Inv-loop μ-loop
 loop-again c = let l = c .before .before .before .loop in (omega arith, sum-turn (l .i) _ (l .sum) _ refl (l .inv .1))
 
--- src/node.rt:47:1
+-- fn weighted_sum(z: &[f64], numbers: &[f64], count: usize) -> f64
 returns : tie.Need-returns Inv-loop μ-loop
 returns c =
     let l = c .before .loop in
