@@ -26,7 +26,7 @@ fn covariance(variogram: Variogram, points: &[f64], i: usize, ys: &[f64], j: usi
 }
 
 // Entry i of the column of the point j of a list: its covariance with each known point, then its trend.
-pub fn column_entry(
+pub(crate) fn column_entry(
     interpolator: KrigingInterpolator,
     values: &[f64],
     points: &[f64],
@@ -117,7 +117,7 @@ fn fill_matrix_row(
 }
 
 // The matrix beside the identity.
-pub fn build_covariance_matrix(
+pub(crate) fn build_covariance_matrix(
     interpolator: KrigingInterpolator,
     values: &[f64],
     points: &[f64],
@@ -135,7 +135,7 @@ pub fn build_covariance_matrix(
 }
 
 // The elimination of the matrix, in place: the interpolator's, which skips no zero factor.
-pub fn solve_kriging_system(work: &mut [f64], size: usize) -> Elimination
+pub(crate) fn solve_kriging_system(work: &mut [f64], size: usize) -> Elimination
     ensures { λ r. ⌜ outcomeOf r (now (work .exit)) ≡ eliminated false size (now (work .entry)) ⌝ }
 {
     elimination::matrix_inverse(work, size)

@@ -118,7 +118,7 @@ fn interpolate_point(
 }
 
 // Every target.
-pub fn interpolate_points(
+pub(crate) fn interpolate_points(
     interpolator: KrigingInterpolator,
     values: &[f64],
     points: &[f64],

@@ -76,7 +76,7 @@ fn either_above(a: usize, most_a: usize, b: usize, most_b: usize) -> bool
 }
 
 // The first that applies. The product n * d need not fit a word; past 13, d is no zero and m can be counted.
-pub fn interpolation_refusal(
+pub(crate) fn interpolation_refusal(
     limits: Limits,
     interpolator: KrigingInterpolator,
     values: &[f64],

@@ -9,7 +9,7 @@ ghost use Rattle.interpolator.specs.Call.{added};
 ghost use Rattle.interpolator.specs.Assembly.{trend};
 
 // How many terms it has.
-pub fn trend_terms(kriging_type: KrigingType) -> usize
+pub(crate) fn trend_terms(kriging_type: KrigingType) -> usize
     ensures { λ r. ⌜ r ≡ added «kriging_type» ⌝ }
 {
     match kriging_type {
@@ -19,7 +19,7 @@ pub fn trend_terms(kriging_type: KrigingType) -> usize
 }
 
 // Term c at the point that begins at `start`.
-pub fn trend_term(kriging_type: KrigingType, ys: &[f64], start: usize, c: usize) -> f64
+pub(crate) fn trend_term(kriging_type: KrigingType, ys: &[f64], start: usize, c: usize) -> f64
     requires { ⌜ (c < added «kriging_type») × (0 < c → start + 2 ≤ length (now ys)) ⌝ }
     ensures { λ r. ⌜ r ≡ getD (trend «kriging_type» (axisFrom (now (ys .entry)) start)) c nan ⌝ }
 {

@@ -13,12 +13,17 @@ use lib.Ieee.{Float, nan}
 use Rattle.area.specs.Area.{written, filled}
 use Rattle.area.proofs.Start.{next-start}
 use Rattle.area.proofs.Places.{same-values, written-over}
+use Rattle.area.proofs.Rows.{row-end}
 use Rattle.area.proofs.Filled.{next-row, one-fill}
 use Rattle.ieee.specs.Floats.{zeroFloat}
 use Rattle.survey.specs.Survey.{Survey, wells, nodeCount, columns, size}
 use Rattle.fit.specs.Areas.{Areas, areasOf}
 use Rattle.fit.specs.Node.{Node, nodeOf}
 use Rattle.fit.specs.Fit.{coefficient, answered}
+
+-- a row of so many of a list's numbers lies inside
+pub row-inside : (w q m len : ℕ) → q < m → w * m ≤ len → q * w + w ≤ len
+row-inside w q m len h k = omega (arith, row-end w q m h, mul-comm w m)
 
 -- coefficient j after q nodes: the last one's, and 0 where there is none
 abbrev lastOf : Survey → (ℕ → Node) → ℕ → ℕ → Float

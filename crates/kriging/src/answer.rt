@@ -35,7 +35,7 @@ fn store_zeros(area: &mut [f64], count: usize)
 }
 
 // Every node. The coefficients are the last node's: each node's are stored over those of the one before, and the first one's over zeros.
-pub fn krige_nodes(
+pub(crate) fn krige_nodes(
     values: &[f64],
     coords: &[f64],
     bases: &[u8],

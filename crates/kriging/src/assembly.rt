@@ -96,7 +96,7 @@ fn fill_matrix_row(
 }
 
 // The matrix beside the identity.
-pub fn assemble(
+pub(crate) fn assemble(
     coords: &[f64],
     options: UniversalKrigingOptions,
     drift: &[f64],

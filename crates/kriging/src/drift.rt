@@ -98,7 +98,7 @@ fn fill_drift_row(
 }
 
 // f0 of node q: the k external values of the nodes lie node after node.
-pub fn fill_query_drift_row(
+pub(crate) fn fill_query_drift_row(
     bases: &[u8],
     external: &[f64],
     k: usize,
@@ -117,7 +117,7 @@ pub fn fill_query_drift_row(
 }
 
 // F, row after row: the drift columns at each of the n wells.
-pub fn fill_drift(
+pub(crate) fn fill_drift(
     bases: &[u8],
     external: &[f64],
     coords: &[f64],

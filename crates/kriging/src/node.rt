@@ -128,7 +128,7 @@ pub struct Node {
 }
 
 // Node q, from the finished elimination: first what does not depend on the values, then what does.
-pub fn krige_node(
+pub(crate) fn krige_node(
     values: &[f64],
     coords: &[f64],
     bases: &[u8],

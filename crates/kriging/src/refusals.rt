@@ -51,7 +51,7 @@ fn short_answer(
 }
 
 // 1 to 12, 17 and 18: the first that applies. Past 7 there are no more columns than wells, so that their count is p itself.
-pub fn fit_refusal(
+pub(crate) fn fit_refusal(
     limits: Limits,
     values: &[f64],
     coords: &[f64],

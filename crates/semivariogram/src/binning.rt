@@ -65,7 +65,7 @@ fn add_later(
 }
 
 // All pairs, each added to its bin.
-pub fn add_pairs(
+pub(crate) fn add_pairs(
     points: &[f64],
     values: &[f64],
     d: usize,
@@ -95,7 +95,7 @@ pub fn add_pairs(
 }
 
 // The kept bins, rising, to the first places of the areas: centre, average and count. How many they are.
-pub fn write_kept(
+pub(crate) fn write_kept(
     bin_width: f64,
     n_bins: usize,
     bin_sums: &[f64],

@@ -21,7 +21,7 @@ fn greatest_from(points: &[f64], n: usize, d: usize, i: usize, most: f64) -> f64
 }
 
 // The greatest distance of n points, from +0 on, below which no distance is.
-pub fn greatest_distance(points: &[f64], n: usize, d: usize) -> f64
+pub(crate) fn greatest_distance(points: &[f64], n: usize, d: usize) -> f64
     ensures { λ r. ⌜ r ≡ greatest zeroFloat (map (lagIn (now (points .entry)) d) (pairs n)) ⌝ }
 {
     let mut max_dist = 0.0;

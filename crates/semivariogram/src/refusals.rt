@@ -36,7 +36,7 @@ fn short_answer(bins: usize, distances: usize, semivariances: usize, counts: usi
 }
 
 // The first that applies.
-pub fn calculate_refusal(
+pub(crate) fn calculate_refusal(
     limits: Limits,
     points: &[f64],
     values: &[f64],

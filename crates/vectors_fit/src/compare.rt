@@ -39,7 +39,7 @@ fn mark_bytes(area: &mut [u8], lent: usize) {
     }
 }
 
-pub fn mark_all(
+pub(crate) fn mark_all(
     lent: Areas,
     work: &mut [f64],
     predicted: &mut [f64],
@@ -163,7 +163,7 @@ fn compare_number(number: u64, counts: &mut [u64]) {
 }
 
 // Compares how a fit ended and what it left: the number comes in, then how much is written of each area, how much of the work area is told, and the areas.
-pub fn compare_all(
+pub(crate) fn compare_all(
     lent: Areas,
     number: u64,
     work: &[f64],

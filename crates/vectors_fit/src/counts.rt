@@ -23,7 +23,7 @@ pub const UNTOUCHED: usize = 34;
 
 const DIFFERENCES: usize = 36;
 
-pub fn count(counts: &mut [u64], at: usize) {
+pub(crate) fn count(counts: &mut [u64], at: usize) {
     if at < counts.len() {
         counts[at] = std::num::wrapping_add_u64(counts[at], 1);
     }
@@ -37,7 +37,7 @@ fn counted_at(counts: &[u64], at: usize) -> u64 {
 }
 
 // One number of a part was compared.
-pub fn compared(counts: &mut [u64], part: usize, same: bool) {
+pub(crate) fn compared(counts: &mut [u64], part: usize, same: bool) {
     count(counts, part);
     if !same {
         count(counts, std::num::wrapping_add_usize(part, 1));
@@ -46,12 +46,12 @@ pub fn compared(counts: &mut [u64], part: usize, same: bool) {
 }
 
 // All that differ.
-pub fn differences(counts: &[u64]) -> u64 {
+pub(crate) fn differences(counts: &[u64]) -> u64 {
     counted_at(counts, DIFFERENCES)
 }
 
 // The fits that ended by each number: a line for each number that came.
-pub fn write_endings(counts: &[u64]) {
+pub(crate) fn write_endings(counts: &[u64]) {
     let mut number = 0;
     while number < counts.len() && number < NUMBER {
         let times = counts[number];
@@ -76,7 +76,7 @@ fn write_part(name: &[u8], counts: &[u64], part: usize) {
     });
 }
 
-pub fn write_parts(counts: &[u64]) {
+pub(crate) fn write_parts(counts: &[u64]) {
     write_part(b"numbers of the endings: ", counts, NUMBER);
     write_part(b"figures: ", counts, FIGURES);
     write_part(b"variances: ", counts, VARIANCES);

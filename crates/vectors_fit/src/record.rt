@@ -32,7 +32,7 @@ pub struct Head {
     pub more: bool,
 }
 
-pub fn next_size() -> usize {
+pub(crate) fn next_size() -> usize {
     vectors::next_word().value as usize
 }
 
@@ -82,7 +82,7 @@ fn next_options() -> UniversalKrigingOptions {
     }
 }
 
-pub fn next_areas() -> Areas {
+pub(crate) fn next_areas() -> Areas {
     let work = next_size();
     let predicted = next_size();
     let variance = next_size();
@@ -98,7 +98,7 @@ pub fn next_areas() -> Areas {
     }
 }
 
-pub fn next_head() -> Head {
+pub(crate) fn next_head() -> Head {
     let first = vectors::next_word();
     let lists = next_lists(first.value as usize);
     let options = next_options();
@@ -113,7 +113,7 @@ pub fn next_head() -> Head {
 }
 
 // The next n numbers that come in, at the start of the list.
-pub fn load(list: &mut [f64], n: usize) {
+pub(crate) fn load(list: &mut [f64], n: usize) {
     let mut at = 0;
     while at < list.len() && at < n {
         list[at] = next_float();
@@ -126,7 +126,7 @@ fn byte_of(word: u64) -> u8 {
 }
 
 // The next n codes that come in, a word each.
-pub fn load_codes(codes: &mut [u8], n: usize) {
+pub(crate) fn load_codes(codes: &mut [u8], n: usize) {
     let mut at = 0;
     while at < codes.len() && at < n {
         codes[at] = byte_of(vectors::next_word().value);

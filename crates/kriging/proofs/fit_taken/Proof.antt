@@ -29,8 +29,14 @@ use Rattle.kriging.proofs.fit_taken.Statement.{statement}
 use Rattle.kriging.proofs.fit_taken.Tie as tie
 
 -- The states that the needs look back to, in the order of the code: a name takes a later state back to its own.
+abbrev at-areas : tie.After-drift-columns → tie.After-slice-known
+at-areas c = c .before .before .before .before .before .before
+
+abbrev at-lists : tie.After-slice-known → tie.After-shared-slice-known
+at-lists c = c .before .before .before .before .before .before
+
 abbrev at-entry : tie.After-drift-columns → tie.Start
-at-entry c = c .before .before .before .before .before .before .before .before .before .before .before .before .before
+at-entry c = at-lists (at-areas c) .before
 
 abbrev at-columns : tie.After-fill-drift → tie.After-drift-columns
 at-columns c = c .before .before
@@ -154,8 +160,11 @@ enum-told c = search needs
 slice-aggregate-krige-nodes : tie.Need-slice-aggregate-krige-nodes
 slice-aggregate-krige-nodes c = search needs
 
+abbrev at-half-lent : tie.After-krige-nodes-arg6 → tie.After-krige-nodes-arg2
+at-half-lent c = c .before .before .before .before
+
 abbrev at-done : tie.After-krige-nodes-arg6 → tie.After-enum-told
-at-done c = c .before .before .before .before .before .before .before
+at-done c = at-half-lent c .before .before .before
 
 abbrev at-solved : tie.After-krige-nodes-arg6 → tie.After-gauss-jordan-invert-uked
 at-solved c = at-done c .before .before .before .before
@@ -191,8 +200,11 @@ enum-told-2 c = search needs
 enum-told-3 : tie.Need-enum-told-3
 enum-told-3 c = search needs
 
+abbrev at-half-back : tie.After-slice-known13 → tie.After-verdicts
+at-half-back c = c .before .before .before .before .before
+
 abbrev at-nodes : tie.After-slice-known13 → tie.After-krige-nodes
-at-nodes c = c .before .before .before .before .before .before .before .before .before .before
+at-nodes c = at-half-back c .before .before .before .before .before
 
 -- fn fit_taken(
 same-length : tie.Need-same-length

@@ -14,11 +14,23 @@ use Rattle.kriging.proofs.universal_kriging_fit.Statement.{statement}
 use Rattle.kriging.proofs.universal_kriging_fit.Tie as tie
 
 -- The states that the needs look back to, in the order of the code: a name takes a later state back to its own.
+abbrev at-half-lent : tie.After-fit-refusal → tie.After-fit-refusal-arg3
+at-half-lent c = c .before .before .before .before
+
 abbrev at-limits : tie.After-fit-refusal → tie.After-base
-at-limits c = c .before .before .before .before .before .before .before
+at-limits c = at-half-lent c .before .before .before
+
+abbrev at-areas : tie.After-base → tie.After-slice-known
+at-areas c = c .before .before .before .before .before .before
+
+abbrev at-lists : tie.After-slice-known → tie.After-shared-slice-known
+at-lists c = c .before .before .before .before .before .before
 
 abbrev at-entry : tie.After-fit-refusal → tie.Start
-at-entry c = at-limits c .before .before .before .before .before .before .before .before .before .before .before .before .before
+at-entry c = at-lists (at-areas (at-limits c)) .before
+
+abbrev at-half-back : tie.After-slice-known12 → tie.After-slice-known9
+at-half-back c = c .before .before .before .before .before .before
 
 abbrev at-taken : tie.After-fit-taken-arg6 → tie.After-enum-told
 at-taken c = c .before .before .before .before .before .before
@@ -107,7 +119,7 @@ same-length-12 c = search needs
 
 returns-2 : tie.Need-returns-2
 returns-2 c =
-    let t = c .before .before .before .before .before .before .before .before .before .before .before .before in
+    let t = at-half-back c .before .before .before .before .before .before in
     let f = at-taken (t .before) .before .before in
     promised (survey-of f) (areas-of f) (t .fit-taken .ensures)
 

@@ -73,7 +73,7 @@ loop-again c =
       next-row (2 * s) (l .i) e (a .work .now) (l .work) _ (l .inv .2) (f .fill-matrix-row .ensures),
     )
 
--- pub fn build_covariance_matrix(..)
+-- pub(crate) fn build_covariance_matrix(..)
 same-length : tie.Need-same-length Inv-loop μ-loop
 same-length c = search needs
 

@@ -100,7 +100,7 @@ loop-again c =
       next-start (l .t) _ _ (l .variances) _ (e .1) (l .inv .5),
     )
 
--- pub fn interpolate_points(..)
+-- pub(crate) fn interpolate_points(..)
 same-length : tie.Need-same-length Inv-loop μ-loop
 same-length c = search needs
 

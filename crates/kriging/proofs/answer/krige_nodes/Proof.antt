@@ -2,12 +2,10 @@
 use Prim.Native.Nat.{ℕ, _≤_, _<_, _*_, _/_, _+_, _-_}
 use mathlib.Core.Path.{_≡_, refl, ap, sym, _∙_, subst}
 use mathlib.Core.List.{List}
-use native.Mathlib.Nat.{mul-comm}
 use native.Mathlib.Omega.{arith}
 use borrow.Author.Needs.{needs}
 use lib.ListN.{length, length-set, getD, take, drop, length-drop}
 use lib.Seq.{length-take-le}
-use Rattle.area.proofs.Rows.{row-end}
 use lib.Ieee.{Float, nan}
 use Rattle.audit.specs.Audit.{driftFinite}
 use Rattle.audit.specs.Lists.{entryIn}
@@ -15,7 +13,7 @@ use Rattle.survey.specs.Survey.{Survey, surveyOf, columnSum, externalCount}
 use Rattle.fit.specs.Areas.{areasOf}
 use Rattle.fit.specs.Drift.{DriftIn}
 use Rattle.fit.specs.Node.{nodeOf}
-use Rattle.kriging.proofs.Progress.{Progress, none-yet, one-more, all-nodes}
+use Rattle.kriging.proofs.Progress.{row-inside, Progress, none-yet, one-more, all-nodes}
 use Rattle.kriging.proofs.answer.krige_nodes.Statement.{statement}
 use Rattle.kriging.proofs.answer.krige_nodes.Tie as tie
 
@@ -37,8 +35,14 @@ abbrev State : (tie.InvT-loop → tie.MeasureT-loop → Type 0) → Type 0
 State S = S Inv-loop μ-loop
 
 -- The states that the needs look back to, in the order of the code: a name takes a later state back to its own.
+abbrev at-areas : State tie.After-external-columns → State tie.After-shared-slice-known7
+at-areas c = c .before .before .before .before .before .before
+
+abbrev at-lists : State tie.After-shared-slice-known7 → State tie.After-shared-slice-known
+at-lists c = c .before .before .before .before .before .before
+
 abbrev at-columns : State tie.After-external-columns → State tie.Start
-at-columns c = c .before .before .before .before .before .before .before .before .before .before .before .before .before
+at-columns c = at-lists (at-areas c) .before
 
 abbrev at-zeros : State tie.At-loop → State tie.After-store-zeros
 at-zeros c = c .before .before .before
@@ -60,10 +64,6 @@ abbrev survey-of : State tie.At-loop → List Float → Survey
 survey-of l external =
     let a = at-entry l .args in
     surveyOf (a .values .now) (a .coords .now) (a .bases .now) external (a .nodes .now) (a .node-external .now) (a .options) (a .tolerance)
-
--- a row of so many of a list's numbers lies inside
-row-inside : (w q m len : ℕ) → q < m → w * m ≤ len → q * w + w ≤ len
-row-inside w q m len h k = omega (arith, row-end w q m h, mul-comm w m)
 
 -- a node's number is below the nodes'
 below : (c : State tie.In-loop) → c .before .loop .q < length (at-entry (c .before) .args .nodes .now) / 2
@@ -133,9 +133,7 @@ slice-write-predicted c = let l = c .before .before in omega (arith, below (c .b
 
 -- variance[q] = node.variance;
 mul-variance : tie.Need-mul-variance Inv-loop μ-loop
-mul-variance c =
-    let l = c .before .before in
-    omega (arith, below (c .before), at-entry l .pre .5, l .loop .inv .6, at-entry l .good .1 .1 .1 .1 .1 .1 .1 .1 .1 .1 .0 .1)
+mul-variance c = mul-predicted c
 
 slice-write-variance : tie.Need-slice-write-variance Inv-loop μ-loop
 slice-write-variance c = let l = c .before .before in omega (arith, below (c .before), at-entry l .pre .6, l .loop .inv .7)
@@ -240,7 +238,7 @@ loop-again c =
           (first .store .ensures) (last .store2 .ensures) (i .11 external hF),
     )
 
--- pub fn krige_nodes(
+-- pub(crate) fn krige_nodes(
 same-length : tie.Need-same-length Inv-loop μ-loop
 same-length c = search needs
 

@@ -75,7 +75,7 @@ loop-again c =
       next-row (2 * s) (l .i) e (a .work .now) (l .work) _ (l .inv .3) (f .fill-matrix-row .ensures),
     )
 
--- pub fn assemble(coords: &[f64], options: UniversalKrigingOptions, drift: &[f64], n: usize, p: usize, work: &mut [f64])
+-- pub(crate) fn assemble(coords: &[f64], options: UniversalKrigingOptions, drift: &[f64], n: usize, p: usize, work: &mut [f64])
 same-length : tie.Need-same-length Inv-loop μ-loop
 same-length c = search needs
 

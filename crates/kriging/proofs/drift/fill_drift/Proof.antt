@@ -100,7 +100,7 @@ loop-again c =
       next-row (a .p) (l .i) e (a .drift .now) (l .drift) _ (l .inv .2) (rw (s .pre .0) at (f .fill-drift-row .ensures)),
     )
 
--- pub fn fill_drift(bases: &[u8], external: &[f64], coords: &[f64], n: usize, p: usize, drift: &mut [f64])
+-- pub(crate) fn fill_drift(bases: &[u8], external: &[f64], coords: &[f64], n: usize, p: usize, drift: &mut [f64])
 same-length : tie.Need-same-length Inv-loop μ-loop
 same-length c = search needs
 

@@ -23,7 +23,7 @@ mul-fill-row c = search needs
 fill-row-requires : tie.Need-fill-row-requires
 fill-row-requires c κs = search needs
 
--- pub fn fill_query_drift_row(bases: &[u8], external: &[f64], k: usize, q: usize, x: f64, y: f64, row: &mut [f64], start: usize)
+-- pub(crate) fn fill_query_drift_row(bases: &[u8], external: &[f64], k: usize, q: usize, x: f64, y: f64, row: &mut [f64], start: usize)
 same-length : tie.Need-same-length
 same-length c = search needs
 

@@ -69,8 +69,9 @@ loop-less c = omega arith
 loop-again : tie.Need-loop-again Inv-loop μ-loop
 unfolding gammaTo
 loop-again c =
-    let l = c .before .before .before .before .before .loop in
-    let v = c .before .before .before .before .before .before .before .before .args .variogram in
+    let at-loop = c .before .before .before .before .before in
+    let l = at-loop .loop in
+    let v = at-loop .before .before .before .args .variogram in
     let e = c .evaluate .ensures ∙ ap (semivariance v) (c .before .distance-2d .ensures) in
     (omega arith, simp length-set (l .inv .1), next-start (l .i) _ _ (l .b) _ e (l .inv .2))
 

@@ -10,8 +10,11 @@ use Rattle.kriging.proofs.node.fill_right_hand.Statement.{statement}
 use Rattle.kriging.proofs.node.fill_right_hand.Tie as tie
 
 -- The states that the needs look back to, in the order of the code: a name takes a later state back to its own.
+abbrev at-lists : tie.After-fill-gamma → tie.After-shared-slice-known4
+at-lists c = c .before .before .before .before .before
+
 abbrev at-entry : tie.After-fill-gamma → tie.Start
-at-entry c = c .before .before .before .before .before .before .before .before .before
+at-entry c = at-lists c .before .before .before .before
 
 abbrev at-gamma : tie.After-fill-query-drift-row-arg → tie.After-fill-gamma
 at-gamma c = c .before .before .before

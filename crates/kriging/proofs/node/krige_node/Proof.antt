@@ -25,8 +25,11 @@ part-is n p xs h =
     ∙ sym (ap (λ (l : List Float). drop n l) (take-add n p xs) ∙ drop-at (take n xs) (take p (drop n xs)) n (length-take-le n xs h))
 
 -- The states that the needs look back to, in the order of the code: a name takes a later state back to its own.
+abbrev at-lists : tie.After-fill-right-hand → tie.After-shared-slice-known4
+at-lists c = c .before .before .before .before .before
+
 abbrev at-entry : tie.After-fill-right-hand → tie.Start
-at-entry c = c .before .before .before .before .before .before .before .before .before
+at-entry c = at-lists c .before .before .before .before
 
 abbrev at-right : tie.After-b3 → tie.After-fill-right-hand
 at-right c = c .before .before
@@ -152,7 +155,7 @@ byte c =
     subst (λ (k : ℕ). k ≤ 255) (sym (audited c)) (verdict-bound _ _ columns (omega (arith, few)))
 
 -- Node { .. }
--- pub fn krige_node(
+-- pub(crate) fn krige_node(
 returns : tie.Need-returns
 unfolding rightHand
 returns c =
