@@ -49,7 +49,7 @@ fn after(p: Place, size: usize) -> Place {
 // What stands there before the call: the matrix, whose next number comes in, beside the identity.
 fn entry(p: Place, size: usize) -> f64 {
     if p.column < size {
-        return vectors::float(vectors::next_word().value);
+        return patterns::float(vectors::next_word().value);
     }
     if p.column - size == p.row { 1.0 } else { 0.0 }
 }
@@ -66,7 +66,7 @@ fn load(work: &mut [f64], size: usize) {
 
 // 1 where x, which stands there after the call, is another number than the inverse's, whose next number comes in. What the left half holds is not asked.
 fn difference(x: f64, p: Place, size: usize) -> u64 {
-    if p.column < size || vectors::pattern(x) == vectors::next_word().value {
+    if p.column < size || patterns::pattern(x) == vectors::next_word().value {
         return 0;
     }
     1
@@ -134,7 +134,7 @@ fn agrees(head: Head, work: &mut [f64]) -> bool {
 fn load_all(work: &mut [f64], n: usize) {
     let mut at = 0;
     while at < work.len() && at < n {
-        work[at] = vectors::float(vectors::next_word().value);
+        work[at] = patterns::float(vectors::next_word().value);
         at += 1;
     }
 }
@@ -144,7 +144,7 @@ fn all_differences(work: &[f64], n: usize) -> u64 {
     let mut differ = 0;
     let mut at = 0;
     while at < work.len() && at < n {
-        if vectors::pattern(work[at]) != vectors::next_word().value {
+        if patterns::pattern(work[at]) != vectors::next_word().value {
             differ = std::num::wrapping_add_u64(differ, 1);
         }
         at += 1;

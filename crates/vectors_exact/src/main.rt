@@ -68,7 +68,7 @@ fn numbers(s: &[u8], from: usize, count: usize) -> [f64; 64] {
         if s.len() <= at {
             return list;
         }
-        list[i] = vectors::float(vectors::word(s, at));
+        list[i] = patterns::float(patterns::word(s, at));
         at += 17;
         i += 1;
     }
@@ -98,10 +98,10 @@ fn replay(s: &[u8]) {
     let mut at = 0;
     while 17 <= s.len() - at {
         let kind = s[at];
-        let a = vectors::word(s, at + 1);
-        let b = vectors::word(s, at + 9);
+        let a = patterns::word(s, at + 1);
+        let b = patterns::word(s, at + 9);
         if kind < 2 {
-            let next = step(sum, kind, vectors::float(a), vectors::float(b));
+            let next = step(sum, kind, patterns::float(a), patterns::float(b));
             sum = next;
         } else if kind == 2 {
             show(before, sum);

@@ -26,7 +26,7 @@ fn mark_at(at: usize) -> u64 {
 fn mark(area: &mut [f64], lent: usize) {
     let mut at = 0;
     while at < area.len() && at < lent {
-        area[at] = vectors::float(mark_at(at));
+        area[at] = patterns::float(mark_at(at));
         at += 1;
     }
 }
@@ -76,7 +76,7 @@ fn compare(
 ) {
     let mut at = 0;
     while at < area.len() && at < lent {
-        compare_at(vectors::pattern(area[at]), at, told, written, part, counts);
+        compare_at(patterns::pattern(area[at]), at, told, written, part, counts);
         at += 1;
     }
 }

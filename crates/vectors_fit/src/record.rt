@@ -37,7 +37,7 @@ pub(crate) fn next_size() -> usize {
 }
 
 fn next_float() -> f64 {
-    vectors::float(vectors::next_word().value)
+    patterns::float(vectors::next_word().value)
 }
 
 // Where a list ends that begins at a place.

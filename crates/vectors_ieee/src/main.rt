@@ -12,11 +12,11 @@ fn digit(holds: bool) -> u64 {
 // The pattern of the answer to a call. No call has another number, and no answer the pattern of the last line.
 fn answer(call: u64, x: f64, y: f64) -> u64 {
     match call {
-        1 => vectors::pattern(ieee::sqrt(x)),
-        2 => vectors::pattern(ieee::floor(x)),
-        3 => vectors::pattern(ieee::abs(x)),
-        4 => vectors::pattern(ieee::max(x, y)),
-        5 => vectors::pattern(ieee::min(x, y)),
+        1 => patterns::pattern(ieee::sqrt(x)),
+        2 => patterns::pattern(ieee::floor(x)),
+        3 => patterns::pattern(ieee::abs(x)),
+        4 => patterns::pattern(ieee::max(x, y)),
+        5 => patterns::pattern(ieee::min(x, y)),
         6 => digit(ieee::is_finite(x)),
         _ => 0xffff_ffff_ffff_ffff,
     }
@@ -43,11 +43,11 @@ fn replayed(t: Tally) -> Tally {
     if io::read_full(STDIN_FILENO, &mut bytes) < 64 {
         return vectors::ended(t);
     }
-    let call = vectors::word(&bytes, 0);
-    let x = vectors::word(&bytes, 8);
-    let y = vectors::word(&bytes, 16);
-    let want = vectors::word(&bytes, 56);
-    let got = answer(call, vectors::float(x), vectors::float(y));
+    let call = patterns::word(&bytes, 0);
+    let x = patterns::word(&bytes, 8);
+    let y = patterns::word(&bytes, 16);
+    let want = patterns::word(&bytes, 56);
+    let got = answer(call, patterns::float(x), patterns::float(y));
     if got != want {
         report(call, x, y, got, want);
     }

@@ -7,12 +7,12 @@ use vectors::Tally;
 
 // The six numbers of a record, its words 1 to 6.
 fn numbers(bytes: &[u8]) -> [f64; 6] {
-    let a = vectors::float(vectors::word(bytes, 8));
-    let b = vectors::float(vectors::word(bytes, 16));
-    let c = vectors::float(vectors::word(bytes, 24));
-    let d = vectors::float(vectors::word(bytes, 32));
-    let e = vectors::float(vectors::word(bytes, 40));
-    let f = vectors::float(vectors::word(bytes, 48));
+    let a = patterns::float(patterns::word(bytes, 8));
+    let b = patterns::float(patterns::word(bytes, 16));
+    let c = patterns::float(patterns::word(bytes, 24));
+    let d = patterns::float(patterns::word(bytes, 32));
+    let e = patterns::float(patterns::word(bytes, 40));
+    let f = patterns::float(patterns::word(bytes, 48));
     [a, b, c, d, e, f]
 }
 
@@ -32,13 +32,13 @@ fn along(x: [f64; 6], d: usize) -> f64 {
 // The pattern of the port's answer to a call. No call has another number, and no answer the pattern of the last line.
 fn answer(call: u64, x: [f64; 6]) -> u64 {
     match call {
-        1 => vectors::pattern(evaluated(VariogramModel::Spherical, x)),
-        4 => vectors::pattern(evaluated(VariogramModel::Linear, x)),
-        11 => vectors::pattern(along(x, 1)),
-        12 => vectors::pattern(along(x, 2)),
-        13 => vectors::pattern(along(x, 3)),
-        20 => vectors::pattern(variogram::squared_distance_2d(x[0], x[1], x[2], x[3])),
-        21 => vectors::pattern(variogram::distance_2d(x[0], x[1], x[2], x[3])),
+        1 => patterns::pattern(evaluated(VariogramModel::Spherical, x)),
+        4 => patterns::pattern(evaluated(VariogramModel::Linear, x)),
+        11 => patterns::pattern(along(x, 1)),
+        12 => patterns::pattern(along(x, 2)),
+        13 => patterns::pattern(along(x, 3)),
+        20 => patterns::pattern(variogram::squared_distance_2d(x[0], x[1], x[2], x[3])),
+        21 => patterns::pattern(variogram::distance_2d(x[0], x[1], x[2], x[3])),
         _ => 0xffff_ffff_ffff_ffff,
     }
 }
@@ -49,8 +49,8 @@ fn replayed(t: Tally) -> Tally {
     if io::read_full(STDIN_FILENO, &mut bytes) < 64 {
         return vectors::ended(t);
     }
-    let got = answer(vectors::word(&bytes, 0), numbers(&bytes));
-    vectors::counted(t, got == vectors::word(&bytes, 56))
+    let got = answer(patterns::word(&bytes, 0), numbers(&bytes));
+    vectors::counted(t, got == patterns::word(&bytes, 56))
 }
 
 // A proved loop has to end, and nothing says that the input does: the loop counts its turns down.

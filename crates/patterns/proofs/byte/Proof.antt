@@ -1,10 +1,10 @@
--- `vectors::byte` meets its contract: past the end the list's own default is 0. Assumes nothing.
+-- `patterns::byte` meets its contract: past the end the list's own default is 0. Assumes nothing.
 use Prim.Native.Nat.{_+_}
 use native.Mathlib.Omega.{arith}
 use borrow.Author.Needs.{needs}
-use Rattle.vectors.proofs.Words.{past}
-use Rattle.vectors.proofs.byte.Statement.{statement}
-use Rattle.vectors.proofs.byte.Tie as tie
+use Rattle.patterns.proofs.Words.{past}
+use Rattle.patterns.proofs.byte.Statement.{statement}
+use Rattle.patterns.proofs.byte.Tie as tie
 
 returns : tie.Need-returns
 returns c = let called = c .before .before .args in (past (called .bytes .now) (called .at + called .k) (omega arith), omega arith)

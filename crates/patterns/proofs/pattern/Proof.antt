@@ -1,9 +1,9 @@
--- `vectors::pattern` meets its contract: only the NaN differs from itself. Assumes nothing.
+-- `patterns::pattern` meets its contract: only the NaN differs from itself. Assumes nothing.
 use mathlib.Core.Path.{refl}
 use lib.Ieee.{toBits}
-use Rattle.vectors.proofs.Words.{differs, same}
-use Rattle.vectors.proofs.pattern.Statement.{statement}
-use Rattle.vectors.proofs.pattern.Tie as tie
+use Rattle.patterns.proofs.Words.{differs, same}
+use Rattle.patterns.proofs.pattern.Statement.{statement}
+use Rattle.patterns.proofs.pattern.Tie as tie
 
 returns : tie.Need-returns
 unfolding toBits

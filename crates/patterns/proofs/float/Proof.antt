@@ -1,10 +1,10 @@
--- `vectors::float` meets its contract: past the test no pattern is a NaN's, and what the test takes is. Assumes nothing.
+-- `patterns::float` meets its contract: past the test no pattern is a NaN's, and what the test takes is. Assumes nothing.
 use mathlib.Core.Path.{sym}
 use borrow.Author.Needs.{needs}
 use lib.Ieee.{ofBits, div}
-use Rattle.vectors.proofs.Words.{nan-pattern, no-nan-pattern}
-use Rattle.vectors.proofs.float.Statement.{statement}
-use Rattle.vectors.proofs.float.Tie as tie
+use Rattle.patterns.proofs.Words.{nan-pattern, no-nan-pattern}
+use Rattle.patterns.proofs.float.Statement.{statement}
+use Rattle.patterns.proofs.float.Tie as tie
 
 returns : tie.Need-returns
 unfolding ofBits div

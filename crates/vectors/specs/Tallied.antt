@@ -1,14 +1,7 @@
--- Words of 64 bits, as a record has them, and the tally of what was replayed. Assumes nothing.
+-- The tally of what was replayed. Assumes nothing.
 use Prim.Native.Nat.{ℕ, _+_, _%_, _^_}
 use mathlib.Core.Bool.{Bool, true, cond}
-use mathlib.Core.List.{List}
-use lib.ListN.{take, drop}
-use Rattle.ieee.specs.Bytes.{numberIn}
 use Rattle.vectors.specs.declared.Tally.{Tally}
-
--- the word of 64 bits in the 8 bytes from a place on: the lowest comes first, and a byte past the end counts as 0
-abbrev pub wordAt : List ℕ → ℕ → ℕ
-wordAt xs at = numberIn (take 8 (drop at xs))
 
 -- how many records were compared, how many of them differ, and whether there are more
 abbrev pub tallyOf : ℕ → ℕ → Bool → Tally

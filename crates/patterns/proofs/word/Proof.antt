@@ -1,13 +1,13 @@
--- `vectors::word` meets its contract. The loop's invariant: the word has the last k of the eight bytes, and is below 2^8k. Assumes nothing.
+-- `patterns::word` meets its contract. The loop's invariant: the word has the last k of the eight bytes, and is below 2^8k. Assumes nothing.
 use Prim.Native.Nat.{ℕ, suc, _+_, _-_, _*_, _^_, _≤_, _<_}
 use mathlib.Core.Path.{_≡_, refl, ap, sym, _∙_}
 use native.Mathlib.Omega.{arith}
 use native.Mathlib.Nat.{lt-of-lt-of-le}
 use lib.Pow.{pow-mono}
 use Rattle.ieee.specs.Bytes.{numberIn}
-use Rattle.vectors.proofs.Words.{bytesAt, byte-more, room-more}
-use Rattle.vectors.proofs.word.Statement.{statement}
-use Rattle.vectors.proofs.word.Tie as tie
+use Rattle.patterns.proofs.Words.{bytesAt, byte-more, room-more}
+use Rattle.patterns.proofs.word.Statement.{statement}
+use Rattle.patterns.proofs.word.Tie as tie
 
 abbrev Inv-loop : tie.InvT-loop
 Inv-loop bytes at w₀ k₀ w k = (k ≤ 8) × (w ≡ bytesAt bytes (at + (8 - k)) k) × (w < 2 ^ (8 * k))
