@@ -1,7 +1,7 @@
 -- The cases of interpolations, each computed by the definitions. Assumes nothing.
 use mathlib.Core.Path.{refl}
 use lib.Ieee.{ofBits, toBits, add, sub, mul, div, lt, le, eq, ofInt, toUnsigned, round}
-use Rattle.interpolator.specs.Interpolation.{interpolated}
+use Rattle.interpolation.specs.Interpolation.{interpolated}
 use Rattle.cases.specs.InterpolationCases.{InterpolationCases, OnALine, InThePlane, InSpace}
 
 on-a-line : OnALine

@@ -9,10 +9,10 @@ use Rattle.variogram.specs.Model.{variogram}
 use Rattle.variogram.specs.declared.VariogramModel.the-variants.{Spherical}
 use Rattle.error.specs.Outcome.{Outcome, outcome}
 use Rattle.survey.specs.Limits.{base}
-use Rattle.interpolator.specs.declared.KrigingType.{KrigingType}
-use Rattle.interpolator.specs.declared.KrigingType.the-variants.{Ordinary, Universal}
-use Rattle.interpolator.specs.Call.{Query, Areas, nodeCount, size}
-use Rattle.interpolator.specs.Interpolation.{interpolated}
+use Rattle.interpolation.specs.declared.KrigingType.{KrigingType}
+use Rattle.interpolation.specs.declared.KrigingType.the-variants.{Ordinary, Universal}
+use Rattle.interpolation.specs.Call.{Query, Areas, nodeCount, size}
+use Rattle.interpolation.specs.Interpolation.{interpolated}
 use Rattle.cases.specs.FitCases.{f, fs}
 
 -- Spherical 0.25, 1.25, 8

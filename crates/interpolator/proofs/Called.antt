@@ -22,13 +22,13 @@ use Rattle.elimination.specs.Call.{Call, afterElimination, callWhere, called}
 use Rattle.elimination.proofs.Laid.{kept-laid}
 use Rattle.elimination.proofs.Stops.{refused-exactly}
 use Rattle.survey.specs.declared.Limits.{Limits}
-use Rattle.interpolator.specs.Call.{Query, Areas, withWork, areasOf, size}
-use Rattle.interpolator.specs.Rules.{rules}
-use Rattle.interpolator.specs.Refusals.{refusal}
-use Rattle.interpolator.specs.Assembly.{entry}
-use Rattle.interpolator.specs.Interpolation.{answered, interpolationCall, interpolated}
-use Rattle.interpolator.proofs.Told.{all-told}
-use Rattle.interpolator.proofs.Accepted.{accepted}
+use Rattle.interpolation.specs.Call.{Query, Areas, withWork, areasOf, size}
+use Rattle.interpolation.specs.Rules.{rules}
+use Rattle.interpolation.specs.Refusals.{refusal}
+use Rattle.interpolation.specs.Assembly.{entry}
+use Rattle.interpolation.specs.Interpolation.{answered, interpolationCall, interpolated}
+use Rattle.interpolation.proofs.Told.{all-told}
+use Rattle.interpolation.proofs.Accepted.{accepted}
 
 -- 0 is no refusal's number: a test past it would count
 some-number : (r : Refusal) → numberOf r ≢ 0

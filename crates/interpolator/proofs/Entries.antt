@@ -11,11 +11,12 @@ use Rattle.ieee.specs.Floats.{zeroFloat, oneFloat}
 use Rattle.variogram.specs.Model.{semivariance}
 use Rattle.variogram.specs.Distance.{axisFrom, distance}
 use Rattle.elimination.specs.Inverse.{besideIdentity}
-use Rattle.interpolator.specs.declared.KrigingType.{KrigingType}
-use Rattle.interpolator.specs.declared.KrigingType.the-variants.{Ordinary, Universal}
+use Rattle.interpolation.specs.declared.KrigingType.{KrigingType}
+use Rattle.interpolation.specs.declared.KrigingType.the-variants.{Ordinary, Universal}
 use Rattle.interpolator.specs.declared.KrigingInterpolator.{KrigingInterpolator}
-use Rattle.interpolator.specs.Call.{Query, queryOf, known, wells, added}
-use Rattle.interpolator.specs.Assembly.{covariance, trend, trendAt, column, entry}
+use Rattle.interpolation.specs.Call.{Query, wells, added}
+use Rattle.interpolator.specs.Outcome.{queryOf, known}
+use Rattle.interpolation.specs.Assembly.{covariance, trend, trendAt, column, entry}
 
 -- ---- a term of the trend
 module _ (t : KrigingType) (axis : ℕ → Float) (c : ℕ) where

@@ -1,12 +1,4 @@
-pub mod Told
-pub mod Accepted
-pub mod Matrix
 pub mod Sizes
 pub mod Entries
 pub mod Estimates
-pub mod Endings
 pub mod Called
-pub mod System
-pub mod SystemDiagonal
-pub mod SystemKriged
-pub mod Promise

@@ -6,9 +6,9 @@ use mathlib.Core.Path.{_≡_, ap, sym, _∙_}
 use mathlib.Core.Bool.{Bool, false, not, _||_, false≢true}
 use Rattle.variogram.specs.Distance.{offered}
 use Rattle.variogram.proofs.Distance.{none-offered}
-use Rattle.interpolator.specs.declared.KrigingType.{KrigingType}
-use Rattle.interpolator.specs.declared.KrigingType.the-variants.{Ordinary, Universal}
-use Rattle.interpolator.specs.Call.{added}
+use Rattle.interpolation.specs.declared.KrigingType.{KrigingType}
+use Rattle.interpolation.specs.declared.KrigingType.the-variants.{Ordinary, Universal}
+use Rattle.interpolation.specs.Call.{added}
 
 -- where 13 does not apply a point has an axis
 pub some-axis : (d : ℕ) (b : Bool) → (not (offered d) || b) ≡ false → 1 ≤ d

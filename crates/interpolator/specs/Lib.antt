@@ -1,7 +1,1 @@
-pub mod Call
-pub mod Rules
-pub mod Refusals
-pub mod Assembly
-pub mod Interpolation
-pub mod System
-pub mod Exit
+pub mod Outcome

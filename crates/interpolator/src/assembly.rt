@@ -13,9 +13,10 @@ ghost use Rattle.variogram.specs.Model.{semivariance};
 ghost use Rattle.variogram.specs.Distance.{distance};
 ghost use Rattle.elimination.specs.Elimination.{outcomeOf, eliminated};
 ghost use Rattle.elimination.specs.Inverse.{besideIdentity, laid};
-ghost use Rattle.interpolator.specs.declared.KrigingType.the-variants.{Universal};
-ghost use Rattle.interpolator.specs.Call.{known, added};
-ghost use Rattle.interpolator.specs.Assembly.{column, entry};
+ghost use Rattle.interpolation.specs.declared.KrigingType.the-variants.{Universal};
+ghost use Rattle.interpolation.specs.Call.{added};
+ghost use Rattle.interpolator.specs.Outcome.{known};
+ghost use Rattle.interpolation.specs.Assembly.{column, entry};
 
 // Sill less the variogram, between the known point i and the point j of a list. On the diagonal too: the variogram is 0 there.
 fn covariance(variogram: Variogram, points: &[f64], i: usize, ys: &[f64], j: usize, d: usize) -> f64

@@ -8,10 +8,11 @@ ghost use lib.Ieee.{nan, binary64, mul};
 ghost use Rattle.area.specs.Area.{written};
 ghost use Rattle.ieee.specs.Sums.{runningSum, lessEach};
 ghost use Rattle.elimination.specs.Inverse.{timesInverse};
-ghost use Rattle.interpolator.specs.declared.KrigingType.the-variants.{Universal};
-ghost use Rattle.interpolator.specs.Call.{queryOf, known, areasOf, added};
-ghost use Rattle.interpolator.specs.Assembly.{column};
-ghost use Rattle.interpolator.specs.Interpolation.{figure, variance, answered};
+ghost use Rattle.interpolation.specs.declared.KrigingType.the-variants.{Universal};
+ghost use Rattle.interpolation.specs.Call.{areasOf, added};
+ghost use Rattle.interpolator.specs.Outcome.{queryOf, known};
+ghost use Rattle.interpolation.specs.Assembly.{column};
+ghost use Rattle.interpolation.specs.Interpolation.{figure, variance, answered};
 
 // b of the target t.
 fn fill_right_side(

@@ -1,6 +1,6 @@
 // What turns a call of the interpolator away before it eliminates: 13, 1, 2, 9, 11, 12, 17, 18, in this order.
 use crate::KrigingInterpolator;
-use crate::KrigingType;
+use interpolation::KrigingType;
 use crate::trend::trend_terms;
 use error::Judgement;
 use error::Refusal;
@@ -13,8 +13,9 @@ ghost use Rattle.error.specs.Numbers.{judged};
 ghost use Rattle.ieee.specs.Finite.{allFinite};
 ghost use Rattle.variogram.specs.Distance.{offered};
 ghost use Rattle.survey.specs.Refusals.{variogramNotFinite};
-ghost use Rattle.interpolator.specs.Call.{queryOf, areasOf};
-ghost use Rattle.interpolator.specs.Refusals.{isUniversal, refusal};
+ghost use Rattle.interpolation.specs.Call.{areasOf};
+ghost use Rattle.interpolator.specs.Outcome.{queryOf};
+ghost use Rattle.interpolation.specs.Refusals.{isUniversal, refusal};
 
 // 13: whether d is not 1, 2 or 3, or is 1 with Universal, which takes x and y.
 fn wrong_dimension(kriging_type: KrigingType, d: usize) -> bool

@@ -4,7 +4,7 @@ use lib.Ieee.{ofBits, toBits, add, sub, mul, div, lt, le, eq, ofInt, toUnsigned,
 use Rattle.ieee.specs.Root.{sqrtOf}
 use Rattle.variogram.specs.Model.{semivariance}
 use Rattle.fit.specs.Fit.{fitted}
-use Rattle.interpolator.specs.Interpolation.{interpolated}
+use Rattle.interpolation.specs.Interpolation.{interpolated}
 use Rattle.semivariogram.specs.Semivariogram.{calculated}
 use Rattle.soundings.specs.Soundings.{Soundings}
 

@@ -13,9 +13,9 @@ use Rattle.survey.specs.Limits.{base}
 use Rattle.survey.specs.Survey.{Survey}
 use Rattle.fit.specs.Areas.{Areas}
 use Rattle.fit.specs.Fit.{fitted}
-use Rattle.interpolator.specs.declared.KrigingType.the-variants.{Ordinary}
-use Rattle.interpolator.specs.Call as interpolator
-use Rattle.interpolator.specs.Interpolation.{interpolated}
+use Rattle.interpolation.specs.declared.KrigingType.the-variants.{Ordinary}
+use Rattle.interpolation.specs.Call as interpolator
+use Rattle.interpolation.specs.Interpolation.{interpolated}
 use Rattle.semivariogram.specs.Call as semivariogram
 use Rattle.semivariogram.specs.Semivariogram.{calculated}
 

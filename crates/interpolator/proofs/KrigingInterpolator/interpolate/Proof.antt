@@ -15,17 +15,18 @@ use Rattle.elimination.specs.declared.Elimination.the-variants.{Done, TooShort}
 use Rattle.elimination.specs.Elimination.{eliminated, outcomeOf}
 use Rattle.survey.specs.declared.Limits.{Limits}
 use Rattle.survey.specs.Limits.{base}
-use Rattle.interpolator.specs.Call.{Query, Areas, queryOf, known, areasOf, size}
-use Rattle.interpolator.specs.Rules.{rules}
-use Rattle.interpolator.specs.Refusals.{refusal}
-use Rattle.interpolator.specs.Assembly.{entry}
-use Rattle.interpolator.specs.Interpolation.{interpolated}
-use Rattle.interpolator.specs.Exit.{Promise}
-use Rattle.interpolator.proofs.Accepted.{Accepted, accepted, few-wells}
+use Rattle.interpolation.specs.Call.{Query, Areas, areasOf, size}
+use Rattle.interpolator.specs.Outcome.{queryOf, known}
+use Rattle.interpolation.specs.Rules.{rules}
+use Rattle.interpolation.specs.Refusals.{refusal}
+use Rattle.interpolation.specs.Assembly.{entry}
+use Rattle.interpolation.specs.Interpolation.{interpolated}
+use Rattle.interpolation.specs.Exit.{Promise}
+use Rattle.interpolation.proofs.Accepted.{Accepted, accepted, few-wells}
 use Rattle.interpolator.proofs.Sizes.{added-few}
 use Rattle.interpolator.proofs.Entries.{entry-unread}
 use Rattle.interpolator.proofs.Called.{turned-away, not-turned-away, gone-through, stopped-at, never-short}
-use Rattle.interpolator.proofs.Promise.{promise}
+use Rattle.interpolation.proofs.Promise.{promise}
 use Rattle.interpolator.proofs.KrigingInterpolator.interpolate.Statement.{statement}
 use Rattle.interpolator.proofs.KrigingInterpolator.interpolate.Tie as tie
 

@@ -8,8 +8,8 @@ use Rattle.area.specs.Area.{filled}
 use Rattle.area.proofs.Filled.{next-row}
 use Rattle.elimination.specs.Inverse.{besideIdentity, laid}
 use Rattle.elimination.proofs.Rows.{row-inside, width-inside}
-use Rattle.interpolator.specs.Call.{known}
-use Rattle.interpolator.specs.Assembly.{entry}
+use Rattle.interpolator.specs.Outcome.{known}
+use Rattle.interpolation.specs.Assembly.{entry}
 use Rattle.interpolator.proofs.assembly.build_covariance_matrix.Statement.{statement}
 use Rattle.interpolator.proofs.assembly.build_covariance_matrix.Tie as tie
 

@@ -3,7 +3,8 @@ use Prim.Native.Nat.{_-_, _<_}
 use native.Mathlib.Omega.{arith}
 use borrow.Author.Needs.{needs}
 use lib.ListN.{length}
-use Rattle.interpolator.specs.Call.{Query, known, added}
+use Rattle.interpolation.specs.Call.{Query, added}
+use Rattle.interpolator.specs.Outcome.{known}
 use Rattle.interpolator.proofs.Entries.{past-one, of-points, of-trend}
 use Rattle.interpolator.proofs.assembly.column_entry.Statement.{statement}
 use Rattle.interpolator.proofs.assembly.column_entry.Tie as tie

@@ -2,8 +2,8 @@
 use Prim.Native.Nat.{ℕ}
 use native.Mathlib.Omega.{arith}
 use lib.Ieee.{Float}
-use Rattle.interpolator.specs.Call.{known}
-use Rattle.interpolator.specs.Assembly.{entry}
+use Rattle.interpolator.specs.Outcome.{known}
+use Rattle.interpolation.specs.Assembly.{entry}
 use Rattle.interpolator.proofs.Entries.{beside-left, beside-one, beside-zero}
 use Rattle.interpolator.proofs.assembly.entry_beside.Statement.{statement}
 use Rattle.interpolator.proofs.assembly.entry_beside.Tie as tie

@@ -7,8 +7,8 @@ use borrow.Author.Needs.{needs}
 use Rattle.area.specs.Area.{written}
 use Rattle.area.proofs.Places.{next, all-turns}
 use Rattle.elimination.specs.Inverse.{besideIdentity}
-use Rattle.interpolator.specs.Call.{known}
-use Rattle.interpolator.specs.Assembly.{entry}
+use Rattle.interpolator.specs.Outcome.{known}
+use Rattle.interpolation.specs.Assembly.{entry}
 use Rattle.interpolator.proofs.assembly.fill_matrix_row.Statement.{statement}
 use Rattle.interpolator.proofs.assembly.fill_matrix_row.Tie as tie
 

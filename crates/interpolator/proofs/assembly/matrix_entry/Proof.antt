@@ -3,7 +3,8 @@ use Prim.Native.Nat.{_+_, _*_, _-_, _≤_, _<_}
 use native.Mathlib.Omega.{arith}
 use lib.ListN.{length}
 use Rattle.area.proofs.Rows.{row-end}
-use Rattle.interpolator.specs.Call.{Query, known, added}
+use Rattle.interpolation.specs.Call.{Query, added}
+use Rattle.interpolator.specs.Outcome.{known}
 use Rattle.interpolator.proofs.Entries.{past-one, left, upper-right, lower-right}
 use Rattle.interpolator.proofs.assembly.matrix_entry.Statement.{statement}
 use Rattle.interpolator.proofs.assembly.matrix_entry.Tie as tie

@@ -7,8 +7,8 @@ use lib.ListN.{length, length-set}
 use Rattle.area.specs.Area.{written}
 use Rattle.area.proofs.Start.{next-start}
 use Rattle.area.proofs.Places.{all-turns}
-use Rattle.interpolator.specs.Call.{known}
-use Rattle.interpolator.specs.Assembly.{column}
+use Rattle.interpolator.specs.Outcome.{known}
+use Rattle.interpolation.specs.Assembly.{column}
 use Rattle.interpolator.proofs.point.fill_right_side.Statement.{statement}
 use Rattle.interpolator.proofs.point.fill_right_side.Tie as tie
 

@@ -3,7 +3,8 @@ use native.Mathlib.Omega.{arith}
 use mathlib.Core.Path.{ap, _∙_}
 use borrow.Author.Needs.{needs}
 use Rattle.ieee.specs.Floats.{notBelowZero}
-use Rattle.interpolator.specs.Call.{Query, queryOf}
+use Rattle.interpolation.specs.Call.{Query}
+use Rattle.interpolator.specs.Outcome.{queryOf}
 use Rattle.interpolator.proofs.Entries.{column-unread}
 use Rattle.interpolator.proofs.Estimates.{filled-solved, figure-is, variance-is}
 use Rattle.interpolator.proofs.point.interpolate_point.Statement.{statement}

@@ -8,8 +8,9 @@ use lib.ListN.{length, length-set}
 use Rattle.area.specs.Area.{written}
 use Rattle.area.proofs.Rows.{row-end}
 use Rattle.area.proofs.Start.{next-start}
-use Rattle.interpolator.specs.Call.{Query, queryOf, areasOf}
-use Rattle.interpolator.specs.Interpolation.{figure, variance}
+use Rattle.interpolation.specs.Call.{Query, areasOf}
+use Rattle.interpolator.specs.Outcome.{queryOf}
+use Rattle.interpolation.specs.Interpolation.{figure, variance}
 use Rattle.interpolator.proofs.Estimates.{all-answered}
 use Rattle.interpolator.proofs.point.interpolate_points.Statement.{statement}
 use Rattle.interpolator.proofs.point.interpolate_points.Tie as tie

@@ -12,8 +12,9 @@ use Rattle.error.specs.Tests.{Test, test, firstOf}
 use Rattle.error.proofs.First.{here, past, none, refused, accepted}
 use Rattle.elimination.specs.Call.{workTests}
 use Rattle.survey.specs.Refusals.{modelTests}
-use Rattle.interpolator.specs.Call.{Query, Areas, queryOf, areasOf, size}
-use Rattle.interpolator.specs.Refusals.{wrongPoints, wrongTargets, tooMany, numberNotFinite, shortAnswer, wrongDimension, refusal}
+use Rattle.interpolation.specs.Call.{Query, Areas, areasOf, size}
+use Rattle.interpolator.specs.Outcome.{queryOf}
+use Rattle.interpolation.specs.Refusals.{wrongPoints, wrongTargets, tooMany, numberNotFinite, shortAnswer, wrongDimension, refusal}
 use Rattle.interpolator.proofs.Sizes.{some-axis, added-few}
 use Rattle.interpolator.proofs.refusals.interpolation_refusal.Statement.{statement}
 use Rattle.interpolator.proofs.refusals.interpolation_refusal.Tie as tie

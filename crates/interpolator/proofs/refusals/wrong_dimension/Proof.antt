@@ -8,7 +8,7 @@ use lib.Dec.{eqb}
 use Rattle.error.proofs.First.{one, other, also, not-even}
 use Rattle.variogram.specs.Distance.{offered}
 use Rattle.variogram.proofs.Distance.{none-offered, too-many-offered, is-offered}
-use Rattle.interpolator.specs.Refusals.{isUniversal}
+use Rattle.interpolation.specs.Refusals.{isUniversal}
 use Rattle.interpolator.proofs.refusals.wrong_dimension.Statement.{statement}
 use Rattle.interpolator.proofs.refusals.wrong_dimension.Tie as tie
 

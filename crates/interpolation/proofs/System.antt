@@ -17,14 +17,14 @@ use Rattle.variogram.specs.Distance.{offered}
 use Rattle.variogram.proofs.Distance.{distance-offered}
 use Rattle.elimination.specs.Elimination.{at}
 use Rattle.elimination.proofs.Laid.{laid-left, laid-one, laid-zero}
-use Rattle.interpolator.specs.declared.KrigingType.{KrigingType}
-use Rattle.interpolator.specs.declared.KrigingType.the-variants.{Ordinary, Universal}
-use Rattle.interpolator.specs.Call.{Query, Areas, wells, added, size}
-use Rattle.interpolator.specs.Assembly.{covariance, trend, trendAt, column, entry, rightSide}
-use Rattle.interpolator.specs.System.{Place, placeOf, pointPlace, targetPlace, covarianceOf, valueOf, monomials, columns, driftAt}
-use Rattle.interpolator.specs.System.{Index, Point, Drift, Within, coefficientOf, rightOf, rowOf}
-use Rattle.interpolator.specs.Exit.{assembled}
-use Rattle.interpolator.proofs.Matrix.{symmetric}
+use Rattle.interpolation.specs.declared.KrigingType.{KrigingType}
+use Rattle.interpolation.specs.declared.KrigingType.the-variants.{Ordinary, Universal}
+use Rattle.interpolation.specs.Call.{Query, Areas, wells, added, size}
+use Rattle.interpolation.specs.Assembly.{covariance, trend, trendAt, column, entry, rightSide}
+use Rattle.interpolation.specs.System.{Place, placeOf, pointPlace, targetPlace, covarianceOf, valueOf, monomials, columns, driftAt}
+use Rattle.interpolation.specs.System.{Index, Point, Drift, Within, coefficientOf, rightOf, rowOf}
+use Rattle.interpolation.specs.Exit.{assembled}
+use Rattle.interpolation.proofs.Matrix.{symmetric}
 
 -- ---- rows and equations
 -- "(s = n + 1)", "(s = n + 4)": as many are added as there are drift functions

@@ -11,9 +11,9 @@ use Rattle.ieee.specs.Sums.{addEach, runningSum, lessEach}
 use Rattle.elimination.specs.Inverse.{timesInverse}
 use Rattle.elimination.specs.Call.{Call, called}
 use Rattle.survey.specs.declared.Limits.{Limits}
-use Rattle.interpolator.specs.Call.{Query, Areas, withWork, withFigures, withVariances, wells, nodeCount, size}
-use Rattle.interpolator.specs.Assembly.{column, entry, rightSide}
-use Rattle.interpolator.specs.Refusals.{refusal}
+use Rattle.interpolation.specs.Call.{Query, Areas, withWork, withFigures, withVariances, wells, nodeCount, size}
+use Rattle.interpolation.specs.Assembly.{column, entry, rightSide}
+use Rattle.interpolation.specs.Refusals.{refusal}
 
 -- "z = inverse times b" of the target t, from the work area of the finished elimination
 unfoldable pub solution : Query → List Float → ℕ → ℕ → Float

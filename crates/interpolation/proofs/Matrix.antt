@@ -8,8 +8,8 @@ use borrow.Author.Tests.{le-ltb}
 use Rattle.ieee.specs.Floats.{zeroFloat}
 use Rattle.variogram.specs.Model.{semivariance}
 use Rattle.variogram.proofs.Distance.{distance-back}
-use Rattle.interpolator.specs.Call.{Query, wells}
-use Rattle.interpolator.specs.Assembly.{covariance, trendAt, column, entry}
+use Rattle.interpolation.specs.Call.{Query, wells}
+use Rattle.interpolation.specs.Assembly.{covariance, trendAt, column, entry}
 
 -- zeros in the lower right
 pub lower-right : (q : Query) (i j : ℕ) → wells q ≤ i → wells q ≤ j → entry q i j ≡ zeroFloat

@@ -13,9 +13,9 @@ use Rattle.ieee.specs.Root.{sqrtOf}
 use Rattle.ieee.specs.Sums.{addEach, runningSum, lessEach}
 use Rattle.variogram.specs.Model.{semivariance}
 use Rattle.variogram.specs.Distance.{squares}
-use Rattle.interpolator.specs.declared.KrigingType.{KrigingType}
-use Rattle.interpolator.specs.declared.KrigingType.the-variants.{Ordinary, Universal}
-use Rattle.interpolator.specs.Call.{Query, wells}
+use Rattle.interpolation.specs.declared.KrigingType.{KrigingType}
+use Rattle.interpolation.specs.declared.KrigingType.the-variants.{Ordinary, Universal}
+use Rattle.interpolation.specs.Call.{Query, wells}
 
 -- ---- places: x_i of a point and x_0 of a target
 

@@ -12,14 +12,14 @@ use Rattle.elimination.specs.Elimination.{stepped}
 use Rattle.elimination.specs.Inverse.{inverseAt, timesInverse}
 use Rattle.variogram.specs.Distance.{offered}
 use Rattle.survey.specs.declared.Limits.{Limits}
-use Rattle.interpolator.specs.Call.{Query, Areas, wells, nodeCount, size}
-use Rattle.interpolator.specs.Assembly.{rightSide}
-use Rattle.interpolator.specs.Interpolation.{solution, figure, variance, answered, interpolated}
-use Rattle.interpolator.specs.System.{targetPlace, columns, Index, Point, Drift, rightOf, sumOver, estimateOf, varianceOf, rowOf}
-use Rattle.interpolator.specs.Exit.{assembled, Kriged}
-use Rattle.interpolator.proofs.Accepted.{Accepted, accepted}
-use Rattle.interpolator.proofs.System.{size-is, right-is}
-use Rattle.interpolator.proofs.Endings.{ended}
+use Rattle.interpolation.specs.Call.{Query, Areas, wells, nodeCount, size}
+use Rattle.interpolation.specs.Assembly.{rightSide}
+use Rattle.interpolation.specs.Interpolation.{solution, figure, variance, answered, interpolated}
+use Rattle.interpolation.specs.System.{targetPlace, columns, Index, Point, Drift, rightOf, sumOver, estimateOf, varianceOf, rowOf}
+use Rattle.interpolation.specs.Exit.{assembled, Kriged}
+use Rattle.interpolation.proofs.Accepted.{Accepted, accepted}
+use Rattle.interpolation.proofs.System.{size-is, right-is}
+use Rattle.interpolation.proofs.Endings.{ended}
 
 module _ (q : Query) (ok : offered (q .dimension) ≡ true) (work : List Float) (t : ℕ) where
   -- b's rows, the points' and the drift functions'

@@ -10,9 +10,9 @@ use Rattle.variogram.specs.Distance.{offered}
 use Rattle.elimination.specs.Call.{workTests}
 use Rattle.survey.specs.declared.Limits.{Limits}
 use Rattle.survey.specs.Refusals.{differ, variogramNotFinite, modelTests}
-use Rattle.interpolator.specs.declared.KrigingType.{KrigingType}
-use Rattle.interpolator.specs.declared.KrigingType.the-variants.{Ordinary, Universal}
-use Rattle.interpolator.specs.Call.{Query, Areas, wells, nodeCount, size}
+use Rattle.interpolation.specs.declared.KrigingType.{KrigingType}
+use Rattle.interpolation.specs.declared.KrigingType.the-variants.{Ordinary, Universal}
+use Rattle.interpolation.specs.Call.{Query, Areas, wells, nodeCount, size}
 
 -- "with Universal"
 abbrev pub isUniversal : KrigingType → Bool

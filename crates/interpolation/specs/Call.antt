@@ -1,20 +1,11 @@
--- A call of the interpolator: what it takes, what it is lent, and how it ends. Assumes nothing.
+-- A call of the interpolator: what it takes, and what it is lent. Assumes nothing.
 use Prim.Native.Nat.{ℕ, _+_, _/_}
-use mathlib.Core.List.{List, []}
+use mathlib.Core.List.{List}
 use lib.ListN.{length}
 use lib.Ieee.{Float}
-use Rattle.error.specs.Numbers.{numberOf}
-use Rattle.error.specs.Outcome.{Outcome, outcome}
 use Rattle.variogram.specs.declared.Variogram.{Variogram}
-use Rattle.interpolator.specs.declared.KrigingType.{KrigingType}
-use Rattle.interpolator.specs.declared.KrigingType.the-variants.{Ordinary, Universal}
-use Rattle.interpolator.specs.declared.KrigingInterpolator.{KrigingInterpolator}
-use Rattle.interpolator.specs.declared.Interpolation.{Interpolation}
-use Rattle.interpolator.specs.declared.Interpolation.the-variants.{Done, Refused}
-
--- an interpolator of a kriging type and a variogram: the one way in which one is made
-abbrev pub interpolator : KrigingType → Variogram → KrigingInterpolator
-interpolator t v = record { «kriging_type» = t; variogram = v }
+use Rattle.interpolation.specs.declared.KrigingType.{KrigingType}
+use Rattle.interpolation.specs.declared.KrigingType.the-variants.{Ordinary, Universal}
 
 -- what the call takes: points of d numbers, row after row, the value at each, and targets like the points
 pub record Query : Type 0 where
@@ -24,20 +15,6 @@ pub record Query : Type 0 where
   pub values : List Float
   pub points : List Float
   pub targets : List Float
-
--- the query of an interpolator's call, and the same without targets: the matrix reads none
-abbrev pub queryOf : KrigingInterpolator → List Float → List Float → List Float → ℕ → Query
-queryOf interpolator values points targets d = record {
-  krigingType = interpolator .«kriging_type»;
-  variogram = interpolator .variogram;
-  dimension = d;
-  values = values;
-  points = points;
-  targets = targets;
-}
-
-abbrev pub known : KrigingInterpolator → List Float → List Float → ℕ → Query
-known interpolator values points d = queryOf interpolator values points [] d
 
 -- ---- areas
 -- what it is lent, at entry or at exit: the work area, and the answer's
@@ -59,11 +36,6 @@ withFigures a figures = record { work = a .work; figures = figures; variances = 
 
 abbrev pub withVariances : Areas → List Float → Areas
 withVariances a variances = record { work = a .work; figures = a .figures; variances = variances }
-
--- The number of each answer: "a refusal carries only its number".
-abbrev pub outcomeOf : Interpolation → Areas → Outcome Areas
-outcomeOf Done a = outcome 0 a
-outcomeOf (Refused r) a = outcome (numberOf r) a
 
 -- ---- counts
 -- n, the number of points with a value

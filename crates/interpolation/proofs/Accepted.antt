@@ -16,9 +16,9 @@ use Rattle.ieee.proofs.FiniteLists.{is-finite}
 use Rattle.variogram.specs.Distance.{offered}
 use Rattle.variogram.proofs.Distance.{is-offered}
 use Rattle.survey.specs.declared.Limits.{Limits}
-use Rattle.interpolator.specs.declared.KrigingType.the-variants.{Universal}
-use Rattle.interpolator.specs.Call.{Query, Areas, wells, nodeCount, size}
-use Rattle.interpolator.specs.Rules.{rules}
+use Rattle.interpolation.specs.declared.KrigingType.the-variants.{Universal}
+use Rattle.interpolation.specs.Call.{Query, Areas, wells, nodeCount, size}
+use Rattle.interpolation.specs.Rules.{rules}
 
 pub record Accepted (q : Query) (a : Areas) : Type 0 where
   pub dimension : offered (q .dimension) ≡ true

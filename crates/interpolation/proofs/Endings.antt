@@ -15,17 +15,17 @@ use Rattle.elimination.proofs.Laid.{kept-laid, laid-left}
 use Rattle.elimination.proofs.Stops.{zero-column}
 use Rattle.elimination.proofs.Call.{kept-work, where-it-stops, ends, whichever}
 use Rattle.survey.specs.declared.Limits.{Limits}
-use Rattle.interpolator.specs.declared.KrigingType.{KrigingType}
-use Rattle.interpolator.specs.declared.KrigingType.the-variants.{Ordinary, Universal}
-use Rattle.interpolator.specs.Call.{Query, Areas, withWork, wells, nodeCount, added, size}
-use Rattle.interpolator.specs.Rules.{rules}
-use Rattle.interpolator.specs.Refusals.{tests, refusal}
-use Rattle.interpolator.specs.Assembly.{entry}
-use Rattle.interpolator.specs.Interpolation.{answered, interpolationCall, interpolated}
-use Rattle.interpolator.specs.Exit.{assembled, Untouched}
-use Rattle.interpolator.proofs.Told.{all-told}
-use Rattle.interpolator.proofs.Accepted.{accepted}
-use Rattle.interpolator.proofs.Matrix.{lower-right}
+use Rattle.interpolation.specs.declared.KrigingType.{KrigingType}
+use Rattle.interpolation.specs.declared.KrigingType.the-variants.{Ordinary, Universal}
+use Rattle.interpolation.specs.Call.{Query, Areas, withWork, wells, nodeCount, added, size}
+use Rattle.interpolation.specs.Rules.{rules}
+use Rattle.interpolation.specs.Refusals.{tests, refusal}
+use Rattle.interpolation.specs.Assembly.{entry}
+use Rattle.interpolation.specs.Interpolation.{answered, interpolationCall, interpolated}
+use Rattle.interpolation.specs.Exit.{assembled, Untouched}
+use Rattle.interpolation.proofs.Told.{all-told}
+use Rattle.interpolation.proofs.Accepted.{accepted}
+use Rattle.interpolation.proofs.Matrix.{lower-right}
 
 module _ (limits : Limits) (q : Query) (a : Areas) where
   -- each number exactly where its condition holds, and the areas then

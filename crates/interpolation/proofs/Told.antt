@@ -12,11 +12,11 @@ use Rattle.elimination.proofs.Call.{work-told}
 use Rattle.survey.specs.declared.Limits.{Limits}
 use Rattle.survey.specs.Limits.{base}
 use Rattle.survey.proofs.Told.{variogram-told, model-told}
-use Rattle.interpolator.specs.declared.KrigingType.{KrigingType}
-use Rattle.interpolator.specs.declared.KrigingType.the-variants.{Ordinary, Universal}
-use Rattle.interpolator.specs.Call.{Query, Areas, wells, nodeCount, size}
-use Rattle.interpolator.specs.Rules.{WrongDimension, TooMany, NumberNotFinite, rules}
-use Rattle.interpolator.specs.Refusals.{isUniversal, wrongDimension, numberNotFinite, tests}
+use Rattle.interpolation.specs.declared.KrigingType.{KrigingType}
+use Rattle.interpolation.specs.declared.KrigingType.the-variants.{Ordinary, Universal}
+use Rattle.interpolation.specs.Call.{Query, Areas, wells, nodeCount, size}
+use Rattle.interpolation.specs.Rules.{WrongDimension, TooMany, NumberNotFinite, rules}
+use Rattle.interpolation.specs.Refusals.{isUniversal, wrongDimension, numberNotFinite, tests}
 
 universal : (t : KrigingType) → Tells (isUniversal t) (t ≡ Universal)
 universal Ordinary = record { then = λ h. absurd h; back = λ x. subst (λ (t : KrigingType). T (isUniversal t)) (sym x) tt }

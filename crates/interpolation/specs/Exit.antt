@@ -13,11 +13,11 @@ use Rattle.elimination.specs.Elimination.{at}
 use Rattle.elimination.specs.Inverse.{laid, inverseAt}
 use Rattle.elimination.specs.Call.{Ends}
 use Rattle.survey.specs.declared.Limits.{Limits}
-use Rattle.interpolator.specs.Call.{Query, Areas, withWork, wells, nodeCount, size}
-use Rattle.interpolator.specs.Rules.{rules}
-use Rattle.interpolator.specs.Assembly.{entry}
-use Rattle.interpolator.specs.Interpolation.{answered}
-use Rattle.interpolator.specs.System.{targetPlace, Index, Within, coefficientOf, rightOf, sumOver, estimateOf, varianceOf, rowOf}
+use Rattle.interpolation.specs.Call.{Query, Areas, withWork, wells, nodeCount, size}
+use Rattle.interpolation.specs.Rules.{rules}
+use Rattle.interpolation.specs.Assembly.{entry}
+use Rattle.interpolation.specs.Interpolation.{answered}
+use Rattle.interpolation.specs.System.{targetPlace, Index, Within, coefficientOf, rightOf, sumOver, estimateOf, varianceOf, rowOf}
 
 -- "The matrix beside the identity, s rows of 2s", in the work area that was lent
 abbrev pub assembled : Query → Areas → List Float

@@ -13,10 +13,10 @@ use Rattle.variogram.specs.Model.{semivariance}
 use Rattle.variogram.specs.Distance.{distance}
 use Rattle.variogram.proofs.Itself.{distance-itself, variogram-itself}
 use Rattle.survey.specs.declared.Limits.{Limits}
-use Rattle.interpolator.specs.Call.{Query, Areas, wells}
-use Rattle.interpolator.specs.Rules.{rules}
-use Rattle.interpolator.specs.Assembly.{covariance, column, entry}
-use Rattle.interpolator.proofs.Accepted.{accepted}
+use Rattle.interpolation.specs.Call.{Query, Areas, wells}
+use Rattle.interpolation.specs.Rules.{rules}
+use Rattle.interpolation.specs.Assembly.{covariance, column, entry}
+use Rattle.interpolation.proofs.Accepted.{accepted}
 
 own-entry : (q : Query) (i : ℕ) → i < wells q
     → entry q i i ≡ sub binary64 (q .variogram .sill) (semivariance (q .variogram) (distance (q .points) i (q .points) i (q .dimension)))

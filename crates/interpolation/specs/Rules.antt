@@ -10,8 +10,8 @@ use Rattle.ieee.specs.Finite.{SomeNotFinite}
 use Rattle.elimination.specs.Call.{workRules}
 use Rattle.survey.specs.declared.Limits.{Limits}
 use Rattle.survey.specs.Rules.{VariogramNotFinite, modelRules}
-use Rattle.interpolator.specs.declared.KrigingType.the-variants.{Universal}
-use Rattle.interpolator.specs.Call.{Query, Areas, wells, nodeCount, size}
+use Rattle.interpolation.specs.declared.KrigingType.the-variants.{Universal}
+use Rattle.interpolation.specs.Call.{Query, Areas, wells, nodeCount, size}
 
 -- 13: "d not 1, 2 or 3, or d = 1 with Universal"
 abbrev pub WrongDimension : Query → Type 0

@@ -1,12 +1,12 @@
 -- All that is promised of a call of the interpolator, in one place. Assumes nothing.
 use Rattle.survey.specs.declared.Limits.{Limits}
-use Rattle.interpolator.specs.Call.{Query, Areas}
-use Rattle.interpolator.specs.Interpolation.{interpolated}
-use Rattle.interpolator.specs.Exit.{Promise}
-use Rattle.interpolator.proofs.Accepted.{accepted}
-use Rattle.interpolator.proofs.Endings.{ended, untouched, no-wells}
-use Rattle.interpolator.proofs.System.{matrix-at}
-use Rattle.interpolator.proofs.SystemKriged.{kriged}
+use Rattle.interpolation.specs.Call.{Query, Areas}
+use Rattle.interpolation.specs.Interpolation.{interpolated}
+use Rattle.interpolation.specs.Exit.{Promise}
+use Rattle.interpolation.proofs.Accepted.{accepted}
+use Rattle.interpolation.proofs.Endings.{ended, untouched, no-wells}
+use Rattle.interpolation.proofs.System.{matrix-at}
+use Rattle.interpolation.proofs.SystemKriged.{kriged}
 
 pub promise : (limits : Limits) (q : Query) (a : Areas) → Promise limits q a (interpolated limits q a)
 promise limits q a = record {

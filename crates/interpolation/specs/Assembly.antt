@@ -8,9 +8,9 @@ use lib.Ieee.{Float, nan, binary64, sub, mul}
 use Rattle.ieee.specs.Floats.{zeroFloat, oneFloat}
 use Rattle.variogram.specs.Model.{semivariance}
 use Rattle.variogram.specs.Distance.{axisFrom, distance}
-use Rattle.interpolator.specs.declared.KrigingType.{KrigingType}
-use Rattle.interpolator.specs.declared.KrigingType.the-variants.{Ordinary, Universal}
-use Rattle.interpolator.specs.Call.{Query, wells}
+use Rattle.interpolation.specs.declared.KrigingType.{KrigingType}
+use Rattle.interpolation.specs.declared.KrigingType.the-variants.{Ordinary, Universal}
+use Rattle.interpolation.specs.Call.{Query, wells}
 
 -- "Entries are sill − variogram": of the well i and the point j of a list, the wells' or the targets'
 unfoldable pub covariance : Query → ℕ → List Float → ℕ → Float
