@@ -7,8 +7,8 @@ use lib.ListN.{replicate, drop}
 use lib.Ieee.{nan}
 use Rattle.variogram.specs.declared.VariogramModel.the-variants.{Spherical, Exponential, Gaussian, Linear}
 use Rattle.survey.specs.Limits.{base}
-use Rattle.semivariogram.specs.Call.{Samples}
-use Rattle.semivariogram.specs.Semivariogram.{calculated}
+use Rattle.bins.specs.Call.{Samples}
+use Rattle.bins.specs.Semivariogram.{calculated}
 use Rattle.survey_file.specs.File.{baseVersion, writerFile}
 use Rattle.survey_file.specs.Reader.{readBytes}
 use Rattle.survey_file.specs.Cases.{survey, file, noted, bare, withModel}

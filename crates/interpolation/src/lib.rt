@@ -1,4 +1,5 @@
-// What an interpolation is: definitions in specs/, and what holds of them in proofs/. Its code is the crate `interpolator`.
+// What an interpolation is: definitions in specs/, theorems about them in proofs/. The code that meets them is in the crate interpolator.
+
 // Kriging types
 pub enum KrigingType {
     // Ordinary Kriging (constant mean)

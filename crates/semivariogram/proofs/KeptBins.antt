@@ -14,11 +14,11 @@ use Rattle.area.specs.Area.{written}
 use Rattle.area.proofs.Start.{next-start}
 use Rattle.area.proofs.Places.{same-values}
 use Rattle.ieee.specs.Floats.{zeroFloat}
-use Rattle.semivariogram.specs.Pairs.{rising, pairs, filtered}
-use Rattle.semivariogram.specs.Call.{Samples, Areas, samples, areasOf}
-use Rattle.semivariogram.specs.Bins.{asFloat, half, width, countIn, sumIn, count, average, centre, keptBins, filled}
+use Rattle.bins.specs.Pairs.{rising, pairs, filtered}
+use Rattle.bins.specs.Call.{Samples, Areas, samples, areasOf}
+use Rattle.bins.specs.Bins.{asFloat, half, width, countIn, sumIn, count, average, centre, keptBins, filled}
 use Rattle.semivariogram.specs.Parts.{Left}
-use Rattle.semivariogram.proofs.Lists.{rising-add, filtered-append, from-rank}
+use Rattle.bins.proofs.Lists.{rising-add, filtered-append, from-rank}
 
 -- ---- the numbers that pass a test, one more looked at
 module _ (keep : ℕ → Bool) (i : ℕ) where

@@ -1,14 +1,5 @@
-pub mod Lists
-pub mod Pairs
-pub mod Bins
-pub mod Told
-pub mod Accepted
-pub mod Greatest
-pub mod Farthest
-pub mod BinOf
 pub mod Passes
 pub mod Cast
 pub mod OnePass
 pub mod KeptBins
-pub mod Calculated
 pub mod Whole

@@ -15,11 +15,11 @@ use lib.ListN.{length, getD, set}
 use lib.Seq.{getD-set-same, getD-set-other}
 use lib.Ieee.{Float, nan, binary64, add, div, toUnsigned}
 use Rattle.ieee.specs.Floats.{floorOf}
-use Rattle.semivariogram.specs.Pairs.{Pair, pair, pairsFrom, pairs}
-use Rattle.semivariogram.specs.Call.{Samples, samples}
-use Rattle.semivariogram.specs.Bins.{lag, halfSquare, width, binOf, countIn, sumIn, count}
+use Rattle.bins.specs.Pairs.{Pair, pair, pairsFrom, pairs}
+use Rattle.bins.specs.Call.{Samples, samples}
+use Rattle.bins.specs.Bins.{lag, halfSquare, width, binOf, countIn, sumIn, count}
 use Rattle.semivariogram.specs.Parts.{Left}
-use Rattle.semivariogram.proofs.Pairs.{twice}
+use Rattle.bins.proofs.Pairs.{twice}
 use Rattle.semivariogram.proofs.Passes.{laterFrom, next-sample, no-sample, next-later, no-later}
 
 same-or-not : (a b : ℕ) → (a ≡ b) ⊎ (a ≢ b)

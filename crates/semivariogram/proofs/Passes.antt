@@ -6,8 +6,8 @@ use mathlib.Core.Path.{_≡_, refl, ap, sym, _∙_}
 use mathlib.Core.List.{List, [], _∷_, _++_, map, map-append}
 use lib.Ieee.{Float}
 use Rattle.ieee.specs.Floats.{maxOf}
-use Rattle.semivariogram.specs.Pairs.{Pair, pair, rising, pairsFrom, pairs}
-use Rattle.semivariogram.specs.Bins.{greatest}
+use Rattle.bins.specs.Pairs.{Pair, pair, rising, pairsFrom, pairs}
+use Rattle.bins.specs.Bins.{greatest}
 
 -- the pairs of the sample i with each later one of n
 abbrev pub later : ℕ → ℕ → List Pair

@@ -15,14 +15,14 @@ use Rattle.error.specs.declared.Refusal.{Refusal}
 use Rattle.error.proofs.First.{here, none, refused}
 use Rattle.ieee.specs.Floats.{zeroFloat}
 use Rattle.survey.specs.declared.Limits.{Limits}
-use Rattle.semivariogram.specs.Pairs.{pairs}
-use Rattle.semivariogram.specs.Call.{Samples, Areas, Outcome, samples}
-use Rattle.semivariogram.specs.Refusals.{refusal}
-use Rattle.semivariogram.specs.Bins.{asFloat, lag, greatest, longest, width, sumIn, count, keptBins, filled}
+use Rattle.bins.specs.Pairs.{pairs}
+use Rattle.bins.specs.Call.{Samples, Areas, Outcome, samples}
+use Rattle.bins.specs.Refusals.{refusal}
+use Rattle.bins.specs.Bins.{asFloat, lag, greatest, longest, width, sumIn, count, keptBins, filled}
 use Rattle.semivariogram.specs.Parts.{lagIn, Left}
-use Rattle.semivariogram.specs.Semivariogram.{callWhere, calculated}
-use Rattle.semivariogram.specs.Binned.{Ends}
-use Rattle.semivariogram.proofs.Calculated.{is-done, ends}
+use Rattle.bins.specs.Semivariogram.{callWhere, calculated}
+use Rattle.bins.specs.Binned.{Ends}
+use Rattle.bins.proofs.Calculated.{is-done, ends}
 
 -- ---- the start
 -- "Width = greatest distance / bins"

@@ -1,8 +1,2 @@
-pub mod Pairs
-pub mod Call
-pub mod Rules
-pub mod Refusals
-pub mod Bins
 pub mod Parts
-pub mod Semivariogram
-pub mod Binned
+pub mod Outcome

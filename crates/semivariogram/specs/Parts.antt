@@ -6,9 +6,9 @@ use lib.ListN.{getD}
 use lib.Ieee.{Float, nan}
 use Rattle.ieee.specs.Floats.{zeroFloat}
 use Rattle.variogram.specs.Distance.{distance}
-use Rattle.semivariogram.specs.Pairs.{Pair, pairs}
-use Rattle.semivariogram.specs.Call.{Samples, samples}
-use Rattle.semivariogram.specs.Bins.{countIn, sumIn, count}
+use Rattle.bins.specs.Pairs.{Pair, pairs}
+use Rattle.bins.specs.Call.{Samples, samples}
+use Rattle.bins.specs.Bins.{countIn, sumIn, count}
 
 -- the distance of a pair of points of d numbers, row after row
 abbrev pub lagIn : List Float → ℕ → Pair → Float

@@ -3,8 +3,8 @@ ghost use mathlib.Core.Path.{_≡_};
 ghost use mathlib.Core.List.{map};
 ghost use Prim.Native.Nat.{suc, _-_, _<_};
 ghost use Rattle.ieee.specs.Floats.{zeroFloat};
-ghost use Rattle.semivariogram.specs.Pairs.{pair, rising, pairs};
-ghost use Rattle.semivariogram.specs.Bins.{greatest};
+ghost use Rattle.bins.specs.Pairs.{pair, rising, pairs};
+ghost use Rattle.bins.specs.Bins.{greatest};
 ghost use Rattle.semivariogram.specs.Parts.{lagIn};
 
 // The greatest of `most` and the distances of the point i from each later one.

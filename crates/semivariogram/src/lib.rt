@@ -12,9 +12,10 @@ use error::Refusal;
 use survey::Limits;
 ghost use mathlib.Core.Path.{_≡_};
 ghost use Rattle.survey.specs.Limits.{base};
-ghost use Rattle.semivariogram.specs.Call.{samplesOf, areasOf, outcomeOf};
-ghost use Rattle.semivariogram.specs.Semivariogram.{calculated};
-ghost use Rattle.semivariogram.specs.Binned.{Ends};
+ghost use Rattle.bins.specs.Call.{samplesOf, areasOf};
+ghost use Rattle.semivariogram.specs.Outcome.{outcomeOf};
+ghost use Rattle.bins.specs.Semivariogram.{calculated};
+ghost use Rattle.bins.specs.Binned.{Ends};
 
 // How a call of the calculator ends.
 pub enum Semivariogram {

@@ -5,7 +5,7 @@ use Rattle.ieee.specs.Root.{sqrtOf}
 use Rattle.variogram.specs.Model.{semivariance}
 use Rattle.fit.specs.Fit.{fitted}
 use Rattle.interpolation.specs.Interpolation.{interpolated}
-use Rattle.semivariogram.specs.Semivariogram.{calculated}
+use Rattle.bins.specs.Semivariogram.{calculated}
 use Rattle.soundings.specs.Soundings.{Soundings}
 
 pub soundings : Soundings

@@ -16,8 +16,8 @@ use Rattle.fit.specs.Fit.{fitted}
 use Rattle.interpolation.specs.declared.KrigingType.the-variants.{Ordinary}
 use Rattle.interpolation.specs.Call as interpolator
 use Rattle.interpolation.specs.Interpolation.{interpolated}
-use Rattle.semivariogram.specs.Call as semivariogram
-use Rattle.semivariogram.specs.Semivariogram.{calculated}
+use Rattle.bins.specs.Call as semivariogram
+use Rattle.bins.specs.Semivariogram.{calculated}
 
 -- ---- numbers by their bit patterns
 abbrev pub f : ℕ → Float

@@ -6,10 +6,10 @@ use lib.Ieee.{binary64, div}
 use Rattle.error.specs.Numbers.{judged}
 use Rattle.survey.specs.declared.Limits.{Limits}
 use Rattle.survey.specs.Limits.{base}
-use Rattle.semivariogram.specs.Call.{Samples, Areas, samplesOf, areasOf}
-use Rattle.semivariogram.specs.Refusals.{refusal}
-use Rattle.semivariogram.specs.Bins.{width}
-use Rattle.semivariogram.proofs.Accepted.{Accepted, accepted, few-samples}
+use Rattle.bins.specs.Call.{Samples, Areas, samplesOf, areasOf}
+use Rattle.bins.specs.Refusals.{refusal}
+use Rattle.bins.specs.Bins.{width}
+use Rattle.bins.proofs.Accepted.{Accepted, accepted, few-samples}
 use Rattle.semivariogram.proofs.Whole.{width-is, none-added, refused-is, done-is, has-ends}
 use Rattle.semivariogram.proofs.SemivariogramCalculator.calculate.Statement.{statement}
 use Rattle.semivariogram.proofs.SemivariogramCalculator.calculate.Tie as tie

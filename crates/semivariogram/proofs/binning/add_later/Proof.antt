@@ -5,9 +5,9 @@ use mathlib.Core.List.{_++_}
 use native.Mathlib.Omega.{arith}
 use borrow.Author.Needs.{needs}
 use lib.ListN.{length, length-set, getD}
-use Rattle.semivariogram.specs.Pairs.{Pair, pair, pairsFrom}
-use Rattle.semivariogram.specs.Call.{Samples, samplesOf}
-use Rattle.semivariogram.specs.Bins.{lag, halfSquare, binOf}
+use Rattle.bins.specs.Pairs.{Pair, pair, pairsFrom}
+use Rattle.bins.specs.Call.{Samples, samplesOf}
+use Rattle.bins.specs.Bins.{lag, halfSquare, binOf}
 use Rattle.semivariogram.specs.Parts.{Left}
 use Rattle.semivariogram.proofs.Passes.{laterFrom}
 use Rattle.semivariogram.proofs.OnePass.{bin-from, count-fits, one-later, first-later, last-later}

@@ -6,8 +6,8 @@ use native.Mathlib.Numerals.{add-one}
 use native.Mathlib.Omega.{arith}
 use borrow.Author.Needs.{needs}
 use lib.ListN.{length}
-use Rattle.semivariogram.specs.Pairs.{Pair, pairsFrom}
-use Rattle.semivariogram.specs.Call.{Samples, samplesOf}
+use Rattle.bins.specs.Pairs.{Pair, pairsFrom}
+use Rattle.bins.specs.Call.{Samples, samplesOf}
 use Rattle.semivariogram.specs.Parts.{Left}
 use Rattle.semivariogram.proofs.Passes.{all-pairs}
 use Rattle.semivariogram.proofs.OnePass.{last-sample}

@@ -6,8 +6,8 @@ use native.Mathlib.Omega.{arith}
 use borrow.Author.Needs.{needs}
 use lib.ListN.{length, length-set, getD}
 use lib.Ieee.{Float, nan, binary64, add, mul, div}
-use Rattle.semivariogram.specs.Call.{Areas, areasOf}
-use Rattle.semivariogram.specs.Bins.{half, width}
+use Rattle.bins.specs.Call.{Areas, areasOf}
+use Rattle.bins.specs.Bins.{half, width}
 use Rattle.semivariogram.proofs.KeptBins.{Progress, none-yet, one-kept, renamed, not-kept, all-kept, all-bins}
 use Rattle.semivariogram.proofs.binning.write_kept.Statement.{statement}
 use Rattle.semivariogram.proofs.binning.write_kept.Tie as tie

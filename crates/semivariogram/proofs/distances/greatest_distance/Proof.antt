@@ -4,8 +4,8 @@ use mathlib.Core.Path.{_≡_, ap, sym, _∙_}
 use mathlib.Core.List.{List, map}
 use native.Mathlib.Omega.{arith}
 use Rattle.ieee.specs.Floats.{zeroFloat}
-use Rattle.semivariogram.specs.Pairs.{Pair, pairsFrom, pairs}
-use Rattle.semivariogram.specs.Bins.{greatest}
+use Rattle.bins.specs.Pairs.{Pair, pairsFrom, pairs}
+use Rattle.bins.specs.Bins.{greatest}
 use Rattle.semivariogram.specs.Parts.{lagIn}
 use Rattle.semivariogram.proofs.Passes.{all-pairs, greatest-sample, greatest-none}
 use Rattle.semivariogram.proofs.distances.greatest_distance.Statement.{statement}

@@ -5,7 +5,7 @@ use mathlib.Core.List.{map}
 use native.Mathlib.Numerals.{add-one}
 use native.Mathlib.Omega.{arith}
 use borrow.Author.Needs.{needs}
-use Rattle.semivariogram.specs.Bins.{greatest}
+use Rattle.bins.specs.Bins.{greatest}
 use Rattle.semivariogram.specs.Parts.{lagIn}
 use Rattle.semivariogram.proofs.Passes.{later, laterFrom, greatest-turn, greatest-last}
 use Rattle.semivariogram.proofs.distances.greatest_from.Statement.{statement}

@@ -9,8 +9,8 @@ use lib.ListN.{length}
 use Rattle.error.specs.Tests.{Test, test, firstOf}
 use Rattle.error.proofs.First.{here, past, none, one, other}
 use Rattle.ieee.specs.Finite.{allFinite}
-use Rattle.semivariogram.specs.Call.{Samples, Areas, samplesOf, areasOf}
-use Rattle.semivariogram.specs.Refusals.{wrongDimension, wrongPoints, tooFew, wrongBins, tooMany, notFinite, shortAnswer, refusal}
+use Rattle.bins.specs.Call.{Samples, Areas, samplesOf, areasOf}
+use Rattle.bins.specs.Refusals.{wrongDimension, wrongPoints, tooFew, wrongBins, tooMany, notFinite, shortAnswer, refusal}
 use Rattle.semivariogram.proofs.refusals.calculate_refusal.Statement.{statement}
 use Rattle.semivariogram.proofs.refusals.calculate_refusal.Tie as tie
 

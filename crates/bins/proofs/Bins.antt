@@ -9,12 +9,12 @@ use lib.Dec.{eqb, ltb}
 use lib.ListN.{length}
 use lib.Ieee.{Float, binary64, add, div}
 use Rattle.ieee.specs.Floats.{zeroFloat}
-use Rattle.semivariogram.specs.Pairs.{Pair, rising, pairs, filtered}
-use Rattle.semivariogram.specs.Call.{Samples, samples}
-use Rattle.semivariogram.specs.Bins.{asFloat, halfSquare, binOf, countIn, sumIn, count, average, keptBins}
-use Rattle.semivariogram.specs.Binned.{pairsIn, addedUp, total, isKept}
-use Rattle.semivariogram.proofs.Lists.{total-zeros, one-more, total-above-zero}
-use Rattle.semivariogram.proofs.Pairs.{number-of-pairs}
+use Rattle.bins.specs.Pairs.{Pair, rising, pairs, filtered}
+use Rattle.bins.specs.Call.{Samples, samples}
+use Rattle.bins.specs.Bins.{asFloat, halfSquare, binOf, countIn, sumIn, count, average, keptBins}
+use Rattle.bins.specs.Binned.{pairsIn, addedUp, total, isKept}
+use Rattle.bins.proofs.Lists.{total-zeros, one-more, total-above-zero}
+use Rattle.bins.proofs.Pairs.{number-of-pairs}
 
 module _ (q : Samples) (b : ℕ) where
   count-filtered : (ps : List Pair) → countIn q b ps ≡ length (filtered (λ p. eqb (binOf q p) b) ps)

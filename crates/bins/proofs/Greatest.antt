@@ -11,7 +11,7 @@ use lib.Ieee.Positive.{through}
 use borrow.Author.Tests.{ltb-true, ltb-false, le-ltb}
 use Rattle.ieee.specs.Floats.{maxOf}
 use Rattle.ieee.specs.Values.{Signed, infinite, number}
-use Rattle.semivariogram.specs.Bins.{greatest}
+use Rattle.bins.specs.Bins.{greatest}
 
 -- ---- the order of such numbers
 not-below-self : (x : Float) → Signed false x → lt x x ≡ false

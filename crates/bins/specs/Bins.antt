@@ -9,8 +9,8 @@ use lib.Ieee.{Float, nan, binary64, ofBits, add, sub, mul, div, ofInt, toUnsigne
 use Rattle.area.specs.Area.{written}
 use Rattle.ieee.specs.Floats.{zeroFloat, maxOf, floorOf}
 use Rattle.variogram.specs.Distance.{square, distance}
-use Rattle.semivariogram.specs.Pairs.{Pair, rising, pairs, filtered}
-use Rattle.semivariogram.specs.Call.{Samples, Areas, samples}
+use Rattle.bins.specs.Pairs.{Pair, rising, pairs, filtered}
+use Rattle.bins.specs.Call.{Samples, Areas, samples}
 
 -- a whole number as an f64
 abbrev pub asFloat : ℕ → Float

@@ -7,7 +7,7 @@ use lib.ListN.{length}
 use Rattle.error.specs.Tests.{Test, test, firstOf}
 use Rattle.ieee.specs.Finite.{allFinite}
 use Rattle.survey.specs.declared.Limits.{Limits}
-use Rattle.semivariogram.specs.Call.{Samples, Areas, samples}
+use Rattle.bins.specs.Call.{Samples, Areas, samples}
 
 -- "bins not 1..64"
 abbrev pub mostBins : ℕ

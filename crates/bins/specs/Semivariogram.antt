@@ -2,9 +2,9 @@
 use Prim.Native.Nat.{ℕ, zero, suc}
 use lib.ListN.{length}
 use Rattle.survey.specs.declared.Limits.{Limits}
-use Rattle.semivariogram.specs.Call.{Samples, Areas, Outcome}
-use Rattle.semivariogram.specs.Refusals.{refusal}
-use Rattle.semivariogram.specs.Bins.{keptBins, filled}
+use Rattle.bins.specs.Call.{Samples, Areas, Outcome}
+use Rattle.bins.specs.Refusals.{refusal}
+use Rattle.bins.specs.Bins.{keptBins, filled}
 
 -- the call by its refusal: "A refusal carries only its number and writes nothing"; else "how many is returned"
 unfoldable pub callWhere : ℕ → Samples → Areas → Outcome

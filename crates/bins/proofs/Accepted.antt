@@ -12,10 +12,10 @@ use Rattle.error.proofs.Tells.{stable, equal}
 use Rattle.error.proofs.Rules.{none-exactly, no-condition}
 use Rattle.ieee.proofs.FiniteLists.{is-finite}
 use Rattle.survey.specs.declared.Limits.{Limits}
-use Rattle.semivariogram.specs.Call.{Samples, Areas, samples}
-use Rattle.semivariogram.specs.Rules.{rules}
-use Rattle.semivariogram.specs.Refusals.{refusal}
-use Rattle.semivariogram.proofs.Told.{told}
+use Rattle.bins.specs.Call.{Samples, Areas, samples}
+use Rattle.bins.specs.Rules.{rules}
+use Rattle.bins.specs.Refusals.{refusal}
+use Rattle.bins.proofs.Told.{told}
 
 pub record Accepted (q : Samples) (a : Areas) : Type 0 where
   pub dimension : (1 ≤ q .dimension) × (q .dimension ≤ 3)

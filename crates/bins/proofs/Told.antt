@@ -6,9 +6,9 @@ use Rattle.error.proofs.Tells.{either, different, below, some-not-finite}
 use Rattle.error.specs.Rules.{Told, no-more, tells}
 use Rattle.survey.specs.declared.Limits.{Limits}
 use Rattle.survey.specs.Limits.{base}
-use Rattle.semivariogram.specs.Call.{Samples, Areas, samples}
-use Rattle.semivariogram.specs.Rules.{TooMany, rules}
-use Rattle.semivariogram.specs.Refusals.{mostBins, tests}
+use Rattle.bins.specs.Call.{Samples, Areas, samples}
+use Rattle.bins.specs.Rules.{TooMany, rules}
+use Rattle.bins.specs.Refusals.{mostBins, tests}
 
 pub told : (limits : Limits) (q : Samples) (a : Areas) → Told (tests limits q a) (rules limits q a)
 told limits q a =

@@ -12,13 +12,13 @@ use Rattle.ieee.specs.Floats.{zeroFloat}
 use Rattle.ieee.specs.Values.{Signed, number}
 use Rattle.variogram.proofs.Distance.{is-offered}
 use Rattle.variogram.proofs.Signs.{distance-clear}
-use Rattle.semivariogram.specs.Pairs.{Pair, pair, pairs}
-use Rattle.semivariogram.specs.Call.{Samples, Areas, samples}
-use Rattle.semivariogram.specs.Bins.{lag, longest}
-use Rattle.semivariogram.specs.Binned.{Greatest}
-use Rattle.semivariogram.proofs.Pairs.{every-pair}
-use Rattle.semivariogram.proofs.Greatest.{greatest-clear, none-greater, one-of-them}
-use Rattle.semivariogram.proofs.Accepted.{Accepted}
+use Rattle.bins.specs.Pairs.{Pair, pair, pairs}
+use Rattle.bins.specs.Call.{Samples, Areas, samples}
+use Rattle.bins.specs.Bins.{lag, longest}
+use Rattle.bins.specs.Binned.{Greatest}
+use Rattle.bins.proofs.Pairs.{every-pair}
+use Rattle.bins.proofs.Greatest.{greatest-clear, none-greater, one-of-them}
+use Rattle.bins.proofs.Accepted.{Accepted}
 
 zero-clear : Signed false zeroFloat
 unfolding ofBits

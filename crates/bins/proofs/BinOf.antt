@@ -17,13 +17,13 @@ use Rattle.ieee.specs.Whole.{GreatestWhole}
 use Rattle.ieee.proofs.FloorCases.{ones-of}
 use Rattle.ieee.proofs.FloorLaw.{floor-multiple, floor-greatest}
 use Rattle.ieee.proofs.Signs.{round-signed}
-use Rattle.semivariogram.specs.Pairs.{Pair, pair}
-use Rattle.semivariogram.specs.Call.{Samples, Areas, samples}
-use Rattle.semivariogram.specs.Bins.{asFloat, lag, longest, width, binOf}
-use Rattle.semivariogram.specs.Binned.{quotient, BinOf}
-use Rattle.semivariogram.proofs.Pairs.{every-pair}
-use Rattle.semivariogram.proofs.Accepted.{Accepted}
-use Rattle.semivariogram.proofs.Farthest.{lag-clear, longest-clear}
+use Rattle.bins.specs.Pairs.{Pair, pair}
+use Rattle.bins.specs.Call.{Samples, Areas, samples}
+use Rattle.bins.specs.Bins.{asFloat, lag, longest, width, binOf}
+use Rattle.bins.specs.Binned.{quotient, BinOf}
+use Rattle.bins.proofs.Pairs.{every-pair}
+use Rattle.bins.proofs.Accepted.{Accepted}
+use Rattle.bins.proofs.Farthest.{lag-clear, longest-clear}
 
 -- ---- a NaN, or a number or an infinity with a clear sign
 abbrev Clear : Float → Type 0

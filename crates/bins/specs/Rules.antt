@@ -6,7 +6,7 @@ use lib.ListN.{length}
 use Rattle.error.specs.Rules.{Rule, rule}
 use Rattle.ieee.specs.Finite.{SomeNotFinite}
 use Rattle.survey.specs.declared.Limits.{Limits}
-use Rattle.semivariogram.specs.Call.{Samples, Areas, samples}
+use Rattle.bins.specs.Call.{Samples, Areas, samples}
 
 -- 13: "d not 1, 2 or 3"
 abbrev pub WrongDimension : Samples → Type 0

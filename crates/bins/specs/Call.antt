@@ -3,9 +3,6 @@ use Prim.Native.Nat.{ℕ}
 use mathlib.Core.List.{List}
 use lib.ListN.{length}
 use lib.Ieee.{Float}
-use Rattle.error.specs.Numbers.{numberOf}
-use Rattle.semivariogram.specs.declared.Semivariogram.{Semivariogram}
-use Rattle.semivariogram.specs.declared.Semivariogram.the-variants.{Bins, Refused}
 
 -- what the call takes: points of d numbers, row after row, and the value at each
 pub record Samples : Type 0 where
@@ -25,11 +22,6 @@ pub record Outcome : Type 0 where
   pub number : ℕ
   pub kept : ℕ
   pub areas : Areas
-
--- the number and the value of each answer: "how many is returned", and "A refusal carries only its number"
-abbrev pub outcomeOf : Semivariogram → Areas → Outcome
-outcomeOf (Bins k) a = record { number = 0; kept = k; areas = a }
-outcomeOf (Refused r) a = record { number = numberOf r; kept = 0; areas = a }
 
 -- a call's lists and numbers as what it takes
 abbrev pub samplesOf : List Float → List Float → ℕ → ℕ → Samples

@@ -8,8 +8,8 @@ use mathlib.Core.Logic.{_↔_, _⊎_, inl, inr}
 use mathlib.Core.List.{List, [], _∷_, map, List·Memᴰ, List·Memᴰ·head, List·Memᴰ·tail, List·Memᴰ·not-nil, List·Memᴰ·cases-cons, List·Memᴰ·append-cases}
 use mathlib.Core.List.{Memᴰ·cast, Memᴰ·append-left, Memᴰ·append-right, Memᴰ·map, Memᴰ·of-map}
 use lib.ListN.{length, length-append, length-map}
-use Rattle.semivariogram.specs.Pairs.{Pair, pair, rising, pairsFrom, pairs}
-use Rattle.semivariogram.proofs.Lists.{length-rising}
+use Rattle.bins.specs.Pairs.{Pair, pair, rising, pairsFrom, pairs}
+use Rattle.bins.proofs.Lists.{length-rising}
 
 -- twice the pairs of k samples, and one for each sample, is k times k
 pub twice : (i k : ℕ) → 2 * length (pairsFrom i k) + k ≡ k * k

@@ -14,10 +14,10 @@ use Rattle.error.specs.Rules.{Ruled, NoneApplies}
 use Rattle.ieee.specs.Floats.{zeroFloat}
 use Rattle.ieee.specs.Values.{multiple, signOf}
 use Rattle.survey.specs.declared.Limits.{Limits}
-use Rattle.semivariogram.specs.Pairs.{Pair, pair, rising, pairs, filtered}
-use Rattle.semivariogram.specs.Call.{Samples, Areas, Outcome, samples}
-use Rattle.semivariogram.specs.Rules.{rules}
-use Rattle.semivariogram.specs.Bins.{asFloat, half, lag, halfSquare, longest, binOf}
+use Rattle.bins.specs.Pairs.{Pair, pair, rising, pairs, filtered}
+use Rattle.bins.specs.Call.{Samples, Areas, Outcome, samples}
+use Rattle.bins.specs.Rules.{rules}
+use Rattle.bins.specs.Bins.{asFloat, half, lag, halfSquare, longest, binOf}
 
 -- "greatest distance": no pair is farther apart than h, and h is the distance of a pair, or the +0 from which the search begins
 pub record Greatest (q : Samples) (h : Float) : Type 0 where

@@ -10,8 +10,8 @@ use lib.Dec.{eqb, ltb}
 use lib.ListN.{length, getD, length-append}
 use lib.Seq.{getD-append-seam}
 use borrow.Author.Tests.{eq-eqb, ne-eqb, ltb-false}
-use Rattle.semivariogram.specs.Pairs.{rising, filtered}
-use Rattle.semivariogram.specs.Binned.{total}
+use Rattle.bins.specs.Pairs.{rising, filtered}
+use Rattle.bins.specs.Binned.{total}
 
 -- ---- rising numbers
 pub length-rising : (start k : ℕ) → length (rising start k) ≡ k

@@ -14,19 +14,19 @@ use Rattle.area.proofs.Start.{from-start, kept-start, take-mapped}
 use Rattle.error.specs.Rules.{Ruled}
 use Rattle.error.proofs.Rules.{ruled-exactly}
 use Rattle.survey.specs.declared.Limits.{Limits}
-use Rattle.semivariogram.specs.Pairs.{rising, filtered}
-use Rattle.semivariogram.specs.Call.{Samples, Areas, Outcome}
-use Rattle.semivariogram.specs.Rules.{rules}
-use Rattle.semivariogram.specs.Refusals.{refusal}
-use Rattle.semivariogram.specs.Bins.{asFloat, half, longest, width, count, average, centre, keptBins, filled}
-use Rattle.semivariogram.specs.Semivariogram.{callWhere, calculated}
-use Rattle.semivariogram.specs.Binned.{pairsIn, total, isKept, rank, Row, KeptAt, Binned, Ends}
-use Rattle.semivariogram.proofs.Lists.{length-rising, filtered-length, Ranked, at-rank, from-rank}
-use Rattle.semivariogram.proofs.Bins.{count-is, average-is, kept-bins, kept-counts}
-use Rattle.semivariogram.proofs.Told.{told}
-use Rattle.semivariogram.proofs.Accepted.{Accepted, accepted, accepted-exactly}
-use Rattle.semivariogram.proofs.Farthest.{farthest}
-use Rattle.semivariogram.proofs.BinOf.{bin-of}
+use Rattle.bins.specs.Pairs.{rising, filtered}
+use Rattle.bins.specs.Call.{Samples, Areas, Outcome}
+use Rattle.bins.specs.Rules.{rules}
+use Rattle.bins.specs.Refusals.{refusal}
+use Rattle.bins.specs.Bins.{asFloat, half, longest, width, count, average, centre, keptBins, filled}
+use Rattle.bins.specs.Semivariogram.{callWhere, calculated}
+use Rattle.bins.specs.Binned.{pairsIn, total, isKept, rank, Row, KeptAt, Binned, Ends}
+use Rattle.bins.proofs.Lists.{length-rising, filtered-length, Ranked, at-rank, from-rank}
+use Rattle.bins.proofs.Bins.{count-is, average-is, kept-bins, kept-counts}
+use Rattle.bins.proofs.Told.{told}
+use Rattle.bins.proofs.Accepted.{Accepted, accepted, accepted-exactly}
+use Rattle.bins.proofs.Farthest.{farthest}
+use Rattle.bins.proofs.BinOf.{bin-of}
 
 -- ---- the kept bins
 fewer : (q : Samples) → length (keptBins q) ≤ q .bins

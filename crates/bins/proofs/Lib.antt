@@ -1,0 +1,9 @@
+pub mod Lists
+pub mod Pairs
+pub mod Bins
+pub mod Told
+pub mod Accepted
+pub mod Greatest
+pub mod Farthest
+pub mod BinOf
+pub mod Calculated
