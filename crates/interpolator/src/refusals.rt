@@ -1,9 +1,9 @@
 // What turns a call of the interpolator away before it eliminates: 13, 1, 2, 9, 11, 12, 17, 18, in this order.
 use crate::KrigingInterpolator;
-use interpolation::KrigingType;
 use crate::trend::trend_terms;
 use error::Judgement;
 use error::Refusal;
+use interpolation::KrigingType;
 use survey::Limits;
 use variogram::Variogram;
 ghost use mathlib.Core.Path.{_≡_};
@@ -97,7 +97,7 @@ pub(crate) fn interpolation_refusal(
     if wrong_dimension(kriging_type, d) {
         return Judgement::Refused(Refusal::Dimension);
     }
-    let points_fit = survey::counts::is_product(points.len(), n, d);
+    let points_fit = survey_checks::counts::is_product(points.len(), n, d);
     let left_over = targets.len() % d;
     if !points_fit {
         return Judgement::Refused(Refusal::CoordinatesLength);
@@ -112,7 +112,7 @@ pub(crate) fn interpolation_refusal(
     if number_not_finite(interpolator.variogram, values, points, targets) {
         return Judgement::Refused(Refusal::NotFinite);
     }
-    let model = survey::refusals::model_refusal(interpolator.variogram);
+    let model = survey_checks::refusals::model_refusal(interpolator.variogram);
     if let Judgement::Refused(_) = model {
         return model;
     }

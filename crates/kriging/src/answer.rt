@@ -70,7 +70,7 @@ pub(crate) fn krige_nodes(
 {
     let n = values.len();
     let size = n + p;
-    let k = survey::counts::external_columns(bases);
+    let k = survey_checks::counts::external_columns(bases);
     let finite_drift = audit::drift_finite(drift, n, p);
     store_zeros(coefficients, p);
     for q in 0..nodes.len() / 2 {

@@ -74,7 +74,7 @@ fn fill_row(
         } else {
             fill_powers(code, x, y, row, col);
         }
-        col += survey::counts::drift_basis_columns(code);
+        col += survey_checks::counts::drift_basis_columns(code);
     }
 }
 

@@ -151,7 +151,7 @@ fn fit_taken(
         (now (weights .entry)) (now (coefficients .entry))) ⌝ }
 {
     let n = values.len();
-    let p = survey::counts::drift_columns(bases);
+    let p = survey_checks::counts::drift_columns(bases);
     let mut drift = [0.0; 576];
     fill_drift(bases, external, coords, n, p, &mut drift);
     assemble(coords, options, &drift, n, p, work);

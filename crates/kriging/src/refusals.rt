@@ -74,7 +74,7 @@ pub(crate) fn fit_refusal(
         (areasOf (now (work .entry)) (now (predicted .entry)) (now (variance .entry)) (now (verdicts .entry))
         (now (weights .entry)) (now (coefficients .entry))) ⌝ }
 {
-    let survey = survey::refusals::survey_refusal(
+    let survey = survey_checks::refusals::survey_refusal(
         limits,
         values,
         coords,
@@ -89,7 +89,7 @@ pub(crate) fn fit_refusal(
         return survey;
     }
     let n = values.len();
-    let p = survey::counts::drift_columns(bases);
+    let p = survey_checks::counts::drift_columns(bases);
     let m = nodes.len() / 2;
     if elimination::too_short(work.len(), n + p) {
         return Judgement::Refused(Refusal::WorkArea);

@@ -54,7 +54,7 @@ pub(crate) fn calculate_refusal(
     if outside(d, 1, 3) {
         return Judgement::Refused(Refusal::Dimension);
     }
-    if !survey::counts::is_product(points.len(), n, d) {
+    if !survey_checks::counts::is_product(points.len(), n, d) {
         return Judgement::Refused(Refusal::CoordinatesLength);
     }
     if n < 2 {

@@ -1,7 +1,5 @@
 // A survey besides its lists: the options of a fit, and what a call takes at most.
-// The counts of its codes and what turns it away stand in files of their own.
-pub mod counts; // counts.rt: drift columns p and external columns k
-pub mod refusals; // refusals.rt: 1 to 12
+// The counts of its codes and what turns it away are defined in specs/; their code is in the crate survey_checks.
 
 use variogram::Variogram;
 use variogram::VariogramModel;

@@ -71,7 +71,7 @@ fits c =
     let l : wells s < 49 = omega arith in
     omega (arith, row-end (columns s) (wells s) 49 l, p)
 
--- let p = survey::counts::drift_columns(bases);
+-- let p = survey_checks::counts::drift_columns(bases);
 drift-columns-requires : tie.Need-drift-columns-requires
 drift-columns-requires c κs = search needs
 

@@ -98,7 +98,7 @@ past-13 c = let h = c .before in opens (entry-0 h) ∙ past 13 _ (sym (h .wrong-
 axis : (c : tie.Else1) → 1 ≤ entry-1 c .args .d
 axis c = let a = entry-1 c .args in some-axis (a .d) _ (sym (c .before .wrong-dimension .ensures) ∙ c .if1 .left)
 
--- let points_fit = survey::counts::is_product(points.len(), n, d);
+-- let points_fit = survey_checks::counts::is_product(points.len(), n, d);
 is-product-requires : tie.Need-is-product-requires
 is-product-requires c κs = search needs
 
@@ -148,7 +148,7 @@ returns-5 c = let h = c .before in sym (past-9 (h .before) ∙ here 11 _ (sym (h
 past-11 : (c : tie.Else5) → whole (entry-5 c) ≡ firstOf (left-12 (entry-5 c))
 past-11 c = let h = c .before in past-9 (h .before) ∙ past 11 _ (sym (h .number-not-finite .ensures) ∙ c .if5 .left)
 
--- let model = survey::refusals::model_refusal(interpolator.variogram);
+-- let model = survey_checks::refusals::model_refusal(interpolator.variogram);
 model-refusal-requires : tie.Need-model-refusal-requires
 model-refusal-requires c κs = search needs
 

@@ -73,7 +73,7 @@ below c = omega (arith, c .before .loop .inv .1)
 add-size : tie.Need-add-size Inv-loop μ-loop
 add-size c = omega arith
 
--- let k = survey::counts::external_columns(bases);
+-- let k = survey_checks::counts::external_columns(bases);
 external-columns-requires : tie.Need-external-columns-requires Inv-loop μ-loop
 external-columns-requires c κs = search needs
 

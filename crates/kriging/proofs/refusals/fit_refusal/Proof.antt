@@ -63,7 +63,7 @@ at-columns c = at-survey (c .before .before .before)
 abbrev at-work : tie.Else1 → tie.Start
 at-work c = at-columns (c .before .before)
 
--- let survey = survey::refusals::survey_refusal( ..
+-- let survey = survey_checks::refusals::survey_refusal( ..
 survey-refusal-requires : tie.Need-survey-refusal-requires
 survey-refusal-requires c κs = search needs
 
@@ -90,7 +90,7 @@ past-survey c =
     let s = at-survey h in
     parts s ∙ accepted (h .survey-refusal .result) (of-survey s) (of-areas s) tt (c .enum-told2 .given .1) (survey-is h)
 
--- let p = survey::counts::drift_columns(bases);
+-- let p = survey_checks::counts::drift_columns(bases);
 drift-columns-requires : tie.Need-drift-columns-requires
 drift-columns-requires c κs = search needs
 

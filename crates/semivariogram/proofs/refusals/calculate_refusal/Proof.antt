@@ -84,7 +84,7 @@ returns c = let h = c .before in sym (opens (entry-0 h) ∙ here 13 _ (sym (h .o
 past-1 : (c : tie.Else1) → whole (entry-1 c) ≡ firstOf (from-points (entry-1 c))
 past-1 c = let h = c .before in opens (entry-0 h) ∙ past 13 _ (sym (h .outside .ensures) ∙ c .if1 .left)
 
--- if !survey::counts::is_product(points.len(), n, d)
+-- if !survey_checks::counts::is_product(points.len(), n, d)
 is-product-requires : tie.Need-is-product-requires
 is-product-requires c κs = search needs
 
