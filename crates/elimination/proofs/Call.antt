@@ -9,14 +9,17 @@ use lib.ListN.{length}
 use lib.Ieee.{Float}
 use Rattle.area.specs.Area.{Kept}
 use Rattle.area.proofs.Kept.{kept-then}
+use Rattle.error.specs.declared.Refusal.{Refusal}
+use Rattle.error.specs.Numbers.{numberOf}
 use Rattle.error.specs.Outcome.{Outcome, outcome}
 use Rattle.error.specs.Tests.{Test, firstOf}
 use Rattle.error.specs.Rules.{Rule, Ruled, NoneApplies, positive, lacks, Told, no-more, tells}
+use Rattle.error.proofs.First.{numbers}
 use Rattle.error.proofs.Tells.{below}
 use Rattle.error.proofs.Rules.{ruled-exactly, none-exactly, never-given}
 use Rattle.elimination.specs.declared.Elimination.{Elimination}
 use Rattle.elimination.specs.declared.Elimination.the-variants.{Done, Stopped, TooShort}
-use Rattle.elimination.specs.Elimination.{eliminated, Through, StopsAt, Outcome as Eliminated}
+use Rattle.elimination.specs.Elimination.{eliminated, outcomeOf, Through, StopsAt, Outcome as Eliminated}
 use Rattle.elimination.specs.Call.{workTests, workRules, Call, matrix, afterElimination, callWhere, called, workAfter, Ends}
 use Rattle.elimination.proofs.Keeps.{kept-stepped}
 use Rattle.elimination.proofs.Laid.{kept-laid}
@@ -44,13 +47,26 @@ module _ {A : Type 0} (c : Call A) where
   unfolding called
   called-is k e = ap (λ (n : ℕ). callWhere n c) e
 
-  pub one-applies : (k : ℕ) → c .refusal ≡ suc k → called c ≡ outcome (suc k) (c .lent)
+  one-applies : (k : ℕ) → c .refusal ≡ suc k → called c ≡ outcome (suc k) (c .lent)
   unfolding callWhere
   one-applies k e = called-is (suc k) e
 
-  pub none-applies : (o : Eliminated) → c .refusal ≡ 0 → eliminated (c .skip) (c .size) (matrix c) ≡ o → called c ≡ afterElimination c (o .answer) (o .area)
+  none-applies : (o : Eliminated) → c .refusal ≡ 0 → eliminated (c .skip) (c .size) (matrix c) ≡ o → called c ≡ afterElimination c (o .answer) (o .area)
   unfolding callWhere
   none-applies o e f = called-is 0 e ∙ ap (λ (o : Eliminated). afterElimination c (o .answer) (o .area)) f
+
+  -- "A refusal carries only its number and writes nothing": an answer that has a refusal, where the call has its number
+  pub refused-there : (r : Refusal) → numberOf r ≡ c .refusal → outcome (numberOf r) (c .lent) ≡ called c
+  refused-there r e = by (numberOf r) (numbers r) e
+    where
+      by : (k : ℕ) → k ≢ 0 → k ≡ c .refusal → outcome k (c .lent) ≡ called c
+      by zero n e = absurd (n refl)
+      by (suc k) n e = sym (one-applies k (sym e))
+
+  -- and an elimination that ended so, where no rule applies
+  pub eliminated-there : (r : Elimination) (xs : List Float) → c .refusal ≡ 0 → outcomeOf r xs ≡ eliminated (c .skip) (c .size) (matrix c)
+      → afterElimination c r xs ≡ called c
+  eliminated-there r xs e h = sym (none-applies (outcomeOf r xs) e (sym h))
 
   pub where-it-solves : c .refusal ≡ 0 → Solves c → called c ≡ outcome 0 (c .answered (workAfter c (c .size)))
   unfolding afterElimination

@@ -10,3 +10,4 @@ pub mod Entries
 pub mod Laid
 pub mod Call
 pub mod Agree
+pub mod Beside

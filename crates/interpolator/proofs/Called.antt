@@ -1,24 +1,22 @@
 -- The whole call as the code goes through it: turned away, or eliminated, and then by how the elimination ended. Assumes nothing.
-use Prim.Native.Nat.{ℕ, zero, suc}
+use Prim.Native.Nat.{ℕ}
 use native.Mathlib.Omega.{arith}
-use mathlib.Core.Path.{_≡_, refl, ap, sym, _∙_}
+use mathlib.Core.Path.{_≡_, ap, sym, _∙_}
 use mathlib.Core.Logic.{_≢_}
-use mathlib.Core.Bool.{true, false}
-use mathlib.Core.List.{List, [], _∷_}
+use mathlib.Core.Bool.{false}
+use mathlib.Core.List.{List}
 use lib.Ieee.{Float}
-use Rattle.error.specs.declared.Judgement.the-variants.{Refused}
 use Rattle.error.specs.declared.Refusal.{Refusal}
 use Rattle.error.specs.Numbers.{numberOf}
 use Rattle.error.specs.Outcome.{outcome}
-use Rattle.error.specs.Tests.{test}
 use Rattle.error.specs.Rules.{NoneApplies}
-use Rattle.error.proofs.First.{refused, here, none}
 use Rattle.error.proofs.Rules.{none-exactly}
 use Rattle.elimination.specs.declared.Elimination.{Elimination}
 use Rattle.elimination.specs.declared.Elimination.the-variants.{Done, Stopped, TooShort}
 use Rattle.elimination.specs.Elimination.{eliminated, outcomeOf, Outcome as Eliminated}
 use Rattle.elimination.specs.Inverse.{laid}
-use Rattle.elimination.specs.Call.{Call, afterElimination, callWhere, called}
+use Rattle.elimination.specs.Call.{afterElimination}
+use Rattle.elimination.proofs.Call as Call
 use Rattle.elimination.proofs.Laid.{kept-laid}
 use Rattle.elimination.proofs.Stops.{refused-exactly}
 use Rattle.survey.specs.declared.Limits.{Limits}
@@ -30,25 +28,11 @@ use Rattle.interpolation.specs.Interpolation.{answered, interpolationCall, inte
 use Rattle.interpolation.proofs.Told.{all-told}
 use Rattle.interpolation.proofs.Accepted.{accepted}
 
--- 0 is no refusal's number: a test past it would count
-some-number : (r : Refusal) → numberOf r ≢ 0
-some-number r z =
-    let e : numberOf r ≡ 1 = refused (Refused r) r [] (test 1 true ∷ []) refl (z ∙ sym none) ∙ here 1 [] refl in
-    omega arith
-
--- any number but 0 turns a call away
-by-number : {A : Type 0} (n : ℕ) (c : Call A) → n ≢ 0 → callWhere n c ≡ outcome n (c .lent)
-unfolding callWhere
-by-number zero c h = absurd (h refl)
-by-number (suc n) c h = refl
-
 module _ (limits : Limits) (q : Query) (a : Areas) where
   -- "A refusal carries only its number and writes nothing"
   pub turned-away : (r : Refusal) → numberOf r ≡ refusal limits q a → outcome (numberOf r) a ≡ interpolated limits q a
-  unfolding interpolated called
-  turned-away r e =
-      let c : Call Areas = interpolationCall limits q a in
-      sym (by-number (numberOf r) c (some-number r)) ∙ ap (λ (n : ℕ). callWhere n c) e
+  unfolding interpolated
+  turned-away r e = Call.refused-there (interpolationCall limits q a) r e
 
   -- where no number is given, no rule applies
   pub not-turned-away : refusal limits q a ≡ 0 → NoneApplies (rules limits q a)
@@ -66,10 +50,8 @@ module _ (limits : Limits) (q : Query) (a : Areas) where
 
     after : (o : Elimination) → outcomeOf o work ≡ eliminated false s xs
         → afterElimination (interpolationCall limits q a) o work ≡ interpolated limits q a
-    unfolding interpolated called callWhere
-    after o e =
-        let c : Call Areas = interpolationCall limits q a in
-        ap (λ (d : Eliminated). afterElimination c (d .answer) (d .area)) (whole o e) ∙ ap (λ (n : ℕ). callWhere n c) (sym zero)
+    unfolding interpolated
+    after o e = Call.eliminated-there (interpolationCall limits q a) o work zero (whole o e)
 
     -- "On success the work area holds the finished elimination": every target is answered from it
     pub gone-through : (fs vs : List Float) → outcomeOf Done work ≡ eliminated false s xs

@@ -1,16 +1,15 @@
--- The entries of the interpolator's matrix by the part that they stand in, and the identity beside them. Assumes nothing.
+-- The entries of the interpolator's matrix by the part that they stand in. Assumes nothing.
 use Prim.Native.Nat.{ℕ, _+_, _*_, _-_, _<_, _≤_}
 use native.Mathlib.Omega.{arith}
 use mathlib.Core.Path.{_≡_, refl, _∙_}
 use mathlib.Core.Logic.{_≢_}
 use mathlib.Core.List.{List}
-use borrow.Author.Tests.{lt-ltb, le-ltb, eq-eqb, ne-eqb}
+use borrow.Author.Tests.{lt-ltb, le-ltb}
 use lib.Ieee.{Float, nan, binary64, sub, mul}
 use lib.ListN.{getD}
 use Rattle.ieee.specs.Floats.{zeroFloat, oneFloat}
 use Rattle.variogram.specs.Model.{semivariance}
 use Rattle.variogram.specs.Distance.{axisFrom, distance}
-use Rattle.elimination.specs.Inverse.{besideIdentity}
 use Rattle.interpolation.specs.declared.KrigingType.{KrigingType}
 use Rattle.interpolation.specs.declared.KrigingType.the-variants.{Ordinary, Universal}
 use Rattle.interpolator.specs.declared.KrigingInterpolator.{KrigingInterpolator}
@@ -81,17 +80,3 @@ module _ (interpolator : KrigingInterpolator) (values points targets : List Floa
   pub entry-unread : entry (known interpolator values points d) ≡ entry (queryOf interpolator values points targets d)
   unfolding entry column covariance trendAt
   entry-unread = refl
-
--- ---- the identity beside a matrix
-module _ (s : ℕ) (matrix : ℕ → ℕ → Float) (i c : ℕ) where
-  pub beside-left : {v : Float} → c < s → v ≡ matrix i c → v ≡ besideIdentity s matrix i c
-  unfolding besideIdentity
-  beside-left h e = e ∙ rw (lt-ltb c s h)
-
-  pub beside-one : s ≤ c → c ≡ s + i → oneFloat ≡ besideIdentity s matrix i c
-  unfolding besideIdentity
-  beside-one h e = rw (le-ltb c s h, eq-eqb c (s + i) e)
-
-  pub beside-zero : s ≤ c → c ≢ s + i → zeroFloat ≡ besideIdentity s matrix i c
-  unfolding besideIdentity
-  beside-zero h e = rw (le-ltb c s h, ne-eqb c (s + i) e)

@@ -36,25 +36,12 @@ fn wrong_dimension(kriging_type: KrigingType, d: usize) -> bool
     }
 }
 
-// 11: whether the nugget, the sill or the range is not finite.
-fn variogram_not_finite(v: Variogram) -> bool
-    ensures { λ r. ⌜ r ≡ variogramNotFinite v ⌝ }
-{
-    if !ieee::is_finite(v.nugget) {
-        return true;
-    }
-    if !ieee::is_finite(v.sill) {
-        return true;
-    }
-    !ieee::is_finite(v.range)
-}
-
 // 11: whether a number that the call takes is not finite.
 fn number_not_finite(v: Variogram, values: &[f64], points: &[f64], targets: &[f64]) -> bool
     ensures { λ r. ⌜ r ≡ (variogramNotFinite v || (not (allFinite (now (values .entry)))
         || (not (allFinite (now (points .entry))) || not (allFinite (now (targets .entry)))))) ⌝ }
 {
-    if variogram_not_finite(v) {
+    if survey_checks::refusals::variogram_not_finite(v) {
         return true;
     }
     if !ieee::all_finite(values) {

@@ -1,9 +1,8 @@
 -- The fit stage by stage, as its code goes: F and the matrix are the paper's, and each way in which the call ends is that of its definition. Assumes nothing.
-use Prim.Native.Nat.{ℕ, zero, suc, _+_, _-_, _*_, _≤_, _<_}
+use Prim.Native.Nat.{ℕ, _+_, _-_, _*_, _≤_, _<_}
 use native.Mathlib.Decide.{decLt}
 use native.Mathlib.Omega.{arith}
-use mathlib.Core.Path.{_≡_, refl, ap, sym, _∙_}
-use mathlib.Core.Logic.{_≢_}
+use mathlib.Core.Path.{_≡_, ap, sym, _∙_}
 use mathlib.Core.Bool.{Bool, true, cond}
 use mathlib.Core.List.{List}
 use borrow.Author.Tests.{le-ltb}
@@ -16,12 +15,11 @@ use Rattle.ieee.specs.Floats.{zeroFloat, oneFloat}
 use Rattle.error.specs.declared.Refusal.{Refusal}
 use Rattle.error.specs.Numbers.{numberOf}
 use Rattle.error.specs.Outcome.{Outcome, outcome}
-use Rattle.error.proofs.First.{numbers}
 use Rattle.elimination.specs.declared.Elimination.{Elimination}
 use Rattle.elimination.specs.Elimination.{outcomeOf, eliminated}
 use Rattle.elimination.specs.Inverse.{besideIdentity, laid}
-use Rattle.elimination.specs.Call.{called, callWhere, afterElimination}
-use Rattle.elimination.proofs.Call.{one-applies, none-applies}
+use Rattle.elimination.specs.Call.{afterElimination}
+use Rattle.elimination.proofs.Call as Call
 use Rattle.survey.specs.Limits.{base}
 use Rattle.survey.specs.Survey.{Survey, wells, columns, size}
 use Rattle.fit.specs.Areas.{Areas}
@@ -72,14 +70,10 @@ module _ (s : Survey) (a : Areas) where
   -- turned away
   pub refused-there : (r : Refusal) → numberOf r ≡ refusal base s a → outcome (numberOf r) a ≡ fitted base s a
   unfolding fitted
-  refused-there r e = by (numberOf r) (numbers r) e
-    where
-      by : (k : ℕ) → k ≢ 0 → k ≡ refusal base s a → outcome k a ≡ called (fitCall base s a)
-      by zero n e = absurd (n refl)
-      by (suc k) n e = sym (one-applies (fitCall base s a) k (sym e))
+  refused-there r e = Call.refused-there (fitCall base s a) r e
 
   -- taken, and eliminated
   pub taken-there : (r : Elimination) (xs : List Float) → refusal base s a ≡ 0 → outcomeOf r xs ≡ eliminated true (size s) (assembled s (a .work))
       → afterElimination (fitCall base s a) r xs ≡ fitted base s a
   unfolding fitted
-  taken-there r xs e h = sym (none-applies (fitCall base s a) (outcomeOf r xs) e (sym h))
+  taken-there r xs e h = Call.eliminated-there (fitCall base s a) r xs e h

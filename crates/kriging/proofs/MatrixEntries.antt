@@ -1,15 +1,14 @@
--- The entries of a fit's matrix by the part that they stand in: between wells, F, its transpose, zeros; and the identity beside them. Assumes nothing.
+-- The entries of a fit's matrix by the part that they stand in: between wells, F, its transpose, zeros. Assumes nothing.
 use Prim.Native.Nat.{ℕ, _+_, _*_, _-_, _<_, _≤_}
-use mathlib.Core.Path.{_≡_, _∙_}
+use mathlib.Core.Path.{_≡_}
 use mathlib.Core.Logic.{_≢_}
 use mathlib.Core.List.{List}
 use borrow.Author.Tests.{lt-ltb, le-ltb, eq-eqb, ne-eqb}
 use lib.Ieee.{Float, nan, binary64, add}
 use lib.ListN.{getD}
-use Rattle.ieee.specs.Floats.{zeroFloat, oneFloat}
+use Rattle.ieee.specs.Floats.{zeroFloat}
 use Rattle.variogram.specs.Model.{semivariance}
 use Rattle.variogram.specs.Distance.{distance2d}
-use Rattle.elimination.specs.Inverse.{besideIdentity}
 use Rattle.survey.specs.declared.UniversalKrigingOptions.{UniversalKrigingOptions}
 use Rattle.survey.specs.Survey.{xOf, yOf}
 use Rattle.fit.specs.Assembly.{between, joined}
@@ -44,16 +43,3 @@ module _ (n : ℕ) (gamma f : ℕ → ℕ → Float) (i j : ℕ) where
   pub lower-right : n ≤ i → n ≤ j → zeroFloat ≡ joined n gamma f i j
   unfolding joined
   lower-right hi hj = rw (le-ltb i n hi, le-ltb j n hj)
-
-module _ (s : ℕ) (entry : ℕ → ℕ → Float) (i c : ℕ) where
-  pub beside-left : {v : Float} → c < s → v ≡ entry i c → v ≡ besideIdentity s entry i c
-  unfolding besideIdentity
-  beside-left h e = e ∙ rw (lt-ltb c s h)
-
-  pub beside-one : s ≤ c → c ≡ s + i → oneFloat ≡ besideIdentity s entry i c
-  unfolding besideIdentity
-  beside-one h e = rw (le-ltb c s h, eq-eqb c (s + i) e)
-
-  pub beside-zero : s ≤ c → c ≢ s + i → zeroFloat ≡ besideIdentity s entry i c
-  unfolding besideIdentity
-  beside-zero h e = rw (le-ltb c s h, ne-eqb c (s + i) e)

@@ -2,17 +2,13 @@
 use Prim.Native.Nat.{ℕ, zero, suc, _+_, _≤_}
 use native.Mathlib.Nat.{zero-add}
 use native.Mathlib.Omega.{arith}
-use mathlib.Core.Path.{_≡_, refl, ap, ap₂, sym, subst, _∙_}
-use mathlib.Core.Logic.{_≢_}
-use mathlib.Core.Bool.{true}
-use mathlib.Core.List.{[], _∷_, map}
+use mathlib.Core.Path.{_≡_, ap, ap₂, sym, subst, _∙_}
+use mathlib.Core.List.{map}
 use lib.ListN.{length, replicate, getD-replicate}
 use lib.Ieee.{Float, nan, binary64, div}
 use Rattle.error.specs.Numbers.{numberOf}
-use Rattle.error.specs.Tests.{test}
-use Rattle.error.specs.declared.Judgement.the-variants.{Refused}
 use Rattle.error.specs.declared.Refusal.{Refusal}
-use Rattle.error.proofs.First.{here, none, refused}
+use Rattle.error.proofs.First.{numbers}
 use Rattle.ieee.specs.Floats.{zeroFloat}
 use Rattle.survey.specs.declared.Limits.{Limits}
 use Rattle.bins.specs.Pairs.{pairs}
@@ -40,11 +36,6 @@ none-added q h = record {
 }
 
 -- ---- the end
-numbered : (r : Refusal) → numberOf r ≢ 0
-numbered r z =
-    let one : numberOf r ≡ 1 = refused (Refused r) r [] (test 1 true ∷ []) refl (z ∙ sym none) ∙ here 1 [] refl in
-    omega arith
-
 -- "A refusal carries only its number and writes nothing"
 pub refused-is : (limits : Limits) (q : Samples) (a : Areas) (r : Refusal) → numberOf r ≡ refusal limits q a
     → (record { number = numberOf r; kept = 0; areas = a }) ≡ calculated limits q a
@@ -52,7 +43,7 @@ unfolding calculated callWhere
 refused-is limits q a r e = go (refusal limits q a) e
   where
     go : (n : ℕ) → numberOf r ≡ n → (record { number = numberOf r; kept = 0; areas = a }) ≡ callWhere n q a
-    go zero f = absurd (numbered r f)
+    go zero f = absurd (numbers r f)
     go (suc k) f = ap (λ (n : ℕ). record { number = n; kept = 0; areas = a }) f
 
 pub done-is : (limits : Limits) (q : Samples) (a e : Areas) (n : ℕ) → refusal limits q a ≡ 0 → n ≡ length (keptBins q) → e ≡ filled q a

@@ -1,12 +1,12 @@
 // What turns a survey away, 1 to 12, in the parts that calls join.
 // How many nodes there are, m, and their externals stand apart from the survey's own lists.
-use survey::Limits;
-use survey::UniversalKrigingOptions;
 use crate::counts::external_columns;
 use crate::counts::is_product;
 use crate::counts::more_columns;
 use error::Judgement;
 use error::Refusal;
+use survey::Limits;
+use survey::UniversalKrigingOptions;
 use variogram::Variogram;
 use variogram::VariogramModel;
 ghost use mathlib.Core.Path.{_≡_};
@@ -102,7 +102,7 @@ pub fn limit_refusal(limits: Limits, n: usize, bases: &[u8], m: usize) -> Judgem
 }
 
 // 11: whether the nugget, the sill or the range is not finite.
-fn variogram_not_finite(v: Variogram) -> bool
+pub fn variogram_not_finite(v: Variogram) -> bool
     ensures { λ r. ⌜ r ≡ variogramNotFinite v ⌝ }
 {
     if !ieee::is_finite(v.nugget) {

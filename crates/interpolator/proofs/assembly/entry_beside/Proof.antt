@@ -4,7 +4,7 @@ use native.Mathlib.Omega.{arith}
 use lib.Ieee.{Float}
 use Rattle.interpolator.specs.Outcome.{known}
 use Rattle.interpolation.specs.Assembly.{entry}
-use Rattle.interpolator.proofs.Entries.{beside-left, beside-one, beside-zero}
+use Rattle.elimination.proofs.Beside.{beside-left, beside-one, beside-zero}
 use Rattle.interpolator.proofs.assembly.entry_beside.Statement.{statement}
 use Rattle.interpolator.proofs.assembly.entry_beside.Tie as tie
 

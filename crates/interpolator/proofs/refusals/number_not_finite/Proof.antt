@@ -34,7 +34,7 @@ values-left c = not (allFinite (c .args .values .now)) || points-left c
 abbrev whole : tie.Start → Bool
 whole c = variogramNotFinite (c .args .v) || values-left c
 
--- if variogram_not_finite(v)
+-- if survey_checks::refusals::variogram_not_finite(v)
 variogram-not-finite-requires : tie.Need-variogram-not-finite-requires
 variogram-not-finite-requires c κs = search needs
 

@@ -2,7 +2,8 @@
 use Prim.Native.Nat.{ℕ, _+_}
 use lib.Ieee.{Float}
 use borrow.Author.Needs.{needs}
-use Rattle.kriging.proofs.MatrixEntries.{matrix, beside-left, beside-one, beside-zero}
+use Rattle.elimination.proofs.Beside.{beside-left, beside-one, beside-zero}
+use Rattle.kriging.proofs.MatrixEntries.{matrix}
 use Rattle.kriging.proofs.assembly.entry_beside.Statement.{statement}
 use Rattle.kriging.proofs.assembly.entry_beside.Tie as tie
 
