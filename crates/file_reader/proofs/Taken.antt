@@ -2,6 +2,7 @@
 use Prim.Native.Nat.{ℕ, _+_, _-_, _*_, _≤_}
 use native.Mathlib.Omega.{arith}
 use mathlib.Core.Path.{_≡_, ap, sym, _∙_, subst}
+use mathlib.Core.Bool.{Bool}
 use mathlib.Core.List.{List}
 use lib.ListN.{length, drop}
 use lib.Ieee.{Float, nan}
@@ -11,9 +12,10 @@ use Rattle.survey_file.specs.Contents.{numberCount}
 use Rattle.survey_file.specs.File.{fileLength}
 use Rattle.survey_file.specs.Areas.{Areas, filledWith}
 use Rattle.survey_file.specs.Rules.{WellFormed, Room}
+use Rattle.survey_file.specs.Refusals.{shortArea}
 use Rattle.survey_file.specs.Reader.{surveyIn}
 use Rattle.file_reader.specs.declared.trailer.Counts.{Counts}
-use Rattle.file_reader.specs.Counts.{areasOf, countsIn}
+use Rattle.file_reader.specs.Counts.{areasOf, countsIn, shortOf}
 use Rattle.file_reader.proofs.Numbers.{part-numbers}
 
 pub record Meets (bytes : List ℕ) (areas : Areas) (k : Counts) : Type 0 where
@@ -39,24 +41,35 @@ meets version bytes areas k e w r =
       nodeExternal = r .nodeExternal;
     })
 
+-- areas are too short for these counts exactly where they are for the file
+pub short-is : (bytes : List ℕ) (areas : Areas) (k : Counts) (short : Bool) → k ≡ countsIn bytes
+    → short ≡ shortOf k (length (areas .values)) (length (areas .coords)) (length (areas .bases))
+    (length (areas .external)) (length (areas .nodes)) (length (areas .nodeExternal))
+    → short ≡ shortArea bytes areas
+short-is bytes areas k short e f =
+    let with : Counts → Bool = λ j. shortOf j (length (areas .values)) (length (areas .coords)) (length (areas .bases))
+    (length (areas .external)) (length (areas .nodes)) (length (areas .nodeExternal)) in
+    f ∙ ap with e
+
 -- the numbers of a file with these counts, and a list of them from its place on
 abbrev pub numbersOf : List ℕ → Counts → List Float
 numbersOf bytes k = f64sIn (numberCount (k .wells) (k .nodes) (k .externals)) (drop (k .start) bytes)
 
-pub list-is : (bytes : List ℕ) (k : Counts) (area : List Float) (at from count : ℕ) → at ≡ k .start + 8 * from
+pub list-is : (bytes : List ℕ) (k : Counts) (area after : List Float) (at from count : ℕ) → at ≡ k .start + 8 * from
     → from + count ≤ numberCount (k .wells) (k .nodes) (k .externals)
-    → copied nan (f64sIn count (drop at bytes)) area ≡ copied nan (part from count (numbersOf bytes k)) area
-list-is bytes k area at from count e h =
-    ap (λ (l : List Float). copied nan l area)
+    → after ≡ copied nan (f64sIn count (drop at bytes)) area → after ≡ copied nan (part from count (numbersOf bytes k)) area
+list-is bytes k area after at from count e h f =
+    f
+    ∙ ap (λ (l : List Float). copied nan l area)
     (ap (λ (p : ℕ). f64sIn count (drop p bytes)) e
     ∙ sym (part-numbers bytes (k .start) from count (numberCount (k .wells) (k .nodes) (k .externals)) h))
 
 -- the codes end where the trailer begins
-pub codes-is : (bytes : List ℕ) (k : Counts) (area : List ℕ) (at : ℕ) → length bytes ≡ at + k .bases + 14
-    → copied 0 (part at (k .bases) bytes) area ≡ copied 0 (part (length bytes - 14 - k .bases) (k .bases) bytes) area
-codes-is bytes k area at e =
+pub codes-is : (bytes : List ℕ) (k : Counts) (area after : List ℕ) (at : ℕ) → length bytes ≡ at + k .bases + 14
+    → after ≡ copied 0 (part at (k .bases) bytes) area → after ≡ copied 0 (part (length bytes - 14 - k .bases) (k .bases) bytes) area
+codes-is bytes k area after at e f =
     let is : at ≡ length bytes - 14 - k .bases = omega arith in
-    ap (λ (p : ℕ). copied 0 (part p (k .bases) bytes) area) is
+    f ∙ ap (λ (p : ℕ). copied 0 (part p (k .bases) bytes) area) is
 
 -- the areas with the lists of a file with these counts
 abbrev pub filledBy : List ℕ → Counts → Areas → Areas

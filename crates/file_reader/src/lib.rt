@@ -66,26 +66,10 @@ pub fn read_survey(
         (outcomeOf r (areasOf (now (values .exit)) (now (coords .exit)) (now (bases .exit)) (now (external .exit))
         (now (nodes .exit)) (now («node_external» .exit)))) ⌝ }
 {
-    let judgement = reader_refusal(
-        bytes,
-        values,
-        coords,
-        bases,
-        external,
-        nodes,
-        node_external,
-    );
+    let judgement = reader_refusal(bytes, values, coords, bases, external, nodes, node_external);
     if let Judgement::Refused(refusal) = judgement {
         return Read::Refused(refusal);
     }
-    read_lists(
-        bytes,
-        values,
-        coords,
-        bases,
-        external,
-        nodes,
-        node_external,
-    );
+    read_lists(bytes, values, coords, bases, external, nodes, node_external);
     Read::Done(read_header(bytes))
 }

@@ -15,7 +15,7 @@ ghost use Rattle.error.specs.Numbers.{judged};
 ghost use Rattle.survey_file.specs.File.{trailerLength, baseVersion};
 ghost use Rattle.survey_file.specs.Trailer.{lengthIn};
 ghost use Rattle.survey_file.specs.Refusals.{malformed, readerRefusal};
-ghost use Rattle.file_reader.specs.Counts.{areasOf, countsIn, shortOf, Small, wrongEnding};
+ghost use Rattle.file_reader.specs.Counts.{areasOf, shortOf, Small, wrongEnding};
 
 // The longest file.
 const LONGEST: usize = 65536;

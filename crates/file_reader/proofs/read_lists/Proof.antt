@@ -1,7 +1,7 @@
 -- `file_reader::read_lists` meets its contract: list after list, each from the byte after the one before. Assumes nothing.
 use Prim.Native.Nat.{_+_, _*_, _<_}
 use native.Mathlib.Omega.{arith}
-use mathlib.Core.Path.{_≡_, refl, _∙_}
+use mathlib.Core.Path.{_≡_, refl}
 use borrow.Author.Needs.{needs}
 use lib.ListN.{length}
 use Rattle.survey_file.specs.File.{baseVersion}
@@ -92,51 +92,53 @@ values-are : (c : tie.After-slice-known7) → values-read c .read-numbers .last 
 values-are c =
     let k = counts-2 c .read-counts .result in
     let a = at-entry (counts-2 c) .args in
-    values-read c .read-numbers .ensures .1 ∙ list-is (a .bytes .now) k (a .values .now) (k .start + 40) 5 (k .wells) refl (omega arith)
+    let r = values-read c .read-numbers in
+    list-is (a .bytes .now) k (a .values .now) (r .last .1 .1 .1 .0) (k .start + 40) 5 (k .wells) refl (omega arith) (r .ensures .1)
 
 coords-are : (c : tie.After-slice-known8) → coords-read c .read-numbers2 .last .1 .1 .1 .0 ≡ held (counts-3 c) .coords
 coords-are c =
     let k = counts-3 c .read-counts .result in
     let a = at-entry (counts-3 c) .args in
-    let r = coords-read c in
-    r .read-numbers2 .ensures .1
-    ∙ list-is (a .bytes .now) k (a .coords .now) (values-read (r .before .before) .read-numbers .result) (5 + k .wells) (2 * k .wells)
-    (coords-at (r .before .before)) (omega arith)
+    let r = coords-read c .read-numbers2 in
+    let before = coords-read c .before .before in
+    list-is (a .bytes .now) k (a .coords .now) (r .last .1 .1 .1 .0) (values-read before .read-numbers .result) (5 + k .wells) (2 * k .wells)
+    (coords-at before) (omega arith) (r .ensures .1)
 
 external-are : (c : tie.After-slice-known9) → external-read c .read-numbers3 .last .1 .1 .1 .0 ≡ held (counts-4 c) .external
 external-are c =
     let k = counts-4 c .read-counts .result in
     let a = at-entry (counts-4 c) .args in
-    let r = external-read c in
-    r .read-numbers3 .ensures .1
-    ∙ list-is (a .bytes .now) k (a .external .now) (coords-read (r .before .before) .read-numbers2 .result)
-    (5 + k .wells + 2 * k .wells) (k .externals * k .wells) (external-at (r .before .before)) (omega arith)
+    let r = external-read c .read-numbers3 in
+    let before = external-read c .before .before in
+    list-is (a .bytes .now) k (a .external .now) (r .last .1 .1 .1 .0) (coords-read before .read-numbers2 .result)
+    (5 + k .wells + 2 * k .wells) (k .externals * k .wells) (external-at before) (omega arith) (r .ensures .1)
 
 nodes-are : (c : tie.After-slice-known10) → nodes-read c .read-numbers4 .last .1 .1 .1 .0 ≡ held (counts-5 c) .nodes
 nodes-are c =
     let k = counts-5 c .read-counts .result in
     let a = at-entry (counts-5 c) .args in
-    let r = nodes-read c in
-    r .read-numbers4 .ensures .1
-    ∙ list-is (a .bytes .now) k (a .nodes .now) (external-read (r .before .before) .read-numbers3 .result)
-    (5 + k .wells + 2 * k .wells + k .externals * k .wells) (2 * k .nodes) (nodes-at (r .before .before)) (omega arith)
+    let r = nodes-read c .read-numbers4 in
+    let before = nodes-read c .before .before in
+    list-is (a .bytes .now) k (a .nodes .now) (r .last .1 .1 .1 .0) (external-read before .read-numbers3 .result)
+    (5 + k .wells + 2 * k .wells + k .externals * k .wells) (2 * k .nodes) (nodes-at before) (omega arith) (r .ensures .1)
 
 node-external-are : (c : tie.After-slice-known11) → node-external-read c .read-numbers5 .last .1 .1 .1 .0 ≡ held (counts-6 c) .nodeExternal
 node-external-are c =
     let k = counts-6 c .read-counts .result in
     let a = at-entry (counts-6 c) .args in
-    let r = node-external-read c in
-    r .read-numbers5 .ensures .1
-    ∙ list-is (a .bytes .now) k (a .node-external .now) (nodes-read (r .before .before) .read-numbers4 .result)
-    (5 + k .wells + 2 * k .wells + k .externals * k .wells + 2 * k .nodes) (k .externals * k .nodes) (node-external-at (r .before .before)) (omega arith)
+    let r = node-external-read c .read-numbers5 in
+    let before = node-external-read c .before .before in
+    list-is (a .bytes .now) k (a .node-external .now) (r .last .1 .1 .1 .0) (nodes-read before .read-numbers4 .result)
+    (5 + k .wells + 2 * k .wells + k .externals * k .wells + 2 * k .nodes) (k .externals * k .nodes) (node-external-at before) (omega arith) (r .ensures .1)
 
 codes-are : (c : tie.After-slice-known12) → let r = c .before .before in r .read-codes .last .1 .1 .1 .0 ≡ held (counts-6 (r .before .before)) .bases
 codes-are c =
-    let r = c .before .before in
-    let h = r .before .before in
-    let k = counts-6 h .read-counts .result in
-    let a = at-entry (counts-6 h) .args in
-    r .read-codes .ensures ∙ codes-is (a .bytes .now) k (a .bases .now) (node-external-read h .read-numbers5 .result) (codes-at h)
+    let done = c .before .before in
+    let r = done .read-codes in
+    let before = done .before .before in
+    let k = counts-6 before .read-counts .result in
+    let a = at-entry (counts-6 before) .args in
+    codes-is (a .bytes .now) k (a .bases .now) (r .last .1 .1 .1 .0) (node-external-read before .read-numbers5 .result) (codes-at before) (r .ensures)
 
 -- k·n and k·m pass no word
 external-values : (c : tie.After-read-counts) → let k = c .read-counts .result in k .externals * k .wells < 4294967296

@@ -1,6 +1,5 @@
 -- `file_reader::header::model_of` meets its contract: past 1, 2 and 3 every number is the last. Assumes nothing.
 use Prim.Native.Nat.{ℕ, zero, suc}
-use native.Mathlib.Omega.{arith}
 use mathlib.Core.Path.{_≡_, refl}
 use borrow.Author.Needs.{needs}
 use Rattle.variogram.specs.declared.VariogramModel.the-variants.{Linear}

@@ -34,7 +34,8 @@ at-entry c = at-counts c .before .before
 abbrev numbers : List ℕ → List Float
 numbers bytes = f64sIn (numberCount (wellsIn bytes) (nodesIn bytes) (externalsIn bytes)) (drop (startIn bytes) bytes)
 
-later : (bytes : List ℕ) {at : ℕ} {x : Float} (j : ℕ) → j < 5 → at ≡ startIn bytes → x ≡ ofBits binary64 (wordAt bytes (at + 8 * j)) → x ≡ getD (numbers bytes) j nan
+later : (bytes : List ℕ) {at : ℕ} {x : Float} (j : ℕ) → j < 5 → at ≡ startIn bytes
+    → x ≡ ofBits binary64 (wordAt bytes (at + 8 * j)) → x ≡ getD (numbers bytes) j nan
 later bytes {at} j l s e =
     let n = numberCount (wellsIn bytes) (nodesIn bytes) (externalsIn bytes) in
     e ∙ ap (λ (k : ℕ). ofBits binary64 (wordAt bytes (k + 8 * j))) s ∙ sym (number-at n bytes (startIn bytes) j (omega arith))

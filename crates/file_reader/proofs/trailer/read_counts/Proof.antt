@@ -1,19 +1,21 @@
 -- `file_reader::trailer::read_counts` meets its contract: each count stands at its place, and k is counted among the codes before the trailer. Assumes nothing.
-use Prim.Native.Nat.{_-_, _<_, _≤_}
-use mathlib.Core.Path.{_≡_, refl, ap, _∙_}
+use Prim.Native.Nat.{_-_}
+use mathlib.Core.Path.{_≡_, ap, _∙_}
 use native.Mathlib.Omega.{arith}
 use borrow.Author.Needs.{needs}
-use lib.ListN.{length, drop}
-use lib.Seq.{length-take-le}
+use lib.ListN.{length}
 use Rattle.survey.specs.Survey.{externalCount}
-use Rattle.survey_file.specs.Trailer.{basesIn, externalsIn, codesIn}
+use Rattle.survey_file.specs.Trailer.{basesIn, externalsIn}
 use Rattle.file_reader.proofs.Places.{number-in, codes-are, externals-at-most}
 use Rattle.file_reader.proofs.trailer.read_counts.Statement.{statement}
 use Rattle.file_reader.proofs.trailer.read_counts.Tie as tie
 
 -- The states that the needs look back to: a name takes a later state back to its own.
+abbrev at-wells : tie.After-external-columns → tie.After-number2
+at-wells c = c .before .before .before
+
 abbrev at-start : tie.After-external-columns → tie.After-number
-at-start c = c .before .before .before .before
+at-start c = at-wells c .before
 
 abbrev at-bases : tie.After-external-columns → tie.After-base-count
 at-bases c = at-start c .before
@@ -78,21 +80,23 @@ returns c =
     let k = externals-are c in
     let b = at-bases c .base-count .ensures in
     let start = at-start c .number .ensures in
-    let wells = c .before .before .before .number2 .ensures in
-    let nodes = c .before .before .number3 .ensures in
-    ((λ i. record {
-      start = start .0 i;
-      wells = (wells .0 ∙ number-in xs 4 2) i;
-      nodes = (nodes .0 ∙ number-in xs 6 2) i;
-      bases = b .0 i;
-      externals = k i;
-    }), record {
-      start = start .1;
-      wells = wells .1;
-      nodes = nodes .1;
-      bases = b .1;
-      externals = omega (arith, k, b .0, b .1, externals-at-most xs);
-    })
+    let wells = at-wells c .number2 .ensures in
+    let nodes = c .before .before .number3 .ensures in (
+      (λ i. record {
+        start = start .0 i;
+        wells = (wells .0 ∙ number-in xs 4 2) i;
+        nodes = (nodes .0 ∙ number-in xs 6 2) i;
+        bases = b .0 i;
+        externals = k i;
+      }),
+      record {
+        start = start .1;
+        wells = wells .1;
+        nodes = nodes .1;
+        bases = b .1;
+        externals = omega (arith, k, b .0, b .1, externals-at-most xs);
+      },
+    )
 
 pub read-counts-spec : {M : Type 1} → statement M
 read-counts-spec =
