@@ -47,7 +47,8 @@ fn read_lists(
     read_codes(bytes, codes_at, counts.bases, bases);
 }
 
-// Reads a survey file: its lists into the lent areas, the rest into the answer.
+// Reads a survey file: its lists into the lent areas, the rest into the answer. Bytes that are no such file are refused by 16, an area that is shorter than its
+// list by 18, and then nothing is written. What the lists hold is not judged.
 pub fn read_survey(
     bytes: &[u8],
     values: &mut [f64],
