@@ -1,0 +1,1 @@
+-- Cases. Assumes nothing.
