@@ -10,9 +10,13 @@ use Rattle.report.specs.Numerals.{ascii, decimalText, bitsText}
 abbrev pub spaced : List ℕ → List ℕ
 spaced field = ascii " " ++ field
 
+-- a line of one word and one number
+abbrev pub wordLine : List ℕ → ℕ → List ℕ
+wordLine word n = word ++ spaced (decimalText n) ++ ascii "\n"
+
 -- "node count"
 abbrev pub countLine : ℕ → List ℕ
-countLine m = ascii "nodes" ++ spaced (decimalText m) ++ ascii "\n"
+countLine m = wordLine (ascii "nodes") m
 
 -- "node number from 1, figure bits, variance bits, verdict"
 abbrev pub nodeLine : ℕ → Float → Float → ℕ → List ℕ
@@ -43,7 +47,7 @@ listing figures variances verdicts coefficients =
 
 -- "A refusal prints only `refused N`"
 unfoldable pub refusedText : ℕ → List ℕ
-refusedText number = ascii "refused" ++ spaced (decimalText number) ++ ascii "\n"
+refusedText number = wordLine (ascii "refused") number
 
 -- The bytes of the longest listing of an accepted fit, 100 nodes and 12 columns with verdicts of three digits: 10 for the count's line,
 -- 192 for the nodes' numbers and 39 more for each node, 22 for each column.

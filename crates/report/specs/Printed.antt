@@ -1,5 +1,6 @@
 -- A text in the area that was lent for it: what is answered, and what the area holds then. Assumes nothing.
-use Prim.Native.Nat.{ℕ}
+use Prim.Native.Nat.{ℕ, _+_, _≤_}
+use mathlib.Core.Path.{_≡_}
 use mathlib.Core.Bool.{Bool, cond, _&&_}
 use mathlib.Core.List.{List}
 use lib.Dec.{eqb, leb}
@@ -13,6 +14,15 @@ use Rattle.report.specs.declared.Printed.the-variants.{Done, TooShort, U
 -- an area after a text is put into it from a place on
 abbrev pub placed : ℕ → List ℕ → List ℕ → List ℕ
 placed at text area = written at (length text) (λ j. getD text j 0) area
+
+-- an area has room for a text from a place on
+abbrev pub Room : ℕ → List ℕ → List ℕ → Type 0
+Room at text area = at + length text ≤ length area
+
+-- how it ends where a text is put into an area from a place on: the place past it, and what the area holds
+pub record Put (at : ℕ) (text area : List ℕ) (next : ℕ) (exit : List ℕ) : Type 0 where
+  pub past : next ≡ at + length text
+  pub holds : exit ≡ placed at text area
 
 -- whether a text has room in an area
 abbrev pub hasRoom : List ℕ → List ℕ → Bool

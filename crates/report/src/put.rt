@@ -1,16 +1,15 @@
-// Texts, put into a lent area from a place on. Each function answers the place past what it put.
+// Texts, put into a lent area from a place on. Each function answers the place past its text.
 ghost use mathlib.Core.Path.{_≡_};
-ghost use mathlib.Core.List.{[], _∷_, _++_};
-ghost use Prim.Native.Nat.{_+_, _≤_};
+ghost use mathlib.Core.List.{[], _∷_};
 ghost use lib.ListN.{length};
 ghost use Rattle.report.specs.Numerals.{decimalText, bitsText};
-ghost use Rattle.report.specs.Listing.{spaced, countLine, nodeLine, coefLine, lines, nodeAt, coefAt, refusedText};
-ghost use Rattle.report.specs.Printed.{placed};
+ghost use Rattle.report.specs.Listing.{spaced, wordLine, countLine, nodeLine, coefLine, lines, nodeAt, coefAt, refusedText};
+ghost use Rattle.report.specs.Printed.{Room, Put};
 
 // Bytes as they are.
 fn put_bytes(bytes: &[u8], text: &mut [u8], at: usize) -> usize
-    requires { ⌜ at + length (now bytes) ≤ length (now text) ⌝ }
-    ensures { λ r. ⌜ (r ≡ at + length (now (bytes .entry))) × (now (text .exit) ≡ placed at (now (bytes .entry)) (now (text .entry))) ⌝ }
+    requires { ⌜ Room at (now bytes) (now text) ⌝ }
+    ensures { λ r. ⌜ Put at (now (bytes .entry)) (now (text .entry)) r (now (text .exit)) ⌝ }
 {
     for j in 0..bytes.len() {
         text[at + j] = bytes[j];
@@ -20,8 +19,8 @@ fn put_bytes(bytes: &[u8], text: &mut [u8], at: usize) -> usize
 
 // One byte.
 fn put_byte(byte: u8, text: &mut [u8], at: usize) -> usize
-    requires { ⌜ at + 1 ≤ length (now text) ⌝ }
-    ensures { λ r. ⌜ (r ≡ at + 1) × (now (text .exit) ≡ placed at (byte ∷ []) (now (text .entry))) ⌝ }
+    requires { ⌜ Room at (byte ∷ []) (now text) ⌝ }
+    ensures { λ r. ⌜ Put at (byte ∷ []) (now (text .entry)) r (now (text .exit)) ⌝ }
 {
     text[at] = byte;
     at + 1
@@ -29,8 +28,8 @@ fn put_byte(byte: u8, text: &mut [u8], at: usize) -> usize
 
 // A number in decimal.
 fn put_decimal(n: u64, text: &mut [u8], at: usize) -> usize
-    requires { ⌜ at + length (decimalText n) ≤ length (now text) ⌝ }
-    ensures { λ r. ⌜ (r ≡ at + length (decimalText n)) × (now (text .exit) ≡ placed at (decimalText n) (now (text .entry))) ⌝ }
+    requires { ⌜ Room at (decimalText n) (now text) ⌝ }
+    ensures { λ r. ⌜ Put at (decimalText n) (now (text .entry)) r (now (text .exit)) ⌝ }
 {
     let mut digits = [0u8; 20];
     let count = io::decimal(n, &mut digits);
@@ -39,8 +38,8 @@ fn put_decimal(n: u64, text: &mut [u8], at: usize) -> usize
 
 // A space, and a number in decimal.
 fn put_number(n: u64, text: &mut [u8], at: usize) -> usize
-    requires { ⌜ at + length (spaced (decimalText n)) ≤ length (now text) ⌝ }
-    ensures { λ r. ⌜ (r ≡ at + length (spaced (decimalText n))) × (now (text .exit) ≡ placed at (spaced (decimalText n)) (now (text .entry))) ⌝ }
+    requires { ⌜ Room at (spaced (decimalText n)) (now text) ⌝ }
+    ensures { λ r. ⌜ Put at (spaced (decimalText n)) (now (text .entry)) r (now (text .exit)) ⌝ }
 {
     let next = put_byte(b' ', text, at);
     put_decimal(n, text, next)
@@ -48,8 +47,8 @@ fn put_number(n: u64, text: &mut [u8], at: usize) -> usize
 
 // A space, and a float by its bits in 16 hexadecimal digits.
 fn put_bits(x: f64, text: &mut [u8], at: usize) -> usize
-    requires { ⌜ at + length (spaced (bitsText x)) ≤ length (now text) ⌝ }
-    ensures { λ r. ⌜ (r ≡ at + length (spaced (bitsText x))) × (now (text .exit) ≡ placed at (spaced (bitsText x)) (now (text .entry))) ⌝ }
+    requires { ⌜ Room at (spaced (bitsText x)) (now text) ⌝ }
+    ensures { λ r. ⌜ Put at (spaced (bitsText x)) (now (text .entry)) r (now (text .exit)) ⌝ }
 {
     let next = put_byte(b' ', text, at);
     let mut digits = [0u8; 16];
@@ -58,10 +57,9 @@ fn put_bits(x: f64, text: &mut [u8], at: usize) -> usize
 }
 
 // A line of one word and one number.
-fn put_counted(word: &[u8], n: u64, text: &mut [u8], at: usize) -> usize
-    requires { ⌜ at + length (now word ++ spaced (decimalText n) ++ (10 ∷ [])) ≤ length (now text) ⌝ }
-    ensures { λ r. ⌜ (r ≡ at + length (now (word .entry) ++ spaced (decimalText n) ++ (10 ∷ [])))
-        × (now (text .exit) ≡ placed at (now (word .entry) ++ spaced (decimalText n) ++ (10 ∷ [])) (now (text .entry))) ⌝ }
+fn put_word_line(word: &[u8], n: u64, text: &mut [u8], at: usize) -> usize
+    requires { ⌜ Room at (wordLine (now word) n) (now text) ⌝ }
+    ensures { λ r. ⌜ Put at (wordLine (now (word .entry)) n) (now (text .entry)) r (now (text .exit)) ⌝ }
 {
     let past = put_bytes(word, text, at);
     let end = put_number(n, text, past);
@@ -70,18 +68,18 @@ fn put_counted(word: &[u8], n: u64, text: &mut [u8], at: usize) -> usize
 
 // The line of the number of nodes.
 pub(crate) fn put_count(m: usize, text: &mut [u8], at: usize) -> usize
-    requires { ⌜ at + length (countLine m) ≤ length (now text) ⌝ }
-    ensures { λ r. ⌜ (r ≡ at + length (countLine m)) × (now (text .exit) ≡ placed at (countLine m) (now (text .entry))) ⌝ }
+    requires { ⌜ Room at (countLine m) (now text) ⌝ }
+    ensures { λ r. ⌜ Put at (countLine m) (now (text .entry)) r (now (text .exit)) ⌝ }
 {
-    put_counted(b"nodes", m as u64, text, at)
+    put_word_line(b"nodes", m as u64, text, at)
 }
 
 // The line of a refusal.
 pub(crate) fn put_refusal(number: u8, text: &mut [u8], at: usize) -> usize
-    requires { ⌜ at + length (refusedText number) ≤ length (now text) ⌝ }
-    ensures { λ r. ⌜ (r ≡ at + length (refusedText number)) × (now (text .exit) ≡ placed at (refusedText number) (now (text .entry))) ⌝ }
+    requires { ⌜ Room at (refusedText number) (now text) ⌝ }
+    ensures { λ r. ⌜ Put at (refusedText number) (now (text .entry)) r (now (text .exit)) ⌝ }
 {
-    put_counted(b"refused", number as u64, text, at)
+    put_word_line(b"refused", number as u64, text, at)
 }
 
 // The line of a node.
@@ -93,9 +91,8 @@ fn put_node(
     text: &mut [u8],
     at: usize,
 ) -> usize
-    requires { ⌜ at + length (nodeLine number figure variance verdict) ≤ length (now text) ⌝ }
-    ensures { λ r. ⌜ (r ≡ at + length (nodeLine number figure variance verdict))
-        × (now (text .exit) ≡ placed at (nodeLine number figure variance verdict) (now (text .entry))) ⌝ }
+    requires { ⌜ Room at (nodeLine number figure variance verdict) (now text) ⌝ }
+    ensures { λ r. ⌜ Put at (nodeLine number figure variance verdict) (now (text .entry)) r (now (text .exit)) ⌝ }
 {
     let numbered = put_decimal(number, text, at);
     let figured = put_bits(figure, text, numbered);
@@ -106,8 +103,8 @@ fn put_node(
 
 // The line of a coefficient.
 fn put_coefficient(x: f64, text: &mut [u8], at: usize) -> usize
-    requires { ⌜ at + length (coefLine x) ≤ length (now text) ⌝ }
-    ensures { λ r. ⌜ (r ≡ at + length (coefLine x)) × (now (text .exit) ≡ placed at (coefLine x) (now (text .entry))) ⌝ }
+    requires { ⌜ Room at (coefLine x) (now text) ⌝ }
+    ensures { λ r. ⌜ Put at (coefLine x) (now (text .entry)) r (now (text .exit)) ⌝ }
 {
     let named = put_bytes(b"coef", text, at);
     let figured = put_bits(x, text, named);
@@ -123,10 +120,10 @@ pub(crate) fn put_nodes(
     at: usize,
 ) -> usize
     requires { ⌜ (length (now predicted) ≡ length (now verdicts)) × (length (now variance) ≡ length (now verdicts))
-        × (at + length (lines (length (now verdicts)) (nodeAt (now predicted) (now variance) (now verdicts))) ≤ length (now text)) ⌝ }
-    ensures { λ r. ⌜ (r ≡ at + length (lines (length (now (verdicts .entry))) (nodeAt (now (predicted .entry)) (now (variance .entry)) (now (verdicts .entry)))))
-        × (now (text .exit) ≡ placed at (lines (length (now (verdicts .entry))) (nodeAt (now (predicted .entry)) (now (variance .entry)) (now (verdicts .entry))))
-        (now (text .entry))) ⌝ }
+        × Room at (lines (length (now verdicts)) (nodeAt (now predicted) (now variance) (now verdicts))) (now text) ⌝ }
+    ensures { λ r. ⌜ Put at
+        (lines (length (now (verdicts .entry))) (nodeAt (now (predicted .entry)) (now (variance .entry)) (now (verdicts .entry))))
+        (now (text .entry)) r (now (text .exit)) ⌝ }
 {
     let mut next = at;
     for i in 0..verdicts.len() {
@@ -144,9 +141,8 @@ pub(crate) fn put_nodes(
 
 // The lines of all coefficients.
 pub(crate) fn put_coefficients(coefficients: &[f64], text: &mut [u8], at: usize) -> usize
-    requires { ⌜ at + length (lines (length (now coefficients)) (coefAt (now coefficients))) ≤ length (now text) ⌝ }
-    ensures { λ r. ⌜ (r ≡ at + length (lines (length (now (coefficients .entry))) (coefAt (now (coefficients .entry)))))
-        × (now (text .exit) ≡ placed at (lines (length (now (coefficients .entry))) (coefAt (now (coefficients .entry)))) (now (text .entry))) ⌝ }
+    requires { ⌜ Room at (lines (length (now coefficients)) (coefAt (now coefficients))) (now text) ⌝ }
+    ensures { λ r. ⌜ Put at (lines (length (now (coefficients .entry))) (coefAt (now (coefficients .entry)))) (now (text .entry)) r (now (text .exit)) ⌝ }
 {
     let mut next = at;
     for j in 0..coefficients.len() {
