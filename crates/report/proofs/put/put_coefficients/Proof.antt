@@ -8,8 +8,8 @@ use lib.ListN.{length, getD}
 use lib.Ieee.{nan}
 use Rattle.report.specs.Listing.{lines, coefAt}
 use Rattle.report.specs.Printed.{Room, Put}
-use Rattle.report.proofs.Placed.{put-none, put-then, room-first, room-then}
-use Rattle.report.proofs.Lengths.{lines-before}
+use Rattle.report.proofs.Placed.{put-none}
+use Rattle.report.proofs.Lines.{put-line, room-line, put-all}
 use Rattle.report.proofs.put.put_coefficients.Statement.{statement}
 use Rattle.report.proofs.put.put_coefficients.Tie as tie
 
@@ -26,10 +26,17 @@ State S = S Inv-loop μ-loop
 abbrev at-entry : State tie.At-loop → State tie.Start
 at-entry c = c .before .before .before
 
+abbrev at-loop : State tie.After-put-coefficient → State tie.At-loop
+at-loop c = c .before .before .before .before
+
 -- there is room for the next line
 room-for : (c : State tie.In-loop) → let l = c .before in let xs = at-entry l .args .coefficients .now in
     Room (l .loop .next) (coefAt xs (l .loop .j)) (l .loop .text)
-room-for c = ?
+room-for c =
+    let l = c .before in
+    let entry = at-entry l in
+    let xs = entry .args .coefficients .now in
+    room-line (coefAt xs) (entry .args .at) (entry .args .text .now) (l .loop .j) (length xs) (omega arith) (entry .pre) (l .loop .inv .3)
 
 -- for j in 0..coefficients.len() {
 loop-holds : tie.Need-loop-holds Inv-loop μ-loop
@@ -53,14 +60,27 @@ loop-less : tie.Need-loop-less Inv-loop μ-loop
 loop-less c = omega arith
 
 loop-again : tie.Need-loop-again Inv-loop μ-loop
-loop-again c = ?
+loop-again c =
+    let called = c .before .before in
+    let l = at-loop called in
+    let entry = at-entry l in (
+      omega arith,
+      refl,
+      called .put-coefficient .kept .1 .0 ∙ l .loop .inv .2,
+      put-line (coefAt (entry .args .coefficients .now)) (entry .args .at) (entry .args .text .now) (l .loop .j) (l .loop .inv .3) (called .put-coefficient .ensures),
+    )
 
 -- pub(crate) fn put_coefficients(coefficients: &[f64], text: &mut [u8], at: usize) -> usize
 same-length : tie.Need-same-length Inv-loop μ-loop
 same-length c = c .before .loop .inv .2
 
 returns : tie.Need-returns Inv-loop μ-loop
-returns c = ?
+returns c =
+    let l = c .before in
+    let entry = at-entry l in
+    let xs = entry .args .coefficients .now in
+    let all : l .loop .j ≡ length xs = omega arith in
+    put-all (coefAt xs) (entry .args .at) (entry .args .text .now) all (l .loop .inv .3)
 
 pub put-coefficients-spec : {M : Type 1} → statement M
 put-coefficients-spec =
