@@ -5,8 +5,9 @@ use native.Mathlib.Omega.{arith}
 use mathlib.Core.Path.{_≡_, refl, ap, _∙_}
 use mathlib.Core.List.{List}
 use borrow.Author.Tests.{le-leb, lt-leb, eq-eqb, ne-eqb}
-use lib.ListN.{length}
+use lib.ListN.{length, take, drop}
 use lib.Ieee.{Float}
+use Rattle.area.proofs.Start.{take-copied, drop-copied}
 use Rattle.report.specs.Listing.{listing}
 use Rattle.report.specs.Printed.{Room, Put, answer, afterwards, listed, listedIn}
 use Rattle.report.specs.declared.Printed.{Printed}
@@ -20,6 +21,14 @@ pub with-room : (text area : List ℕ) {next : ℕ} {exit : List ℕ} → length
 with-room text area h u =
     let e = le-leb (length text) (length area) h in
     (rw e (ap Done (u .past ∙ zero-add (length text))), rw e (u .holds))
+
+-- what a caller finds where there is room: how many bytes, the text in its first places, and past it what was there
+pub printed : (text area : List ℕ) → length text ≤ length area
+    → (answer text area ≡ Done (length text)) × (take (length text) (afterwards text area) ≡ text)
+    × (drop (length text) (afterwards text area) ≡ drop (length text) area)
+printed text area h =
+    let e = le-leb (length text) (length area) h in
+    (rw e, rw e (take-copied 0 text area h), rw e (drop-copied 0 text area h))
 
 -- ---- listings
 module _ (figures variances : List Float) (verdicts : List ℕ) (coefficients : List Float) (area : List ℕ) where

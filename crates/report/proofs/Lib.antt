@@ -5,4 +5,5 @@ pub mod Placed
 pub mod Lengths
 pub mod Lines
 pub mod Answers
+pub mod Longest
 pub mod Cases

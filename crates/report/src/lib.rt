@@ -3,9 +3,10 @@ mod put;
 mod room;
 
 ghost use mathlib.Core.Path.{_≡_};
-ghost use lib.ListN.{replicate};
+ghost use Prim.Native.Nat.{_≤_};
+ghost use lib.ListN.{length, replicate};
 ghost use Rattle.error.specs.Numbers.{numberOf};
-ghost use Rattle.report.specs.Listing.{refusedText, longest};
+ghost use Rattle.report.specs.Listing.{listing, refusedText, longest};
 ghost use Rattle.report.specs.Printed.{answer, afterwards, listed, listedIn};
 use error::Refusal;
 
@@ -37,8 +38,10 @@ pub fn write_listing(
     coefficients: &[f64],
     text: &mut [u8],
 ) -> Printed
-    ensures { λ r. ⌜ (r ≡ listed (now (predicted .entry)) (now (variance .entry)) (now (verdicts .entry)) (now (coefficients .entry)) (now (text .entry)))
+    ensures equation { λ r. ⌜ (r ≡ listed (now (predicted .entry)) (now (variance .entry)) (now (verdicts .entry)) (now (coefficients .entry)) (now (text .entry)))
         × (now (text .exit) ≡ listedIn (now (predicted .entry)) (now (variance .entry)) (now (verdicts .entry)) (now (coefficients .entry)) (now (text .entry))) ⌝ }
+    ensures longest { λ _. ⌜ (length (now (verdicts .entry)) ≤ 100 → length (now (coefficients .entry)) ≤ 12
+        → length (listing (now (predicted .entry)) (now (variance .entry)) (now (verdicts .entry)) (now (coefficients .entry))) ≤ longest) ⌝ }
 {
     let m = verdicts.len();
     if predicted.len() != m {
@@ -57,8 +60,9 @@ pub fn write_listing(
 
 // A refusal's one line.
 pub fn write_refusal(refusal: Refusal, text: &mut [u8]) -> Printed
-    ensures { λ r. ⌜ (r ≡ answer (refusedText (numberOf refusal)) (now (text .entry)))
+    ensures equation { λ r. ⌜ (r ≡ answer (refusedText (numberOf refusal)) (now (text .entry)))
         × (now (text .exit) ≡ afterwards (refusedText (numberOf refusal)) (now (text .entry))) ⌝ }
+    ensures longest { λ _. ⌜ length (refusedText (numberOf refusal)) ≤ longest ⌝ }
 {
     let number = error::number(refusal);
     if room::refusal_length(number) > text.len() {

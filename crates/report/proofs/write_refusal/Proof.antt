@@ -5,9 +5,10 @@ use mathlib.Core.Path.{_≡_, ap, sym, _∙_, subst}
 use mathlib.Core.List.{List}
 use lib.ListN.{length}
 use Rattle.error.specs.Numbers.{numberOf}
-use Rattle.report.specs.Listing.{refusedText}
+use Rattle.report.specs.Listing.{refusedText, longest}
 use Rattle.report.specs.Printed.{Put}
 use Rattle.report.proofs.Answers.{without-room, with-room}
+use Rattle.report.proofs.Longest.{longest-refusal}
 use borrow.Author.Needs.{needs}
 use Rattle.report.proofs.write_refusal.Statement.{statement}
 use Rattle.report.proofs.write_refusal.Tie as tie
@@ -29,6 +30,10 @@ text-is c = ap refusedText (c .before .number .ensures)
 line-is : (c : tie.After-refusal-length) → length (refusedText (c .before .number .result)) ≡ length (line-of c)
 line-is c = ap length (text-is c)
 
+-- a refusal's number is a byte
+no-longer : (c : tie.After-refusal-length) → length (line-of c) ≤ longest
+no-longer c = let number = c .before .number in omega (arith, line-is c, longest-refusal (number .result) (number .ok))
+
 -- let number = error::number(refusal);
 number-requires : tie.Need-number-requires
 number-requires c κs = search needs
@@ -40,7 +45,8 @@ refusal-length-requires c κs = search needs
 -- return Printed::TooShort;
 returns : tie.Need-returns
 returns c =
-    let sized = c .before in without-room (line-of sized) (at-entry sized .args .text .now) (omega (arith, sized .refusal-length .ensures, line-is sized))
+    let sized = c .before in
+    (without-room (line-of sized) (at-entry sized .args .text .now) (omega (arith, sized .refusal-length .ensures, line-is sized)), no-longer sized)
 
 -- Printed::Done(put::put_refusal(number, text, 0))
 put-refusal-requires : tie.Need-put-refusal-requires
@@ -55,8 +61,10 @@ returns-2 c =
     let called = c .before .before in
     let sized = at-size called in
     let area = at-entry sized .args .text .now in
-    with-room (line-of sized) area (omega (arith, sized .refusal-length .ensures, line-is sized, called .before .before .if1 .left))
-    (subst (λ (t : List ℕ). Put 0 t area (called .put-refusal .result) (called .put-refusal .last .1 .0)) (text-is sized) (called .put-refusal .ensures))
+    let put =
+    subst (λ (t : List ℕ). Put 0 t area (called .put-refusal .result) (called .put-refusal .last .1 .0)) (text-is sized) (called .put-refusal .ensures) in
+    let room : length (line-of sized) ≤ length area = omega (arith, sized .refusal-length .ensures, line-is sized, called .before .before .if1 .left) in
+    (with-room (line-of sized) area room put, no-longer sized)
 
 pub write-refusal-spec : {M : Type 1} → statement M
 write-refusal-spec =
