@@ -1,56 +1,53 @@
 -- A text in its area: without room, and with it. Assumes nothing.
 use Prim.Native.Nat.{ℕ, _≤_, _<_}
 use native.Mathlib.Nat.{zero-add}
-use native.Mathlib.Omega.{arith}
-use mathlib.Core.Path.{_≡_, refl, ap, _∙_}
+use mathlib.Core.Path.{_≡_, ap₂, sym, _∙_}
 use mathlib.Core.List.{List}
 use borrow.Author.Tests.{le-leb, lt-leb, eq-eqb, ne-eqb}
 use lib.ListN.{length, take, drop}
 use lib.Ieee.{Float}
+use Rattle.area.specs.Area.{copied}
 use Rattle.area.proofs.Start.{take-copied, drop-copied}
 use Rattle.report.specs.Listing.{listing}
-use Rattle.report.specs.Printed.{Room, Put, answer, afterwards, listed, listedIn}
-use Rattle.report.specs.declared.Printed.{Printed}
+use Rattle.report.specs.Placed.{Put}
+use Rattle.report.specs.Printed.{outcomeOf, printed, listed}
 use Rattle.report.specs.declared.Printed.the-variants.{Done, TooShort, Uneven}
 
-pub without-room : (text area : List ℕ) → length area < length text → (TooShort ≡ answer text area) × (area ≡ afterwards text area)
-without-room text area h = let e = lt-leb (length text) (length area) h in (rw e, rw e)
+pub without-room : (text area : List ℕ) → length area < length text → outcomeOf TooShort area ≡ printed text area
+unfolding printed
+without-room text area h = rw (lt-leb (length text) (length area), printed)
 
-pub with-room : (text area : List ℕ) {next : ℕ} {exit : List ℕ} → length text ≤ length area → Put 0 text area next exit
-    → (Done next ≡ answer text area) × (exit ≡ afterwards text area)
-with-room text area h u =
-    let e = le-leb (length text) (length area) h in
-    (rw e (ap Done (u .past ∙ zero-add (length text))), rw e (u .holds))
+-- with room, in the terms of what is answered
+pub with-room : (text area : List ℕ) → length text ≤ length area → printed text area ≡ outcomeOf (Done (length text)) (copied 0 text area)
+unfolding printed
+with-room text area h = rw (le-leb (length text) (length area), printed)
 
--- what a caller finds where there is room: how many bytes, the text in its first places, and past it what was there
-pub printed : (text area : List ℕ) → length text ≤ length area
-    → (answer text area ≡ Done (length text)) × (take (length text) (afterwards text area) ≡ text)
-    × (drop (length text) (afterwards text area) ≡ drop (length text) area)
-printed text area h =
-    let e = le-leb (length text) (length area) h in
-    (rw e, rw e (take-copied 0 text area h), rw e (drop-copied 0 text area h))
+-- and by what a function put from the first place on
+pub put-whole : (text area : List ℕ) {next : ℕ} {exit : List ℕ} → length text ≤ length area → Put 0 text area next exit
+    → outcomeOf (Done next) exit ≡ printed text area
+put-whole text area h u =
+    ap₂ (λ (n : ℕ) (xs : List ℕ). outcomeOf (Done n) xs) (u .past ∙ zero-add (length text)) (u .holds) ∙ sym (with-room text area h)
+
+-- what a caller finds then: the text in the first places, and past it what was there
+pub text-found : (text area : List ℕ) → length text ≤ length area → take (length text) (printed text area .area) ≡ text
+text-found text area h = rw (with-room text area h) (take-copied 0 text area h)
+
+pub rest-found : (text area : List ℕ) → length text ≤ length area → drop (length text) (printed text area .area) ≡ drop (length text) area
+rest-found text area h = rw (with-room text area h) (drop-copied 0 text area h)
 
 -- ---- listings
 module _ (figures variances : List Float) (verdicts : List ℕ) (coefficients : List Float) (area : List ℕ) where
-  pub figures-uneven : (length figures ≡ length verdicts → ⊥)
-      → (Uneven ≡ listed figures variances verdicts coefficients area) × (area ≡ listedIn figures variances verdicts coefficients area)
-  unfolding listed listedIn
-  figures-uneven h = let e = ne-eqb (length figures) (length verdicts) h in (rw e, rw e)
+  pub figures-uneven : (length figures ≡ length verdicts → ⊥) → outcomeOf Uneven area ≡ listed figures variances verdicts coefficients area
+  unfolding listed
+  figures-uneven h = rw (ne-eqb (length figures) (length verdicts), listed)
 
-  pub variances-uneven : length figures ≡ length verdicts → (length variances ≡ length verdicts → ⊥)
-      → (Uneven ≡ listed figures variances verdicts coefficients area) × (area ≡ listedIn figures variances verdicts coefficients area)
-  unfolding listed listedIn
-  variances-uneven g h =
-      let d = eq-eqb (length figures) (length verdicts) g in
-      let e = ne-eqb (length variances) (length verdicts) h in
-      (rw (d, e), rw (d, e))
+  pub variances-uneven : (length variances ≡ length verdicts → ⊥) → length figures ≡ length verdicts
+      → outcomeOf Uneven area ≡ listed figures variances verdicts coefficients area
+  unfolding listed
+  variances-uneven h g = rw (eq-eqb (length figures) (length verdicts), ne-eqb (length variances) (length verdicts), listed)
 
-  -- of even lists it is the listing's answer
-  pub even-listed : {r : Printed} {exit : List ℕ} → length figures ≡ length verdicts → length variances ≡ length verdicts
-      → (let t = listing figures variances verdicts coefficients in (r ≡ answer t area) × (exit ≡ afterwards t area))
-      → (r ≡ listed figures variances verdicts coefficients area) × (exit ≡ listedIn figures variances verdicts coefficients area)
-  unfolding listed listedIn
-  even-listed g h p =
-      let d = eq-eqb (length figures) (length verdicts) g in
-      let e = eq-eqb (length variances) (length verdicts) h in
-      (rw (d, e) (p .0), rw (d, e) (p .1))
+  -- of even lists it is the listing, printed
+  pub even-listed : length figures ≡ length verdicts → length variances ≡ length verdicts
+      → listed figures variances verdicts coefficients area ≡ printed (listing figures variances verdicts coefficients) area
+  unfolding listed
+  even-listed g h = rw (eq-eqb (length figures) (length verdicts), eq-eqb (length variances) (length verdicts), listed)

@@ -1,23 +1,21 @@
 -- The cases, each by computation. Assumes nothing.
 use mathlib.Core.Path.{refl}
 use lib.Ieee.{ofBits, toBits}
-use Rattle.report.specs.Numerals.{digit, inTens, decimalText, inSixteens, hexText, bitsText}
+use Rattle.report.specs.Numerals.{digit, inTens, decimalText, inSixteens, hexText, bitsOf, bitsText}
 use Rattle.report.specs.Listing.{listing, refusedText}
-use Rattle.report.specs.Printed.{listed, listedIn}
+use Rattle.report.specs.Printed.{printed, listed}
 use Rattle.report.specs.Cases.{Cases}
 
 pub cases : Cases
-unfolding digit inTens decimalText inSixteens hexText bitsText listing refusedText listed listedIn ofBits toBits
+unfolding digit inTens decimalText inSixteens hexText bitsOf bitsText listing refusedText printed listed ofBits toBits
 cases = record {
   bytes = refl;
   case-b = refl;
   just-room = refl;
-  just-written = refl;
-  rest-kept = refl;
-  short = refl;
-  short-kept = refl;
-  uneven = refl;
-  uneven-kept = refl;
+  more-room = refl;
+  less-room = refl;
+  two-figures = refl;
+  two-variances = refl;
   case-c = refl;
   any-nan = refl;
   every-digit = refl;
@@ -26,8 +24,7 @@ cases = record {
   ten-nodes = refl;
   refused-9 = refl;
   refused-16 = refl;
-  refusal-short = refl;
-  refusal-short-kept = refl;
-  refusal-written = refl;
+  refusal-with-room = refl;
+  refusal-without = refl;
   reached = refl;
 }

@@ -1,16 +1,15 @@
 -- How long lines and listings are, and that no listing of an accepted fit is longer than the longest. Assumes nothing.
-use Prim.Native.Nat.{ℕ, zero, suc, _+_, _*_, _≤_, _<_}
+use Prim.Native.Nat.{ℕ, zero, suc, _+_, _*_, _≤_}
 use native.Mathlib.Nat.{le-refl}
 use native.Mathlib.Decide.{decLt}
 use native.Mathlib.Omega.{arith}
-use mathlib.Core.Path.{_≡_, refl, ap, sym, _∙_}
-use mathlib.Core.List.{List, [], _∷_, _++_}
-use lib.Dec.{lit<}
+use mathlib.Core.Path.{_≡_, refl}
+use mathlib.Core.List.{List, _++_}
 use lib.ListN.{length, getD, length-append}
 use lib.Ieee.{Float, nan}
-use Rattle.report.specs.Numerals.{ascii, digit, inTens, decimalText, bitsText}
-use Rattle.report.specs.Listing.{spaced, wordLine, countLine, nodeLine, coefLine, lines, nodeAt, coefAt, listing, refusedText, longest}
-use Rattle.report.proofs.Numerals.{decimal-length, bits-length}
+use Rattle.report.specs.Numerals.{ascii, decimalText, bitsText}
+use Rattle.report.specs.Listing.{spaced, wordLine, countLine, nodeLine, coefLine, lines, nodeAt, coefAt, listing}
+use Rattle.report.proofs.Numerals.{bits-length}
 
 pub word-line-length : (word : List ℕ) (n : ℕ) → length (wordLine word n) ≡ length word + length (decimalText n) + 2
 word-line-length word n =

@@ -4,9 +4,8 @@ use native.Mathlib.Numerals.{add-one}
 use native.Mathlib.Omega.{arith}
 use mathlib.Core.Path.{_≡_, subst}
 use mathlib.Core.List.{List}
-use lib.ListN.{length}
 use Rattle.report.specs.Listing.{lines}
-use Rattle.report.specs.Printed.{Room, Put}
+use Rattle.report.specs.Placed.{Room, Put}
 use Rattle.report.proofs.Placed.{put-then, room-then}
 use Rattle.report.proofs.Lengths.{lines-before}
 

@@ -1,12 +1,12 @@
 -- No listing of an accepted fit, and no refusal, is longer than the longest. Assumes nothing.
-use Prim.Native.Nat.{ℕ, zero, suc, _+_, _*_, _≤_, _<_}
+use Prim.Native.Nat.{ℕ, zero, suc, _+_, _≤_, _<_}
 use native.Mathlib.Omega.{arith}
 use mathlib.Core.Path.{_≡_, refl}
 use mathlib.Core.List.{List}
 use lib.Dec.{lit<}
 use lib.ListN.{length, getD}
 use lib.Ieee.{Float, nan, toBits}
-use Rattle.report.specs.Numerals.{ascii, digit, inTens, decimalText, inSixteens, hexText, bitsText}
+use Rattle.report.specs.Numerals.{ascii, digit, inTens, decimalText, inSixteens, hexText, bitsOf, bitsText}
 use Rattle.report.specs.Listing.{nodeLine, lines, nodeAt, listing, refusedText, longest}
 use Rattle.report.proofs.Numerals.{decimal-length}
 use Rattle.report.proofs.Lengths.{word-line-length, node-line-length, lines-more, lines-before, listing-length}
@@ -37,7 +37,7 @@ no-wider figures variances verdicts bytes i =
     omega (arith, node-line-length (i + 1) (getD figures i nan) (getD variances i nan) v, node-line-length (i + 1) nan nan 255, three-digits)
 
 hundred : length (lines 100 widest) ≡ 4092
-unfolding widest digit inTens decimalText inSixteens hexText bitsText toBits
+unfolding widest digit inTens decimalText inSixteens hexText bitsOf bitsText toBits
 hundred = refl
 
 pub longest-listing : (figures variances : List Float) (verdicts : List ℕ) (coefficients : List Float) → ((i : ℕ) → getD verdicts i 0 < 256)

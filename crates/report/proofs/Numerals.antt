@@ -1,17 +1,17 @@
 -- Texts of numbers: they are what the kit's digits are, and how long they are. Assumes nothing.
-use Prim.Native.Nat.{ℕ, zero, suc, _+_, _-_, _*_, _/_, _%_, _^_, _≤_, _<_, min, max}
+use Prim.Native.Nat.{ℕ, zero, suc, _+_, _-_, _/_, _%_, _^_, _≤_, _<_, min, max}
 use native.Mathlib.Nat.{not-suc-le-zero, pow-suc, pow-le-pow-right}
 use native.Mathlib.Numerals.{add-one}
 use native.Mathlib.Decide.{decLt}
 use native.Mathlib.Omega.{arith}
-use mathlib.Core.Path.{_≡_, refl, ap, ap₂, sym, _∙_, subst}
+use mathlib.Core.Path.{_≡_, refl, ap, ap₂, sym, _∙_}
 use mathlib.Core.List.{List, [], _∷_, _++_}
 use borrow.Author.Tests.{lt-ltb, le-ltb}
 use lib.Dec.{lit<}
-use lib.ListN.{length, getD, length-append, List·getD-append}
-use lib.Ieee.{Float, nan, binary64, toBits}
+use lib.ListN.{length, length-append}
+use lib.Ieee.{Float, nan, inf, fin, binary64, toBits}
 use Rattle.io.specs.Digits.{glyph, digits, Fewest}
-use Rattle.report.specs.Numerals.{digit, inTens, decimalText, inSixteens, hexText, bitsText}
+use Rattle.report.specs.Numerals.{digit, inTens, decimalText, inSixteens, hexText, bitsOf, bitsText}
 use Rattle.report.proofs.Digits.{digit-glyph}
 
 -- one digit more, at the end
@@ -110,4 +110,11 @@ sixteens-length (suc k) n = length-snoc (inSixteens k (n / 16)) (digit (n % 16))
 
 pub bits-length : (x : Float) → length (bitsText x) ≡ 16
 unfolding bitsText hexText
-bits-length x = sixteens-length 16 (toBits binary64 x)
+bits-length x = sixteens-length 16 (bitsOf x)
+
+-- the pattern of a float is the kit's, which has one NaN
+pub bits-are : (x : Float) → toBits binary64 x ≡ bitsOf x
+unfolding bitsOf toBits
+bits-are nan = refl
+bits-are (inf s) = refl
+bits-are (fin s m e) = refl

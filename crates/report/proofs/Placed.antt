@@ -1,6 +1,6 @@
 -- Texts put into an area one after another. Assumes nothing.
-use Prim.Native.Nat.{ℕ, _+_, _≤_}
-use native.Mathlib.Nat.{add-zero, zero-add, add-assoc}
+use Prim.Native.Nat.{ℕ, _+_}
+use native.Mathlib.Nat.{add-zero}
 use native.Mathlib.Omega.{arith}
 use mathlib.Core.Path.{_≡_, refl, ap, sym, _∙_}
 use mathlib.Core.List.{List, [], _∷_, _++_}
@@ -9,7 +9,7 @@ use lib.Seq.{getD-append-add}
 use Rattle.area.specs.Area.{written}
 use Rattle.area.proofs.Places.{written-add, same-values}
 use Rattle.area.proofs.Turns.{length-written}
-use Rattle.report.specs.Printed.{placed, Room, Put}
+use Rattle.report.specs.Placed.{placed, Room, Put}
 
 pub length-placed : (at : ℕ) (text area : List ℕ) → length (placed at text area) ≡ length area
 length-placed at text area = length-written at (length text) (λ j. getD text j 0) area

@@ -3,10 +3,9 @@ use Prim.Native.Nat.{ℕ, zero, suc, _+_, _*_, _/_, _%_, _^_, _≤_, _<_}
 use native.Mathlib.Nat.{not-suc-le-zero, pow-suc, zero-add}
 use native.Mathlib.Decide.{decLt}
 use native.Mathlib.Omega.{arith}
-use mathlib.Core.Path.{_≡_, refl, ap, ap₂, _∙_, subst, sym}
+use mathlib.Core.Path.{_≡_, refl, _∙_}
 use mathlib.Core.List.{List, [], _∷_, _++_}
 use lib.ListN.{length, getD, List·getD-append}
-use lib.Ieee.{Float, binary64, toBits}
 use Rattle.report.specs.Numerals.{digit, inTens, decimalText, inSixteens, hexText}
 use Rattle.report.specs.Reading.{IsTen, IsSixteen, meant, readAfter, Each, Decimal, Hexadecimal}
 use Rattle.report.proofs.Digits.{digit-meant, digit-low, is-ten, is-sixteen}

@@ -6,9 +6,9 @@ use lib.ListN.{length, replicate}
 use lib.Ieee.{Float, nan, binary64, ofBits}
 use Rattle.error.specs.Numbers.{numberOf}
 use Rattle.error.specs.declared.Refusal.the-variants.{SurveyFile, TooMany}
-use Rattle.report.specs.Numerals.{ascii, decimalText, bitsText}
+use Rattle.report.specs.Numerals.{ascii, bitsText}
 use Rattle.report.specs.Listing.{listing, refusedText, longest}
-use Rattle.report.specs.Printed.{answer, afterwards, listed, listedIn}
+use Rattle.report.specs.Printed.{outcomeOf, printed, listed}
 use Rattle.report.specs.declared.Printed.the-variants.{Done, TooShort, Uneven}
 
 -- a float by its pattern, and so many alike
@@ -31,14 +31,12 @@ pub record Cases : Type 0 where
   pub bytes : ascii "nodes 1\n" ≡ 110 ∷ 111 ∷ 100 ∷ 101 ∷ 115 ∷ 32 ∷ 49 ∷ 10 ∷ []
   pub case-b : ofB listing ≡ caseB
   -- into an area of just its length, into one with a byte more, and into one with a byte less
-  pub just-room : ofB listed (replicate 68 7) ≡ Done 68
-  pub just-written : ofB listedIn (replicate 68 7) ≡ caseB
-  pub rest-kept : ofB listedIn (replicate 69 7) ≡ caseB ++ (7 ∷ [])
-  pub short : ofB listed (replicate 67 7) ≡ TooShort
-  pub short-kept : ofB listedIn (replicate 67 7) ≡ replicate 67 7
-  -- two variances for one node
-  pub uneven : listed (zeros 1) (zeros 2) (0 ∷ []) (zeros 1) (replicate 99 7) ≡ Uneven
-  pub uneven-kept : listedIn (zeros 1) (zeros 2) (0 ∷ []) (zeros 1) (replicate 99 7) ≡ replicate 99 7
+  pub just-room : ofB listed (replicate 68 7) ≡ outcomeOf (Done 68) caseB
+  pub more-room : ofB listed (replicate 69 7) ≡ outcomeOf (Done 68) (caseB ++ (7 ∷ []))
+  pub less-room : ofB listed (replicate 67 7) ≡ outcomeOf TooShort (replicate 67 7)
+  -- two figures, or two variances, for one node
+  pub two-figures : listed (zeros 2) (zeros 1) (0 ∷ []) (zeros 1) (replicate 99 7) ≡ outcomeOf Uneven (replicate 99 7)
+  pub two-variances : listed (zeros 1) (zeros 2) (0 ∷ []) (zeros 1) (replicate 99 7) ≡ outcomeOf Uneven (replicate 99 7)
   -- case C: "figure NaN, variance +0, verdict 255"
   pub case-c : listing (nan ∷ []) (zeros 1) (255 ∷ []) (nan ∷ [])
       ≡ ascii "nodes 1\n1 7ff8000000000000 0000000000000000 255\ncoef 7ff8000000000000\n"
@@ -59,8 +57,7 @@ pub record Cases : Type 0 where
   -- "A refusal prints only `refused N`"
   pub refused-9 : refusedText (numberOf TooMany) ≡ ascii "refused 9\n"
   pub refused-16 : refusedText (numberOf SurveyFile) ≡ ascii "refused 16\n"
-  pub refusal-short : answer (refusedText 16) (replicate 10 7) ≡ TooShort
-  pub refusal-short-kept : afterwards (refusedText 16) (replicate 10 7) ≡ replicate 10 7
-  pub refusal-written : afterwards (refusedText 16) (replicate 12 7) ≡ ascii "refused 16\n" ++ (7 ∷ [])
+  pub refusal-with-room : printed (refusedText 16) (replicate 12 7) ≡ outcomeOf (Done 11) (ascii "refused 16\n" ++ (7 ∷ []))
+  pub refusal-without : printed (refusedText 16) (replicate 10 7) ≡ outcomeOf TooShort (replicate 10 7)
   -- the longest listing has so many bytes
   pub reached : length (listing (zeros 100) (zeros 100) (replicate 100 255) (zeros 12)) ≡ longest

@@ -6,7 +6,7 @@ use mathlib.Core.Bool.{true, false}
 use mathlib.Core.List.{List, [], _∷_, _++_}
 use lib.Dec.{ltb}
 use lib.ListN.{getD}
-use lib.Ieee.{Float, binary64, toBits}
+use lib.Ieee.{Float, nan, inf, fin, binary64, toBits}
 
 -- a text as bytes: the code of each of its characters
 abbrev pub ascii : String → List ℕ
@@ -35,6 +35,12 @@ inSixteens (suc k) n = inSixteens k (n / 16) ++ (digit (n % 16) ∷ [])
 unfoldable pub hexText : ℕ → List ℕ
 hexText n = inSixteens 16 n
 
--- "figure bits": the pattern of a float; there is one NaN, and its pattern is 7ff8000000000000
+-- "any NaN as 7ff8000000000000", and every other float by its own pattern
+unfoldable pub bitsOf : Float → ℕ
+bitsOf nan = 0x7ff8_0000_0000_0000
+bitsOf (inf s) = toBits binary64 (inf s)
+bitsOf (fin s m e) = toBits binary64 (fin s m e)
+
+-- "figure bits, variance bits", and a coefficient's
 unfoldable pub bitsText : Float → List ℕ
-bitsText x = hexText (toBits binary64 x)
+bitsText x = hexText (bitsOf x)

@@ -7,7 +7,7 @@ ghost use Prim.Native.Nat.{_≤_};
 ghost use lib.ListN.{length, replicate};
 ghost use Rattle.error.specs.Numbers.{numberOf};
 ghost use Rattle.report.specs.Listing.{listing, refusedText, longest};
-ghost use Rattle.report.specs.Printed.{answer, afterwards, listed, listedIn};
+ghost use Rattle.report.specs.Printed.{outcomeOf, printed, listed};
 use error::Refusal;
 
 // How printing ends.
@@ -38,8 +38,8 @@ pub fn write_listing(
     coefficients: &[f64],
     text: &mut [u8],
 ) -> Printed
-    ensures equation { λ r. ⌜ (r ≡ listed (now (predicted .entry)) (now (variance .entry)) (now (verdicts .entry)) (now (coefficients .entry)) (now (text .entry)))
-        × (now (text .exit) ≡ listedIn (now (predicted .entry)) (now (variance .entry)) (now (verdicts .entry)) (now (coefficients .entry)) (now (text .entry))) ⌝ }
+    ensures equation { λ r. ⌜ outcomeOf r (now (text .exit))
+        ≡ listed (now (predicted .entry)) (now (variance .entry)) (now (verdicts .entry)) (now (coefficients .entry)) (now (text .entry)) ⌝ }
     ensures longest { λ _. ⌜ (length (now (verdicts .entry)) ≤ 100 → length (now (coefficients .entry)) ≤ 12
         → length (listing (now (predicted .entry)) (now (variance .entry)) (now (verdicts .entry)) (now (coefficients .entry))) ≤ longest) ⌝ }
 {
@@ -60,8 +60,7 @@ pub fn write_listing(
 
 // A refusal's one line.
 pub fn write_refusal(refusal: Refusal, text: &mut [u8]) -> Printed
-    ensures equation { λ r. ⌜ (r ≡ answer (refusedText (numberOf refusal)) (now (text .entry)))
-        × (now (text .exit) ≡ afterwards (refusedText (numberOf refusal)) (now (text .entry))) ⌝ }
+    ensures equation { λ r. ⌜ outcomeOf r (now (text .exit)) ≡ printed (refusedText (numberOf refusal)) (now (text .entry)) ⌝ }
     ensures longest { λ _. ⌜ length (refusedText (numberOf refusal)) ≤ longest ⌝ }
 {
     let number = error::number(refusal);

@@ -7,7 +7,7 @@ ghost use lib.Dec.{leb};
 ghost use lib.Ieee.{Float};
 ghost use lib.ListN.{length};
 ghost use Rattle.report.specs.Numerals.{decimalText};
-ghost use Rattle.report.specs.Listing.{countLine, nodeLine, lines, nodeAt, listing, refusedText};
+ghost use Rattle.report.specs.Listing.{nodeLine, lines, nodeAt, listing, refusedText};
 
 // How many digits a number has in decimal, at most 20.
 fn decimal_length(n: u64) -> usize

@@ -1,5 +1,5 @@
 -- `report::write_listing` meets its contract: even lists, then room, then three texts, each past the one before. Assumes nothing.
-use Prim.Native.Nat.{ℕ, _≤_, _<_}
+use Prim.Native.Nat.{ℕ, _≤_}
 use native.Mathlib.Omega.{arith}
 use mathlib.Core.Path.{_≡_, refl, sym, _∙_}
 use mathlib.Core.List.{List, _++_}
@@ -7,9 +7,9 @@ use borrow.Author.Tests.{leb-true, leb-false, not-true, not-false}
 use lib.Dec.{leb}
 use lib.ListN.{length}
 use Rattle.report.specs.Listing.{countLine, lines, nodeAt, coefAt, listing, longest}
-use Rattle.report.specs.Printed.{Room, Put}
+use Rattle.report.specs.Placed.{Room, Put}
 use Rattle.report.proofs.Placed.{put-then, room-first, room-then}
-use Rattle.report.proofs.Answers.{without-room, with-room, figures-uneven, variances-uneven, even-listed}
+use Rattle.report.proofs.Answers.{without-room, put-whole, figures-uneven, variances-uneven, even-listed}
 use Rattle.report.proofs.Longest.{longest-listing}
 use borrow.Author.Needs.{needs}
 use Rattle.report.proofs.write_listing.Statement.{statement}
@@ -33,7 +33,8 @@ no-longer : (c : tie.After-slice-known) → let a = at-lists c .args in
     length (a .verdicts .now) ≤ 100 → length (a .coefficients .now) ≤ 12 → length (text-of (at-lists c)) ≤ longest
 no-longer c =
     let a = at-lists c .args in
-    longest-listing (a .predicted .now) (a .variance .now) (a .verdicts .now) (a .coefficients .now) (λ i. c .before .before .shared-slice-known3 .given i .fits)
+    longest-listing (a .predicted .now) (a .variance .now) (a .verdicts .now) (a .coefficients .now)
+    (λ i. c .before .before .shared-slice-known3 .given i .fits)
 
 judged : (c : tie.After-listing-fits) → c .listing-fits .result ≡ leb (length (text-of (at-entry c))) (length (at-entry c .args .text .now))
 judged c = c .listing-fits .ensures _ _ (at-entry c .args .coefficients .now) refl
@@ -83,7 +84,7 @@ returns : tie.Need-returns
 returns c = (figures-uneven _ _ _ _ _ (c .if1 .taken), no-longer (c .before))
 
 returns-2 : tie.Need-returns-2
-returns-2 c = (variances-uneven _ _ _ _ _ (c .before .if1 .left) (c .if2 .taken), no-longer (c .before .before))
+returns-2 c = (variances-uneven _ _ _ _ _ (c .if2 .taken) (c .before .if1 .left), no-longer (c .before .before))
 
 -- if !room::listing_fits(verdicts, coefficients.len(), text.len()) {
 listing-fits-requires : tie.Need-listing-fits-requires
@@ -94,7 +95,7 @@ returns-3 : tie.Need-returns-3
 returns-3 c =
     let test = c .before in
     let short = without-room (text-of (at-entry test)) (at-entry test .args .text .now) (leb-false _ _ (sym (judged test) ∙ not-true _ (c .if3 .taken))) in
-    (even-listed _ _ _ _ _ (test .before .before .if1 .left) (test .before .if2 .left) short, no-longer (at-known test))
+    (short ∙ sym (even-listed _ _ _ _ _ (test .before .before .if1 .left) (test .before .if2 .left)), no-longer (at-known test))
 
 -- let counted = put::put_count(m, text, 0);
 put-count-requires : tie.Need-put-count-requires
@@ -128,8 +129,8 @@ returns-4 c =
     let test = by-nodes listed in
     let even = test .before .before in
     let s = at-entry (test .before) in
-    let done = with-room (text-of s) (s .args .text .now) (fits test) (put-then (put-two listed) (called .put-coefficients .ensures)) in
-    (even-listed _ _ _ _ _ (even .before .if1 .left) (even .if2 .left) done, no-longer (at-known (test .before)))
+    let done = put-whole (text-of s) (s .args .text .now) (fits test) (put-then (put-two listed) (called .put-coefficients .ensures)) in
+    (done ∙ sym (even-listed _ _ _ _ _ (even .before .if1 .left) (even .if2 .left)), no-longer (at-known (test .before)))
 
 pub write-listing-spec : {M : Type 1} → statement M
 write-listing-spec =

@@ -1,13 +1,13 @@
 -- `report::write_refusal` meets its contract: the line is put only where it has room. Assumes nothing.
-use Prim.Native.Nat.{ℕ, _≤_, _<_}
+use Prim.Native.Nat.{ℕ, _≤_}
 use native.Mathlib.Omega.{arith}
-use mathlib.Core.Path.{_≡_, ap, sym, _∙_, subst}
+use mathlib.Core.Path.{_≡_, ap, subst}
 use mathlib.Core.List.{List}
 use lib.ListN.{length}
 use Rattle.error.specs.Numbers.{numberOf}
 use Rattle.report.specs.Listing.{refusedText, longest}
-use Rattle.report.specs.Printed.{Put}
-use Rattle.report.proofs.Answers.{without-room, with-room}
+use Rattle.report.specs.Placed.{Put}
+use Rattle.report.proofs.Answers.{without-room, put-whole}
 use Rattle.report.proofs.Longest.{longest-refusal}
 use borrow.Author.Needs.{needs}
 use Rattle.report.proofs.write_refusal.Statement.{statement}
@@ -64,7 +64,7 @@ returns-2 c =
     let put =
     subst (λ (t : List ℕ). Put 0 t area (called .put-refusal .result) (called .put-refusal .last .1 .0)) (text-is sized) (called .put-refusal .ensures) in
     let room : length (line-of sized) ≤ length area = omega (arith, sized .refusal-length .ensures, line-is sized, called .before .before .if1 .left) in
-    (with-room (line-of sized) area room put, no-longer sized)
+    (put-whole (line-of sized) area room put, no-longer sized)
 
 pub write-refusal-spec : {M : Type 1} → statement M
 write-refusal-spec =

@@ -3,10 +3,9 @@ use Prim.Native.Nat.{ℕ}
 use mathlib.Core.Path.{_≡_, ap, sym, _∙_, subst}
 use mathlib.Core.List.{List, [], _∷_}
 use lib.ListN.{take}
-use lib.Ieee.{binary64, toBits}
 use Rattle.report.specs.Numerals.{hexText, bitsText}
-use Rattle.report.specs.Printed.{Room, Put}
-use Rattle.report.proofs.Numerals.{is-hex}
+use Rattle.report.specs.Placed.{Room, Put}
+use Rattle.report.proofs.Numerals.{is-hex, bits-are}
 use Rattle.report.proofs.Placed.{put-then, room-then}
 use borrow.Author.Needs.{needs}
 use Rattle.report.proofs.put.put_bits.Statement.{statement}
@@ -29,7 +28,9 @@ digits-are : (c : tie.After-hex) → take (c .hex .result) (c .hex .last .1 .1 .
 unfolding bitsText
 digits-are c =
     let bits = at-pattern c .pattern in
-    c .hex .ensures .1 .1 ∙ is-hex (bits .result) (c .hex .result) (bits .ok) (c .hex .ensures .1 .0) ∙ ap hexText (bits .ensures)
+    c .hex .ensures .1 .1
+    ∙ is-hex (bits .result) (c .hex .result) (bits .ok) (c .hex .ensures .1 .0)
+    ∙ ap hexText (bits .ensures ∙ bits-are (at-entry (at-space c) .args .x))
 
 -- let next = put_byte(b' ', text, at);
 put-byte-requires : tie.Need-put-byte-requires

@@ -1,5 +1,5 @@
 -- `report::put::put_bytes` meets its contract: after j turns the area is what j stores write. Assumes nothing.
-use Prim.Native.Nat.{_≤_, _+_, _-_}
+use Prim.Native.Nat.{_≤_, _-_}
 use mathlib.Core.Path.{_≡_, refl}
 use native.Mathlib.Omega.{arith}
 use lib.ListN.{length, length-set, getD}

@@ -1,13 +1,10 @@
 -- `report::put::put_coefficients` meets its contract: after j turns the first j lines stand there. Assumes nothing.
-use Prim.Native.Nat.{ℕ, suc, _≤_, _<_, _+_, _-_, _*_}
-use native.Mathlib.Numerals.{add-one}
+use Prim.Native.Nat.{_≤_, _-_}
 use native.Mathlib.Omega.{arith}
-use mathlib.Core.Path.{_≡_, refl, ap, sym, _∙_, subst}
-use mathlib.Core.List.{List}
-use lib.ListN.{length, getD}
-use lib.Ieee.{nan}
+use mathlib.Core.Path.{_≡_, refl, _∙_}
+use lib.ListN.{length}
 use Rattle.report.specs.Listing.{lines, coefAt}
-use Rattle.report.specs.Printed.{Room, Put}
+use Rattle.report.specs.Placed.{Room, Put}
 use Rattle.report.proofs.Placed.{put-none}
 use Rattle.report.proofs.Lines.{put-line, room-line, put-all}
 use Rattle.report.proofs.put.put_coefficients.Statement.{statement}
@@ -67,7 +64,8 @@ loop-again c =
       omega arith,
       refl,
       called .put-coefficient .kept .1 .0 ∙ l .loop .inv .2,
-      put-line (coefAt (entry .args .coefficients .now)) (entry .args .at) (entry .args .text .now) (l .loop .j) (l .loop .inv .3) (called .put-coefficient .ensures),
+      put-line (coefAt (entry .args .coefficients .now)) (entry .args .at) (entry .args .text .now) (l .loop .j) (l .loop .inv .3)
+          (called .put-coefficient .ensures),
     )
 
 -- pub(crate) fn put_coefficients(coefficients: &[f64], text: &mut [u8], at: usize) -> usize

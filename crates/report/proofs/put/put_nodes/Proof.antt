@@ -1,11 +1,11 @@
 -- `report::put::put_nodes` meets its contract: after i turns the first i lines stand there. Assumes nothing.
-use Prim.Native.Nat.{ℕ, _≤_, _+_, _-_}
+use Prim.Native.Nat.{ℕ, _≤_, _-_}
 use native.Mathlib.Omega.{arith}
 use mathlib.Core.Path.{_≡_, refl, _∙_}
 use mathlib.Core.List.{List}
 use lib.ListN.{length}
 use Rattle.report.specs.Listing.{lines, nodeAt}
-use Rattle.report.specs.Printed.{Room, Put}
+use Rattle.report.specs.Placed.{Room, Put}
 use Rattle.report.proofs.Placed.{put-none}
 use Rattle.report.proofs.Lines.{put-line, room-line, put-all}
 use Rattle.report.proofs.put.put_nodes.Statement.{statement}

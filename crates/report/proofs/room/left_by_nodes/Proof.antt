@@ -1,8 +1,8 @@
 -- `report::room::left_by_nodes` meets its contract: after i turns the first i lines are taken off the room. Assumes nothing.
-use Prim.Native.Nat.{ℕ, suc, _≤_, _+_, _-_}
+use Prim.Native.Nat.{ℕ, _≤_, _-_}
 use native.Mathlib.Numerals.{add-one}
 use native.Mathlib.Omega.{arith}
-use mathlib.Core.Path.{_≡_, refl, ap, sym, _∙_, subst}
+use mathlib.Core.Path.{_≡_, refl, subst}
 use mathlib.Core.List.{List}
 use lib.ListN.{length, getD}
 use lib.Ieee.{Float, nan}
@@ -17,6 +17,15 @@ Inv-loop verdicts room rest₀ i₀ i-end rest i =
 
 abbrev μ-loop : tie.MeasureT-loop
 μ-loop verdicts room rest₀ i₀ i-end rest i = length verdicts - i
+
+abbrev State : (tie.InvT-loop → tie.MeasureT-loop → Type 0) → Type 0
+State S = S Inv-loop μ-loop
+
+abbrev at-entry : State tie.At-loop → State tie.Start
+at-entry c = c .before .before
+
+abbrev at-loop : State tie.After-left → State tie.At-loop
+at-loop c = c .before .before .before .before
 
 -- for i in 0..verdicts.len() {
 loop-holds : tie.Need-loop-holds Inv-loop μ-loop
@@ -44,8 +53,8 @@ loop-less c = omega arith
 
 loop-again : tie.Need-loop-again Inv-loop μ-loop
 loop-again c =
-    let l = c .before .before .before .before in
-    let verdicts = l .before .before .args .verdicts .now in (
+    let l = at-loop c in
+    let verdicts = at-entry l .args .verdicts .now in (
       omega arith,
       refl,
       λ figures variances.
@@ -59,9 +68,10 @@ loop-again c =
 returns : tie.Need-returns Inv-loop μ-loop
 returns c =
     let l = c .before in
-    let verdicts = l .before .before .args .verdicts .now in
-    let all : l .loop .i ≡ length verdicts = omega arith in
-    λ figures variances. subst (λ (k : ℕ). l .loop .rest ≡ l .before .before .args .room - length (lines k (nodeAt figures variances verdicts))) all (l .loop .inv .2 figures variances)
+    let a = at-entry l .args in
+    let all : l .loop .i ≡ length (a .verdicts .now) = omega arith in
+    λ figures variances.
+    subst (λ (k : ℕ). l .loop .rest ≡ a .room - length (lines k (nodeAt figures variances (a .verdicts .now)))) all (l .loop .inv .2 figures variances)
 
 pub left-by-nodes-spec : {M : Type 1} → statement M
 left-by-nodes-spec =
