@@ -1,55 +1,16 @@
--- Laws of bytes that are put from a place on: one part after another, and a number byte by byte. Assumes nothing.
+-- Laws of numbers as bytes that are put from a place on: a number byte by byte, and numbers one after another. Assumes nothing.
 use Prim.Native.Nat.{ℕ, zero, suc, _+_, _*_, _/_, _%_, _<_, _≤_}
-use native.Mathlib.Nat.{add-zero, add-assoc}
+use native.Mathlib.Nat.{add-zero}
 use native.Mathlib.Omega.{arith}
 use mathlib.Core.Path.{_≡_, refl, ap, sym, _∙_}
 use mathlib.Core.List.{List, [], _∷_, _++_, append-assoc}
-use lib.ListN.{length, getD, take, drop, length-append, List·getD-append}
-use lib.Seq.{take-suc, getD-append-add, getD-drop, drop-drop}
+use lib.ListN.{length, getD, take, drop}
+use lib.Seq.{take-suc, getD-drop, drop-drop}
 use lib.Ieee.{Float, nan, binary64, toBits}
-use Rattle.area.specs.Area.{written}
-use Rattle.area.proofs.Turns.{length-written}
-use Rattle.area.proofs.Places.{same-values, written-add}
+use Rattle.area.specs.Placed.{Put}
+use Rattle.area.proofs.Placed.{put-then, put-length, put-as}
 use Rattle.ieee.specs.Bytes.{littleEndian, f64Bytes}
 use Rattle.ieee.proofs.Bytes.{length-f64Bytes}
-use Rattle.file_writer.specs.Put.{placed, Put}
-
--- ---- one part after another
-placed-append : (at : ℕ) (xs ys area : List ℕ) → placed (at + length xs) ys (placed at xs area) ≡ placed at (xs ++ ys) area
-placed-append at xs ys area =
-    let n : ℕ = length xs in
-    let m : ℕ = length ys in
-    let both : ℕ → ℕ = λ j. getD (xs ++ ys) j 0 in
-    ap (λ (zs : List ℕ). written (at + n) m (λ j. getD ys j 0) zs)
-    (same-values at n (λ j. getD xs j 0) both area (λ j h. sym (List·getD-append xs ys 0 j h)))
-    ∙ same-values (at + n) m (λ j. getD ys j 0) (λ j. both (n + j)) (written at n both area) (λ j h. sym (getD-append-add xs ys j 0))
-    ∙ sym (written-add at n m both area)
-    ∙ ap (λ (k : ℕ). written at k both area) (sym (length-append xs ys))
-
--- what is put where the last part ended goes on from it
-pub put-then : {at mid end : ℕ} {xs ys before between after : List ℕ}
-    → Put at xs before between mid → Put mid ys between after end → Put at (xs ++ ys) before after end
-put-then {at} {mid} {end} {xs} {ys} {before} {between} {after} p q = record {
-  file =
-      q .file
-      ∙ ap (λ (k : ℕ). placed k ys between) (p .past)
-      ∙ ap (λ (zs : List ℕ). placed (at + length xs) ys zs) (p .file)
-      ∙ placed-append at xs ys before;
-  past =
-      q .past ∙ ap (λ (k : ℕ). k + length ys) (p .past) ∙ add-assoc at (length xs) (length ys) ∙ ap (λ (k : ℕ). at + k) (sym (length-append xs ys));
-}
-
--- no byte is put past the end
-pub put-length : {at end : ℕ} {bytes before after : List ℕ} → Put at bytes before after end → length after ≡ length before
-put-length {at} {end} {bytes} {before} {after} p = ap length (p .file) ∙ length-written at (length bytes) (λ j. getD bytes j 0) before
-
--- nothing is put
-pub put-none : (at : ℕ) (area : List ℕ) → Put at [] area area at
-put-none at area = record { file = refl; past = sym (add-zero at) }
-
--- the same bytes by another name
-pub put-as : {at end : ℕ} {xs ys before after : List ℕ} → xs ≡ ys → Put at xs before after end → Put at ys before after end
-put-as {at} {end} {xs} {ys} {before} {after} e p = rw e at p
 
 -- ---- a number byte by byte
 pub length-little : (width x : ℕ) → length (littleEndian width x) ≡ width
@@ -76,12 +37,12 @@ f64-append (x ∷ xs) ys =
 
 -- a list more
 pub put-more : (xs ys : List Float) {mid end : ℕ} {before between after : List ℕ}
-    → Put 0 (f64Bytes xs) before between mid → Put mid (f64Bytes ys) between after end → Put 0 (f64Bytes (xs ++ ys)) before after end
+    → Put 0 (f64Bytes xs) before mid between → Put mid (f64Bytes ys) between end after → Put 0 (f64Bytes (xs ++ ys)) before end after
 put-more xs ys p q = put-as (sym (f64-append xs ys)) (put-then p q)
 
 -- what fits the file together fits past its first part
 pub room-past : (xs : List Float) {end : ℕ} {before after : List ℕ}
-    → Put 0 (f64Bytes xs) before after end → (k : ℕ) → 8 * (length xs + k) ≤ length before → end + 8 * k ≤ length after
+    → Put 0 (f64Bytes xs) before end after → (k : ℕ) → 8 * (length xs + k) ≤ length before → end + 8 * k ≤ length after
 room-past xs p k h =
     let l = put-length p in
     let e = length-f64Bytes xs in

@@ -23,7 +23,7 @@ use Rattle.survey_file.specs.Reader.{reader, answerOf}
 use Rattle.survey_file.specs.Writer.{Outcome, outcomeOf, callWhere, writer, Ends}
 use Rattle.survey_file.proofs.Writer.{written-exactly, writer-ends}
 use Rattle.survey_file.proofs.RoundTrip.{round-trip-call}
-use Rattle.file_writer.specs.Put.{Put}
+use Rattle.area.specs.Placed.{Put}
 use Rattle.file_writer.proofs.Body.{five, toValues, toCoords, toExternal, toNodes, to-the-last}
 
 -- ---- every number that the language hands over is an f64
@@ -83,11 +83,11 @@ module _ (s : Survey) (area : List ℕ) where
   unfolding writer callWhere
   room-there e = written-exactly baseVersion s area .0 (ap (λ (k : ℕ). callWhere k baseVersion s area .number) e) .room
 
-  pub written-there : {count : ℕ} {after : List ℕ} → writerRefusal baseVersion s area ≡ 0 → Put 0 (writerFile baseVersion s) area after count
+  pub written-there : {count : ℕ} {after : List ℕ} → writerRefusal baseVersion s area ≡ 0 → Put 0 (writerFile baseVersion s) area count after
       → outcomeOf (Done count) after ≡ writer baseVersion s area
   unfolding writer callWhere
   written-there e p =
-      (λ i. record { number = 0; count = some ((p .past ∙ zero-add (length (writerFile baseVersion s))) i); area = p .file i })
+      (λ i. record { number = 0; count = some ((p .past ∙ zero-add (length (writerFile baseVersion s))) i); area = p .holds i })
       ∙ ap (λ (k : ℕ). callWhere k baseVersion s area) (sym e)
 
   -- ---- the clauses, in their order: equation, ends, back

@@ -11,7 +11,7 @@ ghost use Rattle.ieee.specs.Bytes.{f64Bytes};
 ghost use Rattle.survey.specs.Survey.{Survey, surveyOf, wells, nodeCount};
 ghost use Rattle.survey_file.specs.Contents.{numbers};
 ghost use Rattle.survey_file.specs.File.{baseVersion, modelNumber, trailer, writerFile};
-ghost use Rattle.file_writer.specs.Put.{Put};
+ghost use Rattle.area.specs.Placed.{Put};
 
 // The version of every file that is written.
 const VERSION: u8 = 1;
@@ -53,7 +53,7 @@ fn put_trailer(
 ) -> usize
     requires { ⌜ at + 14 ≤ length (now file) ⌝ }
     ensures { λ r. ⌜ ((s : Survey) → wells s ≡ n → nodeCount s ≡ m → length (s .bases) ≡ codes → s .options .variogram .model ≡ model
-        → Put at (trailer baseVersion 0 s) (now (file .entry)) (now (file .exit)) r) ⌝ }
+        → Put at (trailer baseVersion 0 s) (now (file .entry)) r (now (file .exit))) ⌝ }
 {
     let bytes = [
         0,
@@ -91,7 +91,7 @@ fn put_all_numbers(
     ensures { λ r. ⌜ Put 0 (f64Bytes (numbers
         (surveyOf (now (values .entry)) (now (coords .entry)) (now (bases .entry)) (now (external .entry))
         (now (nodes .entry)) (now («node_external» .entry)) options tolerance)))
-        (now (file .entry)) (now (file .exit)) r ⌝ }
+        (now (file .entry)) r (now (file .exit)) ⌝ }
 {
     let v = options.variogram;
     let first = [v.nugget, v.sill, v.range, options.regularization, tolerance];
@@ -121,7 +121,7 @@ pub(crate) fn put_file(
     ensures { λ r. ⌜ Put 0 (writerFile baseVersion
         (surveyOf (now (values .entry)) (now (coords .entry)) (now (bases .entry)) (now (external .entry))
         (now (nodes .entry)) (now («node_external» .entry)) options tolerance))
-        (now (file .entry)) (now (file .exit)) r ⌝ }
+        (now (file .entry)) r (now (file .exit)) ⌝ }
 {
     let mut at = put_all_numbers(
         values,

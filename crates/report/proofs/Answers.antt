@@ -9,7 +9,7 @@ use lib.Ieee.{Float}
 use Rattle.area.specs.Area.{copied}
 use Rattle.area.proofs.Start.{take-copied, drop-copied}
 use Rattle.report.specs.Listing.{listing}
-use Rattle.report.specs.Placed.{Put}
+use Rattle.area.specs.Placed.{Put}
 use Rattle.report.specs.Printed.{outcomeOf, printed, listed}
 use Rattle.report.specs.declared.Printed.the-variants.{Done, TooShort, Uneven}
 

@@ -5,8 +5,8 @@ use native.Mathlib.Omega.{arith}
 use mathlib.Core.Path.{_≡_, subst}
 use mathlib.Core.List.{List}
 use Rattle.report.specs.Listing.{lines}
-use Rattle.report.specs.Placed.{Room, Put}
-use Rattle.report.proofs.Placed.{put-then, room-then}
+use Rattle.area.specs.Placed.{Room, Put}
+use Rattle.area.proofs.Placed.{put-then, room-then}
 use Rattle.report.proofs.Lengths.{lines-before}
 
 module _ (line : ℕ → List ℕ) (at : ℕ) (area : List ℕ) where

@@ -4,7 +4,7 @@ ghost use mathlib.Core.List.{[], _∷_};
 ghost use lib.ListN.{length};
 ghost use Rattle.report.specs.Numerals.{decimalText, bitsText};
 ghost use Rattle.report.specs.Listing.{spaced, wordLine, countLine, nodeLine, coefLine, lines, nodeAt, coefAt, refusedText};
-ghost use Rattle.report.specs.Placed.{Room, Put};
+ghost use Rattle.area.specs.Placed.{Room, Put};
 
 // Bytes as they are.
 fn put_bytes(bytes: &[u8], text: &mut [u8], at: usize) -> usize

@@ -7,8 +7,8 @@ use borrow.Author.Tests.{leb-true, leb-false, not-true, not-false}
 use lib.Dec.{leb}
 use lib.ListN.{length}
 use Rattle.report.specs.Listing.{countLine, lines, nodeAt, coefAt, listing, longest}
-use Rattle.report.specs.Placed.{Room, Put}
-use Rattle.report.proofs.Placed.{put-then, room-first, room-then}
+use Rattle.area.specs.Placed.{Room, Put}
+use Rattle.area.proofs.Placed.{put-then, room-first, room-then}
 use Rattle.report.proofs.Answers.{without-room, put-whole, figures-uneven, variances-uneven, even-listed}
 use Rattle.report.proofs.Longest.{longest-listing}
 use borrow.Author.Needs.{needs}

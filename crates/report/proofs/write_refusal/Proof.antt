@@ -6,7 +6,7 @@ use mathlib.Core.List.{List}
 use lib.ListN.{length}
 use Rattle.error.specs.Numbers.{numberOf}
 use Rattle.report.specs.Listing.{refusedText, longest}
-use Rattle.report.specs.Placed.{Put}
+use Rattle.area.specs.Placed.{Put}
 use Rattle.report.proofs.Answers.{without-room, put-whole}
 use Rattle.report.proofs.Longest.{longest-refusal}
 use borrow.Author.Needs.{needs}

@@ -54,7 +54,7 @@ returns : tie.Need-returns Inv-loop μ-loop
 returns c =
     let l = c .before .loop in
     let all : l .j ≡ length (c .before .before .args .bytes .now) = omega arith in
-    record { file = all-turns _ _ _ all (l .inv .3); past = refl }
+    record { holds = all-turns _ _ _ all (l .inv .3); past = refl }
 
 pub put-bytes-spec : {M : Type 1} → statement M
 put-bytes-spec =

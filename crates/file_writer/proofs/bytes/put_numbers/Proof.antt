@@ -8,14 +8,15 @@ use borrow.Author.Needs.{needs}
 use lib.ListN.{length, take}
 use lib.Seq.{take-all}
 use Rattle.ieee.specs.Bytes.{littleEndian, f64Bytes}
-use Rattle.file_writer.specs.Put.{Put}
-use Rattle.file_writer.proofs.Placed.{put-none, put-then, put-as, length-little, f64-more}
+use Rattle.area.specs.Placed.{Put}
+use Rattle.area.proofs.Placed.{put-none, put-then, put-as}
+use Rattle.file_writer.proofs.Placed.{length-little, f64-more}
 use Rattle.file_writer.proofs.bytes.put_numbers.Statement.{statement}
 use Rattle.file_writer.proofs.bytes.put_numbers.Tie as tie
 
 abbrev Inv-loop : tie.InvT-loop
 Inv-loop numbers file₀ at next₀ j₀ j-end file next j =
-    (j ≤ length numbers) × (j-end ≡ length numbers) × (length file ≡ length file₀) × (next ≡ at + 8 * j) × Put at (f64Bytes (take j numbers)) file₀ file next
+    (j ≤ length numbers) × (j-end ≡ length numbers) × (length file ≡ length file₀) × (next ≡ at + 8 * j) × Put at (f64Bytes (take j numbers)) file₀ next file
 
 abbrev μ-loop : tie.MeasureT-loop
 μ-loop numbers file₀ at next₀ j₀ j-end file next j = length numbers - j
@@ -55,7 +56,7 @@ at-entry c = c .before .before .before
 -- the word's bytes are the number's
 one-more : (c : tie.After-put-word Inv-loop μ-loop) → let h = at-head c in
     let a = at-entry h .args in
-    Put (a .at) (f64Bytes (take (h .loop .j + 1) (a .numbers .now))) (a .file .now) (c .put-word .last .1 .0) (c .put-word .result)
+    Put (a .at) (f64Bytes (take (h .loop .j + 1) (a .numbers .now))) (a .file .now) (c .put-word .result) (c .put-word .last .1 .0)
 one-more c =
     let h = at-head c in
     let xs = at-entry h .args .numbers .now in

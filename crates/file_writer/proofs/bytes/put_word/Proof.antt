@@ -65,7 +65,7 @@ returns c =
     let word = c .before .before .args .word in
     let len = length-little 8 word in
     let all : l .j ≡ length (littleEndian 8 word) = omega arith in
-    record { file = all-turns _ _ _ all (l .inv .3); past = omega arith }
+    record { holds = all-turns _ _ _ all (l .inv .3); past = omega arith }
 
 pub put-word-spec : {M : Type 1} → statement M
 put-word-spec =

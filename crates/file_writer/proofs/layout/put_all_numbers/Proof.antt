@@ -10,8 +10,9 @@ use lib.Ieee.{Float}
 use Rattle.ieee.specs.Bytes.{f64Bytes}
 use Rattle.survey.specs.Survey.{Survey, surveyOf}
 use Rattle.survey_file.specs.Contents.{nodeExternals}
-use Rattle.file_writer.specs.Put.{Put}
-use Rattle.file_writer.proofs.Placed.{put-as, put-more, room-past}
+use Rattle.area.specs.Placed.{Put}
+use Rattle.area.proofs.Placed.{put-as}
+use Rattle.file_writer.proofs.Placed.{put-more, room-past}
 use Rattle.file_writer.proofs.Lengths.{taken-most}
 use Rattle.file_writer.proofs.Body.{five, toValues, toCoords, toExternal, toNodes, taken-are, to-the-last}
 use Rattle.file_writer.proofs.Body.{room-five, room-values, room-coords, room-external, room-nodes, room-node-externals}
@@ -54,7 +55,7 @@ survey c =
 
 -- numbers are put from the first byte on
 abbrev PutTo : tie.Start → (Survey → List Float) → List ℕ → ℕ → Type 0
-PutTo c xs after end = Put 0 (f64Bytes (xs (survey c))) (c .args .file .now) after end
+PutTo c xs after end = Put 0 (f64Bytes (xs (survey c))) (c .args .file .now) end after
 
 -- let taken = taken_externals(bases, node_external.len());
 taken-externals-requires : tie.Need-taken-externals-requires

@@ -10,8 +10,8 @@ use Rattle.ieee.proofs.Bytes.{length-f64Bytes}
 use Rattle.survey.specs.Survey.{Survey, surveyOf}
 use Rattle.survey_file.specs.Contents.{numbers}
 use Rattle.survey_file.specs.File.{baseVersion, writerFile}
-use Rattle.file_writer.specs.Put.{Put}
-use Rattle.file_writer.proofs.Placed.{put-then, put-length}
+use Rattle.area.specs.Placed.{Put}
+use Rattle.area.proofs.Placed.{put-then, put-length}
 use Rattle.file_writer.proofs.Lengths.{length-written}
 use Rattle.file_writer.proofs.layout.put_file.Statement.{statement}
 use Rattle.file_writer.proofs.layout.put_file.Tie as tie
@@ -62,7 +62,7 @@ put-bytes-requires c κs =
     omega (arith, p .past, put-length p, length-f64Bytes (numbers s))
 
 codes-put : (c : tie.After-put-bytes) → let s = survey (entry-2 c) in
-    Put 0 (f64Bytes (numbers s) ++ s .bases) (entry-2 c .args .file .now) (c .put-bytes .last .1 .0) (c .put-bytes .result)
+    Put 0 (f64Bytes (numbers s) ++ s .bases) (entry-2 c .args .file .now) (c .put-bytes .result) (c .put-bytes .last .1 .0)
 codes-put c = put-then (at-numbers c .put-all-numbers .ensures) (c .put-bytes .ensures)
 
 -- put_trailer(

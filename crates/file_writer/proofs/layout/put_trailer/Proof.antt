@@ -6,7 +6,7 @@ use borrow.Author.Needs.{needs}
 use lib.ListN.{length}
 use Rattle.survey.specs.Survey.{Survey, wells, nodeCount}
 use Rattle.survey_file.specs.File.{baseVersion, modelNumber, trailer}
-use Rattle.file_writer.proofs.Placed.{put-as}
+use Rattle.area.proofs.Placed.{put-as}
 use Rattle.file_writer.proofs.layout.put_trailer.Statement.{statement}
 use Rattle.file_writer.proofs.layout.put_trailer.Tie as tie
 

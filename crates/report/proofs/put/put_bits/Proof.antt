@@ -4,9 +4,9 @@ use mathlib.Core.Path.{_≡_, ap, sym, _∙_, subst}
 use mathlib.Core.List.{List, [], _∷_}
 use lib.ListN.{take}
 use Rattle.report.specs.Numerals.{hexText, bitsText}
-use Rattle.report.specs.Placed.{Room, Put}
+use Rattle.area.specs.Placed.{Room, Put}
 use Rattle.report.proofs.Numerals.{is-hex, bits-are}
-use Rattle.report.proofs.Placed.{put-then, room-then}
+use Rattle.area.proofs.Placed.{put-then, room-then}
 use borrow.Author.Needs.{needs}
 use Rattle.report.proofs.put.put_bits.Statement.{statement}
 use Rattle.report.proofs.put.put_bits.Tie as tie

@@ -1,5 +1,5 @@
 -- `report::put::put_byte` meets its contract: one store. Assumes nothing.
-use Rattle.report.proofs.Placed.{put-one}
+use Rattle.area.proofs.Placed.{put-one}
 use borrow.Author.Needs.{needs}
 use Rattle.report.proofs.put.put_byte.Statement.{statement}
 use Rattle.report.proofs.put.put_byte.Tie as tie

@@ -2,8 +2,8 @@
 use mathlib.Core.List.{_++_}
 use Rattle.report.specs.Numerals.{ascii, bitsText}
 use Rattle.report.specs.Listing.{spaced}
-use Rattle.report.specs.Placed.{Room, Put}
-use Rattle.report.proofs.Placed.{put-then, room-first, room-then}
+use Rattle.area.specs.Placed.{Room, Put}
+use Rattle.area.proofs.Placed.{put-then, room-first, room-then}
 use borrow.Author.Needs.{needs}
 use Rattle.report.proofs.put.put_coefficient.Statement.{statement}
 use Rattle.report.proofs.put.put_coefficient.Tie as tie

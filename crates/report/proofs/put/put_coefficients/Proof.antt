@@ -4,8 +4,8 @@ use native.Mathlib.Omega.{arith}
 use mathlib.Core.Path.{_≡_, refl, _∙_}
 use lib.ListN.{length}
 use Rattle.report.specs.Listing.{lines, coefAt}
-use Rattle.report.specs.Placed.{Room, Put}
-use Rattle.report.proofs.Placed.{put-none}
+use Rattle.area.specs.Placed.{Room, Put}
+use Rattle.area.proofs.Placed.{put-none}
 use Rattle.report.proofs.Lines.{put-line, room-line, put-all}
 use Rattle.report.proofs.put.put_coefficients.Statement.{statement}
 use Rattle.report.proofs.put.put_coefficients.Tie as tie

@@ -4,7 +4,7 @@ use mathlib.Core.List.{List}
 use Prim.Native.Nat.{ℕ}
 use lib.ListN.{take}
 use Rattle.report.specs.Numerals.{decimalText}
-use Rattle.report.specs.Placed.{Room, Put}
+use Rattle.area.specs.Placed.{Room, Put}
 use Rattle.report.proofs.Numerals.{is-decimal}
 use borrow.Author.Needs.{needs}
 use Rattle.report.proofs.put.put_decimal.Statement.{statement}

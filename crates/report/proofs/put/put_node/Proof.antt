@@ -3,8 +3,8 @@ use mathlib.Core.List.{List, _++_}
 use Prim.Native.Nat.{ℕ}
 use Rattle.report.specs.Numerals.{ascii, decimalText, bitsText}
 use Rattle.report.specs.Listing.{spaced}
-use Rattle.report.specs.Placed.{Room, Put}
-use Rattle.report.proofs.Placed.{put-then, room-first, room-then}
+use Rattle.area.specs.Placed.{Room, Put}
+use Rattle.area.proofs.Placed.{put-then, room-first, room-then}
 use borrow.Author.Needs.{needs}
 use Rattle.report.proofs.put.put_node.Statement.{statement}
 use Rattle.report.proofs.put.put_node.Tie as tie

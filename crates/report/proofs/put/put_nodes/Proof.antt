@@ -5,8 +5,8 @@ use mathlib.Core.Path.{_≡_, refl, _∙_}
 use mathlib.Core.List.{List}
 use lib.ListN.{length}
 use Rattle.report.specs.Listing.{lines, nodeAt}
-use Rattle.report.specs.Placed.{Room, Put}
-use Rattle.report.proofs.Placed.{put-none}
+use Rattle.area.specs.Placed.{Room, Put}
+use Rattle.area.proofs.Placed.{put-none}
 use Rattle.report.proofs.Lines.{put-line, room-line, put-all}
 use Rattle.report.proofs.put.put_nodes.Statement.{statement}
 use Rattle.report.proofs.put.put_nodes.Tie as tie

@@ -1,5 +1,5 @@
 -- `report::put::put_number` meets its contract: a byte, and the digits past it. Assumes nothing.
-use Rattle.report.proofs.Placed.{put-then}
+use Rattle.area.proofs.Placed.{put-then}
 use borrow.Author.Needs.{needs}
 use Rattle.report.proofs.put.put_number.Statement.{statement}
 use Rattle.report.proofs.put.put_number.Tie as tie

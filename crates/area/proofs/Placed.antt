@@ -1,4 +1,4 @@
--- Texts put into an area one after another. Assumes nothing.
+-- Bytes put into an area, one list of them after another. Assumes nothing.
 use Prim.Native.Nat.{ℕ, _+_}
 use native.Mathlib.Nat.{add-zero}
 use native.Mathlib.Omega.{arith}
@@ -6,15 +6,15 @@ use mathlib.Core.Path.{_≡_, refl, ap, sym, _∙_}
 use mathlib.Core.List.{List, [], _∷_, _++_}
 use lib.ListN.{length, getD, set, length-append, List·getD-append}
 use lib.Seq.{getD-append-add}
 use Rattle.area.specs.Area.{written}
 use Rattle.area.proofs.Places.{written-add, same-values}
 use Rattle.area.proofs.Turns.{length-written}
-use Rattle.report.specs.Placed.{placed, Room, Put}
+use Rattle.area.specs.Placed.{placed, Room, Put}
 
-pub length-placed : (at : ℕ) (text area : List ℕ) → length (placed at text area) ≡ length area
-length-placed at text area = length-written at (length text) (λ j. getD text j 0) area
+pub length-placed : (at : ℕ) (bytes area : List ℕ) → length (placed at bytes area) ≡ length area
+length-placed at bytes area = length-written at (length bytes) (λ j. getD bytes j 0) area
 
--- two texts, one past the other, are one text
+-- two texts, one past the other, are one bytes
 placed-more : (at : ℕ) (xs ys area : List ℕ) → placed (at + length xs) ys (placed at xs area) ≡ placed at (xs ++ ys) area
 placed-more at xs ys area =
     let all : ℕ → ℕ = λ j. getD (xs ++ ys) j 0 in
@@ -24,12 +24,20 @@ placed-more at xs ys area =
     ∙ sym (written-add at (length xs) (length ys) all area)
     ∙ ap (λ (k : ℕ). written at k all area) (sym (length-append xs ys))
 
--- putting one text and then another where the first ended
+-- putting one bytes and then another where the first ended
 pub put-then : {at p q : ℕ} {xs ys area one two : List ℕ} → Put at xs area p one → Put p ys one q two → Put at (xs ++ ys) area q two
 put-then {at} {xs = xs} {ys = ys} {area = area} u v = record {
   past = v .past ∙ rw (u .past) (omega (arith, length-append xs ys));
   holds = v .holds ∙ rw (u .past, u .holds) (placed-more at xs ys area);
 }
+
+-- no byte is put past the end
+pub put-length : {at next : ℕ} {bytes area exit : List ℕ} → Put at bytes area next exit → length exit ≡ length area
+put-length {at} {bytes = bytes} {area = area} p = ap length (p .holds) ∙ length-placed at bytes area
+
+-- the same bytes by another name
+pub put-as : {at next : ℕ} {xs ys area exit : List ℕ} → xs ≡ ys → Put at xs area next exit → Put at ys area next exit
+put-as e p = rw e at p
 
 -- nothing
 pub put-none : (at : ℕ) (area : List ℕ) → Put at [] area at area
@@ -39,12 +47,12 @@ put-none at area = record { past = sym (add-zero at); holds = refl }
 pub put-one : (at b : ℕ) (area : List ℕ) → Put at (b ∷ []) area (at + 1) (set area at b)
 put-one at b area = record { past = refl; holds = ap (λ (i : ℕ). set area i b) (sym (add-zero at)) }
 
--- room for two texts is room for the first and, where that is put, for the second past it
+-- room for two lists is room for the first and, where that is put, for the second past it
 pub room-first : (at : ℕ) (xs ys area : List ℕ) → Room at (xs ++ ys) area → Room at xs area
 room-first at xs ys area h = omega (arith, length-append xs ys)
 
 pub room-then : {at p : ℕ} {xs area one : List ℕ} (ys : List ℕ) → Room at (xs ++ ys) area → Put at xs area p one → Room p ys one
 room-then {at} {xs = xs} {area = area} ys h u =
     let e = u .past in
-    let l = ap length (u .holds) ∙ length-placed at xs area in
+    let l = put-length u in
     omega (arith, length-append xs ys)
