@@ -3,15 +3,13 @@ use Prim.Native.Nat.{ℕ, _+_, _-_, _*_, _<_, _≤_}
 use native.Mathlib.Nat.{mul-le-mul}
 use native.Mathlib.Omega.{arith}
 use mathlib.Core.Path.{_≡_, ap, sym}
-use mathlib.Core.Bool.{Bool, true, false, cond}
-use mathlib.Core.List.{List, [], _∷_}
-use lib.Dec.{eqb}
+use mathlib.Core.List.{List}
 use lib.ListN.{length, getD, take, drop, length-take}
 use lib.Seq.{drop-drop, getD-drop}
 use Rattle.area.specs.Area.{part}
 use Rattle.ieee.specs.Bytes.{numberIn}
 use Rattle.patterns.specs.Words.{numberAt}
-use Rattle.survey.specs.Survey.{externalCount}
+use Rattle.survey.proofs.Codes.{externals-at-most}
 use Rattle.survey_file.specs.Trailer.{trailerIn, basesIn, codesIn, externalsIn}
 
 -- a number some places into the trailer, and a byte
@@ -29,18 +27,10 @@ codes-are bytes end b c e h =
     rw (count, from)
 
 -- there are no more of code 4 than codes
-one-at-most : (b : Bool) → cond b 1 0 ≤ 1
-one-at-most true = omega arith
-one-at-most false = omega arith
-
-at-most : (codes : List ℕ) → externalCount codes ≤ length codes
-at-most [] = omega arith
-at-most (c ∷ codes) = omega (arith, one-at-most (eqb c 4), at-most codes)
-
-pub externals-at-most : (bytes : List ℕ) → externalsIn bytes ≤ basesIn bytes
-externals-at-most bytes =
+pub externals-few : (bytes : List ℕ) → externalsIn bytes ≤ basesIn bytes
+externals-few bytes =
     let from = length bytes - 14 - basesIn bytes in
-    omega (arith, at-most (codesIn bytes), length-take (basesIn bytes) (drop from bytes))
+    omega (arith, externals-at-most (codesIn bytes), length-take (basesIn bytes) (drop from bytes))
 
 -- a product of two counts of two bytes
 pub small-product : (k n : ℕ) → k < 65536 → n < 65536 → k * n < 4294967296

@@ -1,12 +1,12 @@
 -- Laws of the drift columns as they are stored: the columns of one code, and a row of them code after code. Assumes nothing.
-use Prim.Native.Nat.{ℕ, _+_, _<_, _≤_}
+use Prim.Native.Nat.{ℕ, _+_, _<_}
 use native.Mathlib.Nat.{add-zero}
 use native.Mathlib.Numerals.{add-one}
 use native.Mathlib.Omega.{arith}
 use mathlib.Core.Path.{_≡_, ap, sym, _∙_}
 use mathlib.Core.Logic.{_≢_}
-use mathlib.Core.Bool.{Bool, true, false, cond}
-use mathlib.Core.List.{List, [], _∷_, _++_}
+use mathlib.Core.Bool.{cond}
+use mathlib.Core.List.{List, _∷_, _++_}
 use borrow.Author.Tests.{ne-eqb}
 use lib.Dec.{eqb}
 use lib.ListN.{length, getD, set, drop, List·getD-append}
@@ -85,15 +85,6 @@ pub rowed-from : (bases : List ℕ) (i : ℕ) → i < length bases
 rowed-from bases i h x y external used col row next e =
     ap (λ (cs : List ℕ). rowed cs x y external used col row) (from-place bases i h)
     ∙ rowed-cons (getD bases i 0) (drop (i + 1) bases) x y external used col row next e
-
--- there are no more of code 4 than codes
-one-at-most : (b : Bool) → cond b 1 0 ≤ 1
-one-at-most true = omega arith
-one-at-most false = omega arith
-
-pub externals-at-most : (cs : List ℕ) → externalCount cs ≤ length cs
-externals-at-most [] = omega arith
-externals-at-most (c ∷ cs) = omega (arith, one-at-most (eqb c 4), externals-at-most cs)
 
 -- past the last code nothing is stored
 pub rowed-end : (bases : List ℕ) (i : ℕ) → i ≡ length bases

@@ -6,7 +6,7 @@ use native.Mathlib.Decide.{ℕ-discrete, decLt}
 use native.Mathlib.Omega.{arith}
 use mathlib.Core.Path.{_≡_, sym, ap, _∙_}
 use mathlib.Core.Bool.{Bool, true, false, cond, _||_}
-use mathlib.Core.List.{List, _∷_}
+use mathlib.Core.List.{List, [], _∷_}
 use borrow.Author.Tests.{lt-ltb, le-ltb, eq-eqb, ne-eqb}
 use lib.Dec.{eqb, ltb}
 use lib.ListN.{length, getD, drop, drop-of-length-le}
@@ -93,3 +93,12 @@ by-division len k n p z =
           eq-eqb (len / n) k e ∙ sym (eq-eqb len (k * n) (omega (arith, div-add-mod' len n)))
       | no e ↦ ne-eqb (len / n) k e ∙ sym (ne-eqb len (k * n) (λ f. e (ap (λ (l : ℕ). l / n) f ∙ mul-div-cancel k p)))
     ]
+
+-- there are no more of code 4 than codes
+one-at-most : (b : Bool) → cond b 1 0 ≤ 1
+one-at-most true = omega arith
+one-at-most false = omega arith
+
+pub externals-at-most : (cs : List ℕ) → externalCount cs ≤ length cs
+externals-at-most [] = omega arith
+externals-at-most (c ∷ cs) = omega (arith, one-at-most (eqb c 4), externals-at-most cs)

@@ -6,7 +6,7 @@ use borrow.Author.Needs.{needs}
 use lib.ListN.{length}
 use Rattle.survey.specs.Survey.{externalCount}
 use Rattle.survey_file.specs.Trailer.{basesIn, externalsIn}
-use Rattle.file_reader.proofs.Places.{number-in, codes-are, externals-at-most}
+use Rattle.file_reader.proofs.Places.{number-in, codes-are, externals-few}
 use Rattle.file_reader.proofs.trailer.read_counts.Statement.{statement}
 use Rattle.file_reader.proofs.trailer.read_counts.Tie as tie
 
@@ -94,7 +94,7 @@ returns c =
         wells = wells .1;
         nodes = nodes .1;
         bases = b .1;
-        externals = omega (arith, k, b .0, b .1, externals-at-most xs);
+        externals = omega (arith, k, b .0, b .1, externals-few xs);
       },
     )
 

@@ -14,7 +14,8 @@ use lib.Ieee.{Float, nan}
 use lib.ListN.{length, getD, drop}
 use Rattle.survey.specs.Survey.{codeColumns, columnSum, externalCount}
 use Rattle.kriging.proofs.DriftRows.{coded, length-coded, coded-any, coded-external}
-use Rattle.kriging.proofs.DriftRows.{externals-at-most, rowed, columns-from, externals-from, rowed-from, rowed-end}
+use Rattle.survey.proofs.Codes.{externals-at-most}
+use Rattle.kriging.proofs.DriftRows.{rowed, columns-from, externals-from, rowed-from, rowed-end}
 use Rattle.kriging.proofs.drift.fill_row.Statement.{statement}
 use Rattle.kriging.proofs.drift.fill_row.Tie as tie
 
