@@ -1,9 +1,9 @@
--- `vectors_fit::counts::write_endings` is safe and ends: the numbers that are left fall. Assumes nothing.
+-- `vectors::counts::write_endings` is safe and ends: the numbers that are left fall. Assumes nothing.
 use Prim.Native.Nat.{_-_}
 use borrow.Author.Needs.{needs}
 use lib.ListN.{length}
-use Rattle.vectors_fit.proofs.counts.write_endings.Statement.{statement}
-use Rattle.vectors_fit.proofs.counts.write_endings.Tie as tie
+use Rattle.vectors.proofs.counts.write_endings.Statement.{statement}
+use Rattle.vectors.proofs.counts.write_endings.Tie as tie
 
 abbrev Inv-loop : tie.InvT-loop
 Inv-loop counts number₀ t4 t5 t6 number = Unit {0}
