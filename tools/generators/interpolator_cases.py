@@ -130,8 +130,8 @@ def telling(draw):
         kind, d = draw.choice(SHAPES[3:])
         n, pool = draw.randrange(2, 6), draw.choice(POOLS)
         coords, targets = ([draw.choice(pool) for _ in range(count * d)] for count in (n, 2))
-        variogram = Variogram(draw.choice([SPHERICAL, LINEAR]), draw.choice([0.0, 0.5, 3.0]), draw.choice([0.0, -0.0, 2.0, -2.0]), draw.choice([0.0, 2.0, 40.0]))
-        query = Query(kind, d, draw.measures(n), coords, targets, variogram)
+        nugget, sill, span = draw.choice([0.0, 0.5, 3.0]), draw.choice([0.0, -0.0, 2.0, -2.0]), draw.choice([0.0, 2.0, 40.0])
+        query = Query(kind, d, draw.measures(n), coords, targets, Variogram(draw.choice([SPHERICAL, LINEAR]), nugget, sill, span))
         change = skipped(query)
         if left.get(change):
             left[change] -= 1

@@ -1,6 +1,6 @@
 """Interpolations that are refused. The number that each has to give stands here, apart from the reading's."""
 from tools.generators.interpolator_case import Case, enough
-from tools.generators.refused import Refusals, Way, changes, edited, shorts, too_short
+from tools.generators.refused import Refusals, changes, edited, shorts, too_short
 from tools.reading import edges
 from tools.reading.interpolator import ORDINARY, UNIVERSAL, Areas, Query, tests
 

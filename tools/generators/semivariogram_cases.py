@@ -98,7 +98,8 @@ def edge_values(draw):
             samples = Samples(2, values, [0.0, 0.0, 1.0, 0.0, 0.0, 4.0, 9.0, 9.0], bins)
             yield Case(samples, longer(samples, draw))
     for _ in range(40):
-        samples = plain(draw, draw.choice([1, 2, 3]), draw.randrange(2, 9), draw.choice([1, 2, 5, 64]), *draw.choice([(4.7e6, 4.71e6), (-20.0, 20.0), (0.0, 0.03)]))
+        low, high = draw.choice([(4.7e6, 4.71e6), (-20.0, 20.0), (0.0, 0.03)])
+        samples = plain(draw, draw.choice([1, 2, 3]), draw.randrange(2, 9), draw.choice([1, 2, 5, 64]), low, high)
         values, coords = ([draw.edge() if draw.randrange(4) == 0 else x for x in xs] for xs in (samples.values, samples.coords))
         samples = draw.choice([samples._replace(values=values), samples._replace(coords=coords)])
         yield Case(samples, longer(samples, draw))

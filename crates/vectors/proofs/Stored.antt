@@ -1,7 +1,7 @@
 -- A store before the place that an area is kept from, and as much of a list as there is. Assumes nothing.
 use Prim.Native.Nat.{ℕ, zero, suc, _<_, min}
 use native.Mathlib.Nat.{zero-min, min-zero, suc-min-suc}
-use mathlib.Core.Path.{_≡_, refl, ap, _∙_}
+use mathlib.Core.Path.{_≡_, ap, _∙_}
 use mathlib.Core.List.{List, [], _∷_}
 use lib.ListN.{length, length-set, set, take}
 use lib.Seq.{drop-set-lt}

@@ -1,5 +1,5 @@
 -- What the places of a lent area are held to: what is told of the call's answer, and past what is written a mark. Assumes nothing.
-use Prim.Native.Nat.{ℕ, zero, suc, _+_, _-_, _*_, _%_, _^_}
+use Prim.Native.Nat.{ℕ, zero, suc, _+_, _-_, _%_, _^_}
 use mathlib.Core.Bool.{cond, _||_}
 use mathlib.Core.List.{List, []}
 use lib.ListN.{length, getD, take, drop}

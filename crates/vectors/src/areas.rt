@@ -2,7 +2,7 @@
 use crate::counts::UNTOUCHED;
 use crate::counts::compared;
 ghost use mathlib.Core.Path.{_≡_};
-ghost use Prim.Native.Nat.{_≤_, min};
+ghost use Prim.Native.Nat.{min};
 ghost use lib.ListN.{length, getD, take};
 ghost use lib.Ieee.{nan, binary64, ofBits, toBits};
 ghost use Rattle.area.specs.Area.{table, Kept};

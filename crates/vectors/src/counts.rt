@@ -3,7 +3,6 @@ use crate::Tally;
 use libc::STDOUT_FILENO;
 ghost use mathlib.Core.Path.{_≡_};
 ghost use lib.ListN.{getD};
-ghost use lib.Dec.{eqb};
 ghost use Rattle.vectors.specs.Tallied.{oneMore};
 ghost use Rattle.vectors.specs.Counted.{countedAt, comparedIn, endedBy, differences};
 

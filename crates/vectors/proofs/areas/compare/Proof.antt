@@ -1,7 +1,7 @@
 -- `vectors::areas::compare` meets its contract: after so many turns the first places are compared. Assumes nothing.
 use Prim.Native.Nat.{_-_, _≤_}
 use native.Mathlib.Omega.{arith}
-use mathlib.Core.Path.{_≡_, refl, sym, _∙_}
+use mathlib.Core.Path.{_≡_, refl}
 use lib.ListN.{length, getD}
 use lib.Ieee.{nan, binary64, toBits}
 use Rattle.vectors.specs.Lent.{markAt, comparedTo}
@@ -11,7 +11,11 @@ use Rattle.vectors.proofs.areas.compare.Statement.{statement}
 use Rattle.vectors.proofs.areas.compare.Tie as tie
 
 abbrev Inv-loop : tie.InvT-loop
-Inv-loop area told written part counts₀ at₀ at-end counts at = (counts ≡ comparedTo (λ i. toBits binary64 (getD area i nan)) markAt told written part at counts₀) × (length counts ≡ length counts₀) × (at ≤ at-end) × (at-end ≡ length area)
+Inv-loop area told written part counts₀ at₀ at-end counts at =
+    (counts ≡ comparedTo (λ i. toBits binary64 (getD area i nan)) markAt told written part at counts₀)
+    × (length counts ≡ length counts₀)
+    × (at ≤ at-end)
+    × (at-end ≡ length area)
 
 abbrev μ-loop : tie.MeasureT-loop
 μ-loop area told written part counts₀ at₀ at-end counts at = at-end - at

@@ -1,10 +1,8 @@
 -- `vectors::areas::compare_at` meets its contract, by what is known of the place. Assumes nothing.
 use borrow.Author.Needs.{needs}
-use mathlib.Core.Path.{_≡_, refl}
-use mathlib.Core.Bool.{true, false}
+use mathlib.Core.Path.{refl}
 use borrow.Author.Tests.{lt-ltb, le-ltb}
 use lib.ListN.{length}
-use lib.Dec.{ltb}
 use Rattle.vectors.proofs.areas.compare_at.Statement.{statement}
 use Rattle.vectors.proofs.areas.compare_at.Tie as tie
 

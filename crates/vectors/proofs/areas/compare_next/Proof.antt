@@ -48,7 +48,8 @@ returns c =
     let came = loaded c in
     let told = at-entry came .args .told in
     let words = came .load-words .last .0 in
-    let first : take (lengths c .least .result) words ≡ take told words = ap (λ (k : ℕ). take k words) (lengths c .least .ensures) ∙ take-least told words in
+    let first : take (lengths c .least .result) words ≡ take told words =
+    ap (λ (k : ℕ). take k words) (lengths c .least .ensures) ∙ take-least told words in
     (came .load-words .ensures, rw first at (c .before .before .compare .ensures))
 
 pub compare-next-spec : {M : Type 1} → statement M

@@ -1,9 +1,7 @@
 -- `vectors::areas::load` meets its contract: each turn stores before place n. Assumes nothing.
-use Prim.Native.Nat.{_-_, _≤_}
+use Prim.Native.Nat.{_-_}
 use native.Mathlib.Omega.{arith}
-use mathlib.Core.Path.{_≡_, refl, _∙_}
-use lib.ListN.{length, length-set, set, drop}
-use lib.Seq.{drop-set-lt}
+use lib.ListN.{length}
 use Rattle.area.specs.Area.{Kept}
 use Rattle.area.proofs.Kept.{kept-same}
 use borrow.Author.Needs.{needs}

@@ -1,24 +1,23 @@
 -- `vectors::areas::mark` meets its contract: after so many turns the first places hold their marks. Assumes nothing.
 use Prim.Native.Nat.{ℕ, _-_, _≤_}
 use native.Mathlib.Omega.{arith}
-use mathlib.Core.Path.{_≡_, refl, sym, _∙_}
+use mathlib.Core.Path.{_≡_, refl, sym, ap, _∙_}
 use lib.ListN.{length, length-set, take}
 use lib.Seq.{take-all}
 use lib.Ieee.{Float, nan, binary64, ofBits}
-use Rattle.area.specs.Area.{written, table}
+use Rattle.area.specs.Area.{written}
 use Rattle.area.proofs.Start.{next-start}
 use Rattle.area.proofs.Places.{all-turns}
 use Rattle.area.proofs.Turns.{length-written}
 use Rattle.area.proofs.Tables.{take-start}
 use Rattle.vectors.specs.Lent.{markAt}
 use borrow.Author.Needs.{needs}
-use lib.Seq.{take-length}
-use mathlib.Core.Path.{ap}
 use Rattle.vectors.proofs.areas.mark.Statement.{statement}
 use Rattle.vectors.proofs.areas.mark.Tie as tie
 
 abbrev Inv-loop : tie.InvT-loop
-Inv-loop area₀ at₀ at-end area at = (area ≡ written 0 at (λ i. ofBits binary64 (markAt i)) area₀) × (length area ≡ length area₀) × (at ≤ at-end) × (at-end ≡ length area₀)
+Inv-loop area₀ at₀ at-end area at =
+    (area ≡ written 0 at (λ i. ofBits binary64 (markAt i)) area₀) × (length area ≡ length area₀) × (at ≤ at-end) × (at-end ≡ length area₀)
 
 abbrev μ-loop : tie.MeasureT-loop
 μ-loop area₀ at₀ at-end area at = at-end - at

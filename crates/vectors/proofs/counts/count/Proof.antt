@@ -1,6 +1,6 @@
 -- `vectors::counts::count` meets its contract: past the end of the counts there is no place to count at. Assumes nothing.
 use borrow.Author.Needs.{needs}
-use mathlib.Core.Path.{refl, sym}
+use mathlib.Core.Path.{sym}
 use lib.Seq.{set-out}
 use Rattle.vectors.specs.Counted.{countedAt}
 use Rattle.vectors.proofs.counts.count.Statement.{statement}
