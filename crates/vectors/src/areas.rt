@@ -8,7 +8,7 @@ ghost use lib.Ieee.{nan, binary64, ofBits, toBits};
 ghost use Rattle.area.specs.Area.{table, Kept};
 ghost use Rattle.vectors.specs.Lent.{markAt, between, comparedAt, comparedTo};
 
-// What every place of a lent area holds before a call: a pattern for each place, of an f64 that no call answers.
+// What every place of a lent area holds before a call: a pattern for each place.
 const MARK: u64 = 0x4730_0000_0000_0000;
 
 // The pattern at a place of an area that no one wrote to.
