@@ -1,13 +1,8 @@
-"""Calls of `fit`, `interpolate` and `calculate` with the original's answers, always the same ones: for the programs that will replay them.
-
-Usage: python3 -m tools.generators.calls KIND [--text] > FILE     (after tools/oracle/build.sh)
-KIND is fit, interpolate or calculate. records.py has the record; with --text each is a line instead: the call, ` = `, the answer.
-"""
-import sys
+"""Calls of `fit`, `interpolate` and `calculate`: as the oracle takes them, and drawn at random."""
 from typing import NamedTuple
 
-from tools.generators.draw import COLUMNS, Draw, flat
-from tools.generators.records import answered, line, listed, number, numbers, record
+from tools.generators.draw import COLUMNS, flat
+from tools.generators.records import listed, number, numbers
 
 
 class Fit(NamedTuple):
@@ -78,21 +73,6 @@ def fit_call(draw, n, codes, m, broken=frozenset()):
     return call._replace(variogram=draw.variogram(style))
 
 
-def fits(draw):
-    refusals = [1, 3, 5, 6, 7, 8]
-    for _ in range(420):
-        n = max(1, draw.count(48, 14))
-        yield fit_call(draw, n, draw.bases(n), draw.count(100, 4) if n < 30 else 2)
-    yield fit_call(draw, 48, [3, 3], 1)
-    yield fit_call(draw, 47, [4] * 12, 1)
-    yield fit_call(draw, 1, [1], 100)
-    for first in refusals:
-        for second in refusals:
-            for _ in range(2):
-                n = draw.randrange(1, 8)
-                yield fit_call(draw, n, draw.bases(n) + [4], draw.randrange(0, 3), {first, second})
-
-
 def more_points(draw, coords, axes):
     """Seldom, a point more than there are values."""
     return coords + [0.0] * axes if draw.randrange(25) == 0 else coords
@@ -113,27 +93,3 @@ def calculate_call(draw):
     values = draw.measures(n)
     coords = more_points(draw, flat(draw.places(n, axes, style)), axes)
     return Calculate(axes, values, coords, draw.choice([1, 2, 3, 5, 10, 63, 64, draw.randrange(1, 65)]))
-
-
-def interpolations(draw):
-    return (interpolate_call(draw) for _ in range(420))
-
-
-def calculations(draw):
-    return (calculate_call(draw) for _ in range(420))
-
-
-KINDS = {"fit": fits, "interpolate": interpolations, "calculate": calculations}
-
-
-def main():
-    kind = sys.argv[1]
-    for call, answer in answered([call.words() for call in KINDS[kind](Draw(f"nakwemol {kind}"))]):
-        if "--text" in sys.argv:
-            print(line(call), "=", answer)
-        else:
-            sys.stdout.buffer.write(record(call, answer))
-
-
-if __name__ == "__main__":
-    main()

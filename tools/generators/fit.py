@@ -17,18 +17,16 @@ from tools.generators.fit_cases import accepted_cases
 from tools.generators.fit_covered import covered
 from tools.generators.fit_refusals import refused_cases
 from tools.generators.records import answer_words, answered, numbers, packed
-from tools.patterns import bits, value
+from tools.generators.replay import hold_refusal, made_files, marked, plus_zero, untouched, written_lines
+from tools.patterns import bits
 from tools.reading import fit
 from tools.reading.fractions_audit import verdict_by_fractions
 from tools.reading.lent import fit_lengths
-from tools.reading.refusals import KINDS
 
-MARK, MARK_BYTE = 0x4730_0000_0000_0000, 99
+MARK_BYTE = 99
 MOST_BYTES = 2_000_000
-MINUS_ZERO = 1 << 63
 MOST_NUMBERS, MOST_CODES = 3072, 64
 PARTS = {
-    "numbers of the endings": "number",
     "figures": "figures",
     "variances": "variances",
     "coefficients": "coefficients",
@@ -48,17 +46,8 @@ class Ended(NamedTuple):
     written: fit.Areas
 
 
-def marked(length):
-    return [value(MARK + at) for at in range(length)]
-
-
 def lent_areas(lengths):
     return fit.Areas(*map(marked, lengths))._replace(verdicts=[MARK_BYTE] * lengths.verdicts)
-
-
-def untouched(areas, before, written):
-    """All past what is written is as it was."""
-    return all(list(map(bits, after[length:])) == list(map(bits, marks[length:])) for after, marks, length in zip(areas, before, written, strict=True))
 
 
 def read(case):
@@ -79,14 +68,13 @@ def original(answer, ended):
     m, p = ended.case.survey.m, ended.case.survey.p
     zero, nodes, *rest = answer_words(answer)
     assert (zero, nodes, rest[2 * m]) == (0, m, p), answer
-    return rest[:m], [0 if x == MINUS_ZERO else x for x in rest[m:2 * m]], rest[2 * m + 1:]
+    return rest[:m], plus_zero(rest[m:2 * m]), rest[2 * m + 1:]
 
 
 def held(ended, answer):
     """Stops where the original answers otherwise: in figures, variances, coefficients or the kind of a refusal."""
     if ended.number:
-        kinds = [f"error {kind}" for kind in KINDS.get(ended.number, ())]
-        assert not kinds or answer in [*kinds, "shape"], (ended.number, answer, ended.case.survey)
+        hold_refusal(ended.number, answer, ended.case.survey)
         return
     m, p, areas = ended.case.survey.m, ended.case.survey.p, ended.areas
     reading = [list(map(bits, area)) for area in (areas.figures[:m], areas.variances[:m], areas.coefficients[:p])]
@@ -120,20 +108,12 @@ def fits_program(case):
 
 
 def counted(all_ended):
-    """How many numbers are compared of each part."""
-    counts = Counter(number=len(all_ended))
+    """How many places are compared of each part."""
+    counts = Counter()
     for ended in all_ended:
         counts.update(ended.written._replace(work=ended.written.work if ended.case.whole else 0)._asdict())
         counts["untouched"] += sum(ended.case.lent) - sum(ended.written)
-    return counts
-
-
-def written_lines(all_ended):
-    """What the program writes where every record comes out as it says."""
-    endings, counts = Counter(ended.number for ended in all_ended), counted(all_ended)
-    yield from (f"ended by {number}: {endings[number]}" for number in sorted(endings))
-    yield from (f"{name}: {counts[part]} compared, 0 differ" for name, part in PARTS.items())
-    yield f"{len(all_ended)} compared, 0 differ"
+    return {name: counts[part] for name, part in PARTS.items()}
 
 
 def files():
@@ -146,6 +126,5 @@ def files():
         held(ended, answer)
         assert ended.case.number in (None, ended.number), (ended.case, ended.number)
     covered(all_ended)
-    data = b"".join(packed([*asked_words(e.case), *told_words(e, a)]) for e, a in zip(all_ended, answers))
-    assert len(data) <= MOST_BYTES, len(data)
-    return {"stdin": data, "stdout": "".join(line + "\n" for line in written_lines(all_ended)).encode()}
+    records = [packed([*asked_words(e.case), *told_words(e, a)]) for e, a in zip(all_ended, answers)]
+    return made_files(records, written_lines([ended.number for ended in all_ended], counted(all_ended)), MOST_BYTES)

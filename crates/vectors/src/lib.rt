@@ -1,6 +1,11 @@
-// What the programs that replay stored answers share: the words of standard input, and the tally.
+// What the programs that replay stored answers share: the words of standard input and the tally; and, of those that replay whole calls, the counts and
+// the lent areas.
+pub mod areas; // areas.rt: lists that come in, and areas that are lent
+pub mod counts; // counts.rt: what is counted, and written
+
 ghost use mathlib.Core.Path.{_≡_};
 ghost use mathlib.Core.Bool.{true, false};
+ghost use lib.Ieee.{binary64, ofBits};
 ghost use Rattle.vectors.specs.Tallied.{tallyOf, withRecord};
 use libc::STDIN_FILENO;
 use libc::STDOUT_FILENO;
@@ -9,6 +14,22 @@ use libc::STDOUT_FILENO;
 pub struct Input {
     pub value: u64,
     pub more: bool,
+}
+
+impl Input {
+    // The word as a count.
+    pub fn size(self) -> usize
+        ensures { λ r. ⌜ r ≡ self .value ⌝ }
+    {
+        self.value as usize
+    }
+
+    // The f64 whose pattern the word is.
+    pub fn float(self) -> f64
+        ensures { λ r. ⌜ r ≡ ofBits binary64 (self .value) ⌝ }
+    {
+        patterns::float(self.value)
+    }
 }
 
 // How many records were compared, how many of them differ, and whether there are more.

@@ -49,7 +49,7 @@ fn after(p: Place, size: usize) -> Place {
 // What stands there before the call: the matrix, whose next number comes in, beside the identity.
 fn entry(p: Place, size: usize) -> f64 {
     if p.column < size {
-        return patterns::float(vectors::next_word().value);
+        return vectors::next_word().float();
     }
     if p.column - size == p.row { 1.0 } else { 0.0 }
 }
@@ -130,15 +130,6 @@ fn agrees(head: Head, work: &mut [f64]) -> bool {
     !done && outcome == NONE && head.asked == n + 1 && head.answered == 1
 }
 
-// The next n numbers that come in, at the start of the area.
-fn load_all(work: &mut [f64], n: usize) {
-    let mut at = 0;
-    while at < work.len() && at < n {
-        work[at] = patterns::float(vectors::next_word().value);
-        at += 1;
-    }
-}
-
 // How many of the first n numbers are others than those that come in.
 fn all_differences(work: &[f64], n: usize) -> u64 {
     let mut differ = 0;
@@ -187,7 +178,7 @@ fn agrees_whole(head: Head, work: &mut [f64]) -> bool {
         return false;
     }
     let n = area_numbers(size);
-    load_all(work, n);
+    vectors::areas::load(work, n);
     let came = outcome(head.call, work, size);
     let wanted = vectors::next_word().value;
     let differ = all_differences(work, n);
@@ -198,7 +189,7 @@ fn next_head() -> Head {
     let call = vectors::next_word();
     let asked = vectors::next_word().value;
     let answered = vectors::next_word().value;
-    let size = vectors::next_word().value as usize;
+    let size = vectors::next_word().size();
     Head {
         call: call.value,
         asked,

@@ -9,16 +9,17 @@ mod record; // record.rt: what a fit is called with
 use compare::compare_all;
 use compare::mark_all;
 use counts::COUNTS;
-use counts::differences;
-use counts::write_endings;
 use counts::write_parts;
 use kriging::Fit;
 use record::Head;
-use record::load;
 use record::load_codes;
 use record::next_head;
 use vectors::Tally;
-ghost use Prim.Native.Nat.{_≤_};
+use vectors::areas::least;
+use vectors::areas::load;
+use vectors::areas::part;
+use vectors::counts::all_differences;
+use vectors::counts::write_endings;
 
 // The most numbers of a record's lists together, and the most codes.
 const NUMBERS: usize = 3072;
@@ -34,24 +35,7 @@ const WEIGHTS: usize = 4808;
 
 const COLUMNS: usize = 16;
 
-fn least(n: usize, most: usize) -> usize
-    ensures { λ r. ⌜ r ≤ most ⌝ }
-{
-    if n < most { n } else { most }
-}
-
-// The numbers from a place up to another one: none where the list has no such part.
-fn part(numbers: &[f64], from: usize, to: usize) -> &[f64] {
-    if to > numbers.len() {
-        return &numbers[..0];
-    }
-    if from > to {
-        return &numbers[..0];
-    }
-    &numbers[from..to]
-}
-
-// The fit, with the lists of a record and as much of each area as it lends.
+// The fit, with the lists of a record and the areas that it lends.
 fn answer(
     head: Head,
     numbers: &[f64],
@@ -64,14 +48,7 @@ fn answer(
     coefficients: &mut [f64],
 ) -> Fit {
     let lists = head.lists;
-    let lent = head.lent;
     let bases = least(lists.codes, codes.len());
-    let a = least(lent.work, work.len());
-    let b = least(lent.predicted, predicted.len());
-    let c = least(lent.variance, variance.len());
-    let d = least(lent.verdicts, verdicts.len());
-    let e = least(lent.weights, weights.len());
-    let f = least(lent.coefficients, coefficients.len());
     kriging::universal_kriging_fit(
         part(numbers, 0, lists.values),
         part(numbers, lists.values, lists.coords),
@@ -81,12 +58,12 @@ fn answer(
         part(numbers, lists.external, lists.nodes),
         part(numbers, lists.nodes, lists.node_external),
         head.tolerance,
-        &mut work[..a],
-        &mut predicted[..b],
-        &mut variance[..c],
-        &mut verdicts[..d],
-        &mut weights[..e],
-        &mut coefficients[..f],
+        work,
+        predicted,
+        variance,
+        verdicts,
+        weights,
+        coefficients,
     )
 }
 
@@ -98,8 +75,47 @@ fn number_of(answer: Fit) -> u64 {
     }
 }
 
-// A record's fit, with areas of its own that hold the marks, and what came of it.
+// A record's fit, with areas that hold the marks, and what came of it.
+fn replay_lent(
+    head: Head,
+    numbers: &[f64],
+    codes: &[u8],
+    work: &mut [f64],
+    predicted: &mut [f64],
+    variance: &mut [f64],
+    verdicts: &mut [u8],
+    weights: &mut [f64],
+    coefficients: &mut [f64],
+    counts: &mut [u64],
+) {
+    let number = number_of(answer(
+        head,
+        numbers,
+        codes,
+        work,
+        predicted,
+        variance,
+        verdicts,
+        weights,
+        coefficients,
+    ));
+    let mut words = [0u64; WORK];
+    compare_all(
+        number,
+        work,
+        predicted,
+        variance,
+        verdicts,
+        weights,
+        coefficients,
+        &mut words,
+        counts,
+    );
+}
+
+// A record's fit, with as much of each area as it lends.
 fn replay_fit(head: Head, numbers: &[f64], codes: &[u8], counts: &mut [u64]) {
+    let lent = head.lent;
     let mut work = [0.0; WORK];
     let mut predicted = [0.0; NODES];
     let mut variance = [0.0; NODES];
@@ -107,7 +123,6 @@ fn replay_fit(head: Head, numbers: &[f64], codes: &[u8], counts: &mut [u64]) {
     let mut weights = [0.0; WEIGHTS];
     let mut coefficients = [0.0; COLUMNS];
     mark_all(
-        head.lent,
         &mut work,
         &mut predicted,
         &mut variance,
@@ -115,26 +130,22 @@ fn replay_fit(head: Head, numbers: &[f64], codes: &[u8], counts: &mut [u64]) {
         &mut weights,
         &mut coefficients,
     );
-    let number = number_of(answer(
+    let a = least(lent.work, WORK);
+    let b = least(lent.predicted, NODES);
+    let c = least(lent.variance, NODES);
+    let d = least(lent.verdicts, NODES);
+    let e = least(lent.weights, WEIGHTS);
+    let f = least(lent.coefficients, COLUMNS);
+    replay_lent(
         head,
         numbers,
         codes,
-        &mut work,
-        &mut predicted,
-        &mut variance,
-        &mut verdicts,
-        &mut weights,
-        &mut coefficients,
-    ));
-    compare_all(
-        head.lent,
-        number,
-        &work,
-        &predicted,
-        &variance,
-        &verdicts,
-        &weights,
-        &coefficients,
+        &mut work[..a],
+        &mut predicted[..b],
+        &mut variance[..c],
+        &mut verdicts[..d],
+        &mut weights[..e],
+        &mut coefficients[..f],
         counts,
     );
 }
@@ -150,9 +161,9 @@ fn replayed(t: Tally, counts: &mut [u64]) -> Tally {
     load(&mut numbers, lists.node_external);
     let mut codes = [0u8; CODES];
     load_codes(&mut codes, lists.codes);
-    let before = differences(counts);
+    let before = all_differences(counts);
     replay_fit(head, &numbers, &codes, counts);
-    vectors::counted(t, differences(counts) == before)
+    vectors::counted(t, all_differences(counts) == before)
 }
 
 // A proved loop has to end, and nothing says that the input does: the loop counts its turns down.

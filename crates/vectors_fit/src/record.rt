@@ -33,11 +33,11 @@ pub struct Head {
 }
 
 pub(crate) fn next_size() -> usize {
-    vectors::next_word().value as usize
+    vectors::next_word().size()
 }
 
 fn next_float() -> f64 {
-    patterns::float(vectors::next_word().value)
+    vectors::next_word().float()
 }
 
 // Where a list ends that begins at a place.
@@ -100,7 +100,7 @@ pub(crate) fn next_areas() -> Areas {
 
 pub(crate) fn next_head() -> Head {
     let first = vectors::next_word();
-    let lists = next_lists(first.value as usize);
+    let lists = next_lists(first.size());
     let options = next_options();
     let tolerance = next_float();
     Head {
@@ -109,15 +109,6 @@ pub(crate) fn next_head() -> Head {
         tolerance,
         lent: next_areas(),
         more: first.more,
-    }
-}
-
-// The next n numbers that come in, at the start of the list.
-pub(crate) fn load(list: &mut [f64], n: usize) {
-    let mut at = 0;
-    while at < list.len() && at < n {
-        list[at] = next_float();
-        at += 1;
     }
 }
 

@@ -1,54 +1,52 @@
 -- `vectors_fit::compare::compare_verdicts` is safe and ends: what is left of the area falls. Assumes nothing.
 use Prim.Native.Nat.{_-_, _≤_}
 use mathlib.Core.Path.{_≡_}
-use borrow.Author.Needs.{needs}
 use lib.ListN.{length}
+use borrow.Author.Needs.{needs}
 use Rattle.vectors_fit.proofs.compare.compare_verdicts.Statement.{statement}
 use Rattle.vectors_fit.proofs.compare.compare_verdicts.Tie as tie
 
 abbrev Inv-loop : tie.InvT-loop
-Inv-loop area lent written counts₀ at₀ counts at = (at ≤ length area) × (length counts ≡ length counts₀)
+Inv-loop area told written counts₀ at₀ at-end counts at = (length counts ≡ length counts₀) × (at ≤ at-end) × (at-end ≡ length area)
 
 abbrev μ-loop : tie.MeasureT-loop
-μ-loop area lent written counts₀ at₀ counts at = length area - at
+μ-loop area told written counts₀ at₀ at-end counts at = at-end - at
 
--- while at < area.len() && at < lent
+-- for at in 0..area.len()
 loop-holds : tie.Need-loop-holds Inv-loop μ-loop
 loop-holds c = search needs
 
--- compare_verdict(wide(area[at]), at, written, counts);
+-- wide(area[at]),
 shared-slice-read-wide : tie.Need-shared-slice-read-wide Inv-loop μ-loop
 shared-slice-read-wide c = search needs
 
 wide-requires : tie.Need-wide-requires Inv-loop μ-loop
 wide-requires c κs = tt
 
-compare-verdict-requires : tie.Need-compare-verdict-requires Inv-loop μ-loop
-compare-verdict-requires c κs = tt
+-- wide(MARK_BYTE),
+wide-requires-2 : tie.Need-wide-requires-2 Inv-loop μ-loop
+wide-requires-2 c κs = tt
 
--- at += 1;
+-- compare_at(
+compare-at-requires : tie.Need-compare-at-requires Inv-loop μ-loop
+compare-at-requires c κs = tt
+
+-- for at in 0..area.len()
 add-at : tie.Need-add-at Inv-loop μ-loop
 add-at c = search needs
 
--- while at < area.len() && at < lent
 loop-less : tie.Need-loop-less Inv-loop μ-loop
 loop-less c = search needs
 
 loop-again : tie.Need-loop-again Inv-loop μ-loop
 loop-again c = search needs
 
--- at the end
+-- fn compare_verdicts(..)
 same-length : tie.Need-same-length Inv-loop μ-loop
 same-length c = search needs
 
 returns : tie.Need-returns Inv-loop μ-loop
-returns c = tt
-
-same-length-2 : tie.Need-same-length-2 Inv-loop μ-loop
-same-length-2 c = search needs
-
-returns-2 : tie.Need-returns-2 Inv-loop μ-loop
-returns-2 c = tt
+returns c = search needs
 
 pub compare-verdicts-spec : {M : Type 1} → statement M
 compare-verdicts-spec =
@@ -59,11 +57,10 @@ compare-verdicts-spec =
     loop-holds
     shared-slice-read-wide
     wide-requires
-    compare-verdict-requires
+    wide-requires-2
+    compare-at-requires
     add-at
     loop-less
     loop-again
     same-length
-    returns
-    same-length-2
-    returns-2)
+    returns)

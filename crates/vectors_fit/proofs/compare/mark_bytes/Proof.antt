@@ -1,18 +1,18 @@
 -- `vectors_fit::compare::mark_bytes` is safe and ends: what is left of the area falls. Assumes nothing.
-use Prim.Native.Nat.{_-_}
+use Prim.Native.Nat.{_-_, _≤_}
 use mathlib.Core.Path.{_≡_}
-use borrow.Author.Needs.{needs}
 use lib.ListN.{length}
+use borrow.Author.Needs.{needs}
 use Rattle.vectors_fit.proofs.compare.mark_bytes.Statement.{statement}
 use Rattle.vectors_fit.proofs.compare.mark_bytes.Tie as tie
 
 abbrev Inv-loop : tie.InvT-loop
-Inv-loop area₀ lent at₀ area at = length area ≡ length area₀
+Inv-loop area₀ at₀ at-end area at = (length area ≡ length area₀) × (at ≤ at-end) × (at-end ≡ length area₀)
 
 abbrev μ-loop : tie.MeasureT-loop
-μ-loop area₀ lent at₀ area at = length area₀ - at
+μ-loop area₀ at₀ at-end area at = at-end - at
 
--- while at < area.len() && at < lent
+-- for at in 0..area.len()
 loop-holds : tie.Need-loop-holds Inv-loop μ-loop
 loop-holds c = search needs
 
@@ -20,29 +20,22 @@ loop-holds c = search needs
 slice-write-area : tie.Need-slice-write-area Inv-loop μ-loop
 slice-write-area c = search needs
 
--- at += 1;
+-- for at in 0..area.len()
 add-at : tie.Need-add-at Inv-loop μ-loop
 add-at c = search needs
 
--- while at < area.len() && at < lent
 loop-less : tie.Need-loop-less Inv-loop μ-loop
 loop-less c = search needs
 
 loop-again : tie.Need-loop-again Inv-loop μ-loop
 loop-again c = search needs
 
--- at the end
+-- fn mark_bytes(..)
 same-length : tie.Need-same-length Inv-loop μ-loop
 same-length c = search needs
 
 returns : tie.Need-returns Inv-loop μ-loop
-returns c = tt
-
-same-length-2 : tie.Need-same-length-2 Inv-loop μ-loop
-same-length-2 c = search needs
-
-returns-2 : tie.Need-returns-2 Inv-loop μ-loop
-returns-2 c = tt
+returns c = search needs
 
 pub mark-bytes-spec : {M : Type 1} → statement M
 mark-bytes-spec =
@@ -56,6 +49,4 @@ mark-bytes-spec =
     loop-less
     loop-again
     same-length
-    returns
-    same-length-2
-    returns-2)
+    returns)
