@@ -2,40 +2,30 @@
 use Prim.Native.Nat.{ℕ, suc, _+_, _*_, _%_, _^_, _<_, _≤_}
 use native.Mathlib.Omega.{arith}
 use native.Mathlib.Numerals.{add-one}
-use mathlib.Core.Path.{_≡_, ap, sym, _∙_, subst}
+use mathlib.Core.Path.{_≡_, sym, _∙_, subst}
 use mathlib.Core.Bool.{Bool, true, false, not}
 use mathlib.Core.List.{List}
 use lib.Dec.{T}
 use borrow.Author.Tests.{lt-ltb, le-ltb}
-use lib.ListN.{length, getD, take, drop, List·getD-eq-default}
+use lib.ListN.{length, getD, List·getD-eq-default}
 use lib.Pow.{pow-add}
 use lib.Ieee.{Float, nan, inf, fin, binary64, ofBits, nanBits, isNan, eq, ne}
 use lib.Ieee.Bits.{nanBits-is, nanBits-above}
 use lib.Ieee.Compare.{differs-from-itself}
-use Rattle.ieee.specs.Bytes.{numberIn}
 use Rattle.ieee.proofs.Bytes.{number-more}
 use Rattle.ieee.proofs.Fields.{is-nan}
+use Rattle.patterns.specs.Words.{numberAt}
 
 -- a byte past the end
 pub past : (xs : List ℕ) (i : ℕ) → length xs ≤ i → 0 ≡ getD xs i 0
 past xs i h = sym (List·getD-eq-default xs 0 {n = i} h)
 
--- the k bytes from a place on, as a number
-abbrev pub bytesAt : List ℕ → ℕ → ℕ → ℕ
-bytesAt xs at k = numberIn (take k (drop at xs))
-
--- one byte more, below those that a word has already
-pub byte-more : (xs : List ℕ) (at k w : ℕ) → w ≡ bytesAt xs (suc at) k → w * 256 + getD xs at 0 ≡ bytesAt xs at (k + 1)
+-- one byte more, below those that a number has already
+pub byte-more : (xs : List ℕ) (at k w : ℕ) → w ≡ numberAt xs (suc at) k → w * 256 + getD xs at 0 ≡ numberAt xs at (k + 1)
 byte-more xs at k w h = let e = number-more xs at k in rw add-one (omega arith)
 
-pub room-more : (k w b : ℕ) → w < 2 ^ (8 * k) → b < 256 → w * 256 + b < 2 ^ (8 * (k + 1))
-room-more k w b h g =
-    let p = 2 ^ (8 * k) in
-    let e : 2 ^ (8 * (k + 1)) ≡ p * 256 = ap (λ (n : ℕ). 2 ^ n) next ∙ pow-add 2 (8 * k) 8 in
-    rw e (omega arith)
-  where
-    next : 8 * (k + 1) ≡ 8 * k + 8
-    next = omega arith
+pub room-more : (k w b : ℕ) → w < 256 ^ k → b < 256 → w * 256 + b < 256 ^ (k + 1)
+room-more k w b h g = let p = 256 ^ k in rw (pow-add 256 k 1) (omega arith)
 
 -- ---- patterns
 -- a pattern above infinity's, its sign aside, is a NaN's

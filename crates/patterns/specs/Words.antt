@@ -1,9 +1,13 @@
--- Words of 64 bits in bytes. Assumes nothing.
+-- Numbers in bytes, words of 64 bits among them. Assumes nothing.
 use Prim.Native.Nat.{ℕ}
 use mathlib.Core.List.{List}
 use lib.ListN.{take, drop}
 use Rattle.ieee.specs.Bytes.{numberIn}
 
--- the word of 64 bits in the 8 bytes from a place on: the lowest comes first, and a byte past the end counts as 0
+-- the number in so many bytes from a place on: the lowest comes first, and a byte past the end counts as 0
+abbrev pub numberAt : List ℕ → ℕ → ℕ → ℕ
+numberAt xs at width = numberIn (take width (drop at xs))
+
+-- the word of 64 bits in the 8 bytes from a place on
 abbrev pub wordAt : List ℕ → ℕ → ℕ
-wordAt xs at = numberIn (take 8 (drop at xs))
+wordAt xs at = numberAt xs at 8

@@ -115,7 +115,7 @@ pub fn variogram_not_finite(v: Variogram) -> bool
 }
 
 // 11: whether a number is not finite. Node externals count only where a code takes them.
-fn number_not_finite(
+pub fn number_not_finite(
     values: &[f64],
     coords: &[f64],
     bases: &[u8],

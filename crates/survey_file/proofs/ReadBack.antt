@@ -97,12 +97,14 @@ length-parts v note s =
     simp length-append in
     omega arith
 
--- a file is as long as its lists make it
+-- a file is as long as its note, its numbers and its codes make it
+pub length-file : (v : ℕ) (note : List ℕ) (s : Survey) → length (fileOf v note s) ≡ length note + 8 * length (numbers s) + length (s .bases) + 14
+length-file v note s = ap length (file-parts v note s) ∙ length-parts v note s
+
+-- and the numbers are as many as the counts say
 pub file-length : (v : ℕ) (note : List ℕ) (s : Survey) → Lists s
     → length (fileOf v note s) ≡ fileLength (length note) (wells s) (nodeCount s) (externals s) (length (s .bases))
-file-length v note s l =
-    ap length (file-parts v note s) ∙ length-parts v note s
-    ∙ ap (λ (n : ℕ). length note + 8 * n + length (s .bases) + 14) (length-numbers s l)
+file-length v note s l = length-file v note s ∙ ap (λ (n : ℕ). length note + 8 * n + length (s .bases) + 14) (length-numbers s l)
 
 -- and all of it is bytes, if the version, the note and the codes are
 trailer-bytes : (v start : ℕ) (s : Survey) → v < 256 → T (allBytes (trailer v start s))

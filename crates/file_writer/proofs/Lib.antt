@@ -1,0 +1,4 @@
+pub mod Placed
+pub mod Lengths
+pub mod Body
+pub mod Promised
