@@ -1,0 +1,65 @@
+-- How long lines and listings are, and that no listing of an accepted fit is longer than the longest. Assumes nothing.
+use Prim.Native.Nat.{ℕ, zero, suc, _+_, _*_, _≤_}
+use native.Mathlib.Nat.{le-refl}
+use native.Mathlib.Decide.{decLt}
+use native.Mathlib.Omega.{arith}
+use mathlib.Core.Path.{_≡_, refl}
+use mathlib.Core.List.{List, _++_}
+use lib.ListN.{length, getD, length-append}
+use lib.Ieee.{Float, nan}
+use Rattle.report.specs.Numerals.{ascii, decimalText, bitsText}
+use Rattle.report.specs.Listing.{spaced, wordLine, countLine, nodeLine, coefLine, lines, nodeAt, coefAt, listing}
+use Rattle.report.proofs.Numerals.{bits-length}
+
+pub word-line-length : (word : List ℕ) (n : ℕ) → length (wordLine word n) ≡ length word + length (decimalText n) + 2
+word-line-length word n =
+    let d = decimalText n in
+    let a = length-append (word ++ spaced d) (ascii "\n") in
+    let b = length-append word (spaced d) in
+    omega arith
+
+pub node-line-length : (number : ℕ) (figure variance : Float) (verdict : ℕ)
+    → length (nodeLine number figure variance verdict) ≡ length (decimalText number) + length (decimalText verdict) + 36
+node-line-length number figure variance verdict =
+    let k = decimalText number in
+    let x = spaced (bitsText figure) in
+    let y = spaced (bitsText variance) in
+    let v = spaced (decimalText verdict) in
+    let a = length-append (k ++ x ++ y ++ v) (ascii "\n") in
+    let b = length-append (k ++ x ++ y) v in
+    let c = length-append (k ++ x) y in
+    let d = length-append k x in
+    omega (arith, bits-length figure, bits-length variance)
+
+pub coef-line-length : (x : Float) → length (coefLine x) ≡ 22
+coef-line-length x = let a = length-append (ascii "coef" ++ spaced (bitsText x)) (ascii "\n") in omega (arith, bits-length x)
+
+-- ---- lines
+pub lines-more : (k : ℕ) (line : ℕ → List ℕ) → length (lines (suc k) line) ≡ length (lines k line) + length (line k)
+lines-more k line = length-append (lines k line) (line k)
+
+-- the lines before the k-th are no longer than all of them
+pub lines-before : (k n : ℕ) (line : ℕ → List ℕ) → k ≤ n → length (lines k line) ≤ length (lines n line)
+lines-before k zero line h = let e : k ≡ 0 = omega arith in rw e (omega arith)
+lines-before k (suc n) line h =
+    elim (decLt n k) [
+      | yes p ↦ let e : k ≡ suc n = omega arith in rw e (le-refl (length (lines (suc n) line)))
+      | no m ↦ let b = lines-before k n line (omega arith) in omega (arith, lines-more n line)
+    ]
+
+pub coef-lines-length : (p : ℕ) (coefficients : List Float) → length (lines p (coefAt coefficients)) ≡ 22 * p
+coef-lines-length zero coefficients = refl
+coef-lines-length (suc p) coefficients =
+    omega (arith, lines-more p (coefAt coefficients), coef-lines-length p coefficients, coef-line-length (getD coefficients p nan))
+
+pub listing-length : (figures variances : List Float) (verdicts : List ℕ) (coefficients : List Float)
+    → length (listing figures variances verdicts coefficients)
+    ≡ length (decimalText (length verdicts)) + 7 + length (lines (length verdicts) (nodeAt figures variances verdicts)) + 22 * length coefficients
+unfolding listing
+listing-length figures variances verdicts coefficients =
+    let m = length verdicts in
+    let ns = lines m (nodeAt figures variances verdicts) in
+    let cs = lines (length coefficients) (coefAt coefficients) in
+    let a = length-append (countLine m ++ ns) cs in
+    let b = length-append (countLine m) ns in
+    omega (arith, word-line-length (ascii "nodes") m, coef-lines-length (length coefficients) coefficients)

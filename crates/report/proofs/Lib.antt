@@ -1,0 +1,10 @@
+pub mod Digits
+pub mod Numerals
+pub mod Reading
+pub mod Unique
+pub mod Placed
+pub mod Lengths
+pub mod Lines
+pub mod Answers
+pub mod Longest
+pub mod Cases

@@ -1,0 +1,55 @@
+-- What `wellmap` prints: "node count; node number from 1, figure bits, variance bits, verdict; one coef line a column", or "only `refused N`".
+-- Each line ends in a line feed. Assumes nothing.
+use Prim.Native.Nat.{ℕ, zero, suc, _+_}
+use mathlib.Core.List.{List, [], _++_}
+use lib.ListN.{length, getD}
+use lib.Ieee.{Float, nan}
+use Rattle.report.specs.Numerals.{ascii, decimalText, bitsText}
+
+-- what stands between two fields of a line
+abbrev pub spaced : List ℕ → List ℕ
+spaced field = ascii " " ++ field
+
+-- a line of one word and one number
+abbrev pub wordLine : List ℕ → ℕ → List ℕ
+wordLine word n = word ++ spaced (decimalText n) ++ ascii "\n"
+
+-- "node count"
+abbrev pub countLine : ℕ → List ℕ
+countLine m = wordLine (ascii "nodes") m
+
+-- "node number from 1, figure bits, variance bits, verdict"
+abbrev pub nodeLine : ℕ → Float → Float → ℕ → List ℕ
+nodeLine number figure variance verdict =
+    decimalText number ++ spaced (bitsText figure) ++ spaced (bitsText variance) ++ spaced (decimalText verdict) ++ ascii "\n"
+
+-- a coefficient's line
+abbrev pub coefLine : Float → List ℕ
+coefLine x = ascii "coef" ++ spaced (bitsText x) ++ ascii "\n"
+
+-- the lines 0 to k - 1, one after another
+abbrev pub lines : ℕ → (ℕ → List ℕ) → List ℕ
+lines zero line = []
+lines (suc k) line = lines k line ++ line k
+
+-- the line of the node at place i, whose number is i + 1
+abbrev pub nodeAt : List Float → List Float → List ℕ → ℕ → List ℕ
+nodeAt figures variances verdicts i = nodeLine (i + 1) (getD figures i nan) (getD variances i nan) (getD verdicts i 0)
+
+-- the line of the coefficient at place j: "one coef line a column"
+abbrev pub coefAt : List Float → ℕ → List ℕ
+coefAt coefficients j = coefLine (getD coefficients j nan)
+
+-- all of an accepted fit's; there are as many nodes as verdicts, and as many columns as coefficients
+unfoldable pub listing : List Float → List Float → List ℕ → List Float → List ℕ
+listing figures variances verdicts coefficients =
+    countLine (length verdicts) ++ lines (length verdicts) (nodeAt figures variances verdicts) ++ lines (length coefficients) (coefAt coefficients)
+
+-- "A refusal prints only `refused N`"
+unfoldable pub refusedText : ℕ → List ℕ
+refusedText number = wordLine (ascii "refused") number
+
+-- The bytes of the longest listing of an accepted fit, 100 nodes and 12 columns with verdicts of three digits: 10 for the count's line,
+-- 192 for the nodes' numbers and 39 more for each node, 22 for each column.
+abbrev pub longest : ℕ
+longest = 4366

@@ -1,0 +1,19 @@
+-- A text put into a lent area from a place on. Assumes nothing.
+use Prim.Native.Nat.{ℕ, _+_, _≤_}
+use mathlib.Core.Path.{_≡_}
+use mathlib.Core.List.{List}
+use lib.ListN.{length, getD}
+use Rattle.area.specs.Area.{written}
+
+-- the area after it; the default is never stored
+abbrev pub placed : ℕ → List ℕ → List ℕ → List ℕ
+placed at text area = written at (length text) (λ j. getD text j 0) area
+
+-- the area has room for it
+abbrev pub Room : ℕ → List ℕ → List ℕ → Type 0
+Room at text area = at + length text ≤ length area
+
+-- how putting it ends: the place past it, and what the area holds
+pub record Put (at : ℕ) (text area : List ℕ) (next : ℕ) (exit : List ℕ) : Type 0 where
+  pub past : next ≡ at + length text
+  pub holds : exit ≡ placed at text area

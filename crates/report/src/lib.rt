@@ -1,0 +1,71 @@
+// What `wellmap` prints, as bytes in a lent area.
+mod put;
+mod room;
+
+ghost use mathlib.Core.Path.{_≡_};
+ghost use Prim.Native.Nat.{_≤_};
+ghost use lib.ListN.{length, replicate};
+ghost use Rattle.error.specs.Numbers.{numberOf};
+ghost use Rattle.report.specs.Listing.{listing, refusedText, longest};
+ghost use Rattle.report.specs.Printed.{outcomeOf, printed, listed};
+use error::Refusal;
+
+// How printing ends.
+pub enum Printed {
+    // So many bytes stand at the start of the area.
+    Done(usize),
+    // The area has fewer bytes than the text, and is as it was.
+    TooShort,
+    // There is not one figure and one variance for each verdict, and the area is as it was.
+    Uneven,
+}
+
+// The bytes of the longest listing of an accepted fit.
+const LONGEST: usize = 4366;
+
+// Zeros, as many as the longest text has bytes.
+pub fn text_area() -> [u8; LONGEST]
+    ensures { λ r. ⌜ r ≡ replicate longest 0 ⌝ }
+{
+    [0; LONGEST]
+}
+
+// The listing of an accepted fit: a line for the number of nodes, one for each node and one for each coefficient.
+pub fn write_listing(
+    predicted: &[f64],
+    variance: &[f64],
+    verdicts: &[u8],
+    coefficients: &[f64],
+    text: &mut [u8],
+) -> Printed
+    ensures equation { λ r. ⌜ outcomeOf r (now (text .exit))
+        ≡ listed (now (predicted .entry)) (now (variance .entry)) (now (verdicts .entry)) (now (coefficients .entry)) (now (text .entry)) ⌝ }
+    ensures longest { λ _. ⌜ (length (now (verdicts .entry)) ≤ 100 → length (now (coefficients .entry)) ≤ 12
+        → length (listing (now (predicted .entry)) (now (variance .entry)) (now (verdicts .entry)) (now (coefficients .entry))) ≤ longest) ⌝ }
+{
+    let m = verdicts.len();
+    if predicted.len() != m {
+        return Printed::Uneven;
+    }
+    if variance.len() != m {
+        return Printed::Uneven;
+    }
+    if !room::listing_fits(verdicts, coefficients.len(), text.len()) {
+        return Printed::TooShort;
+    }
+    let counted = put::put_count(m, text, 0);
+    let listed = put::put_nodes(predicted, variance, verdicts, text, counted);
+    Printed::Done(put::put_coefficients(coefficients, text, listed))
+}
+
+// A refusal's one line.
+pub fn write_refusal(refusal: Refusal, text: &mut [u8]) -> Printed
+    ensures equation { λ r. ⌜ outcomeOf r (now (text .exit)) ≡ printed (refusedText (numberOf refusal)) (now (text .entry)) ⌝ }
+    ensures longest { λ _. ⌜ length (refusedText (numberOf refusal)) ≤ longest ⌝ }
+{
+    let number = error::number(refusal);
+    if room::refusal_length(number) > text.len() {
+        return Printed::TooShort;
+    }
+    Printed::Done(put::put_refusal(number, text, 0))
+}
