@@ -4,10 +4,14 @@ use native.Mathlib.Omega.{arith}
 use mathlib.Core.Path.{_≡_, refl}
 use mathlib.Core.List.{List}
 use lib.Dec.{lit<}
-use lib.ListN.{length, getD}
+use lib.ListN.{length, getD, replicate, length-replicate}
 use lib.Ieee.{Float, nan, toBits}
+use Rattle.area.specs.Area.{copied}
 use Rattle.report.specs.Numerals.{ascii, digit, inTens, decimalText, inSixteens, hexText, bitsOf, bitsText}
 use Rattle.report.specs.Listing.{nodeLine, lines, nodeAt, listing, refusedText, longest}
+use Rattle.report.specs.Printed.{outcomeOf, printed}
+use Rattle.report.specs.declared.Printed.the-variants.{Done}
+use Rattle.report.proofs.Answers.{with-room}
 use Rattle.report.proofs.Numerals.{decimal-length}
 use Rattle.report.proofs.Lengths.{word-line-length, node-line-length, lines-more, lines-before, listing-length}
 
@@ -54,3 +58,8 @@ unfolding refusedText
 longest-refusal number b =
     let d = decimal-length 3 number (lit< tt) (omega arith) in
     omega (arith, word-line-length (ascii "refused") number)
+
+-- in the area that `text_area` gives, whatever is no longer has room
+pub in-text-area : (text : List ℕ) → length text ≤ longest
+    → printed text (replicate longest 0) ≡ outcomeOf (Done (length text)) (copied 0 text (replicate longest 0))
+in-text-area text h = with-room text (replicate longest 0) (let l = length-replicate {A = ℕ} longest 0 in omega arith)

@@ -1,6 +1,6 @@
 -- What `wellmap` prints: "node count; node number from 1, figure bits, variance bits, verdict; one coef line a column", or "only `refused N`".
 -- Each line ends in a line feed. Assumes nothing.
-use Prim.Native.Nat.{ℕ, zero, suc, _+_}
+use Prim.Native.Nat.{ℕ, zero, suc, _+_, _*_}
 use mathlib.Core.List.{List, [], _++_}
 use lib.ListN.{length, getD}
 use lib.Ieee.{Float, nan}
@@ -49,7 +49,7 @@ listing figures variances verdicts coefficients =
 unfoldable pub refusedText : ℕ → List ℕ
 refusedText number = wordLine (ascii "refused") number
 
--- The bytes of the longest listing of an accepted fit, 100 nodes and 12 columns with verdicts of three digits: 10 for the count's line,
--- 192 for the nodes' numbers and 39 more for each node, 22 for each column.
+-- The bytes of the longest listing of an accepted fit, 100 nodes and 12 columns: 10 for the count's line; 192 for the numbers 1 to 100, and with a
+-- verdict of three digits 39 more for each node; 22 for each column.
 abbrev pub longest : ℕ
-longest = 4366
+longest = 10 + (192 + 100 * 39) + 12 * 22
