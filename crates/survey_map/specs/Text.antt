@@ -1,25 +1,18 @@
 -- What is printed for a survey file: paper 01, "Program `wellmap` reads one from standard input". Assumes nothing.
-use Prim.Native.Nat.{ℕ, zero, suc, _≤_}
-use mathlib.Core.Path.{_≡_}
+use Prim.Native.Nat.{ℕ, zero, suc}
 use mathlib.Core.Logic.{_≢_}
-use mathlib.Core.Bool.{true, cond}
+use mathlib.Core.Bool.{cond}
 use mathlib.Core.List.{List}
-use lib.ListN.{length, take, replicate}
-use Rattle.ieee.specs.Floats.{zeroFloat}
+use lib.ListN.{take}
 use Rattle.survey.specs.Limits.{base}
 use Rattle.survey.specs.Survey.{Survey, nodeCount, columns}
-use Rattle.fit.specs.Areas.{Areas, areasOf}
+use Rattle.fit.specs.Areas.{Areas}
 use Rattle.fit.specs.Fit.{fitted}
 use Rattle.survey_file.specs.File.{baseVersion}
 use Rattle.survey_file.specs.Refusals.{malformed}
-use Rattle.survey_file.specs.Reader.{surveyIn}
-use Rattle.report.specs.Listing.{listing, refusedText, longest}
-
--- the areas that the program has for a fit, of zeros: as long as 48 wells, 100 nodes and 12 columns need
-unfoldable pub ownAreas : Areas
-ownAreas =
-    areasOf (replicate 7200 zeroFloat) (replicate 100 zeroFloat) (replicate 100 zeroFloat) (replicate 100 0) (replicate 4800 zeroFloat)
-    (replicate 12 zeroFloat)
+use Rattle.survey_file.specs.Reader.{surveyIn, reader}
+use Rattle.report.specs.Listing.{listing, refusedText}
+use Rattle.survey_map.specs.Areas.{ownLists, ownAreas}
 
 -- of a fit that ended with this number: "node count; node number from 1, figure bits, variance bits, verdict; one coef line a column", or
 -- "A refusal prints only `refused N`"
@@ -39,7 +32,15 @@ unfolding surveyText
 fileText bytes = cond (malformed baseVersion bytes) (refusedText 16) (surveyText (surveyIn bytes))
 
 -- ---- what holds of it
--- "so that 17 and 18 never show", and no text is longer than the program's area for it
-pub record Printable (s : Survey) : Type 0 where
-  pub never-17 : fitted base s ownAreas .number ≢ 17
-  pub never-18 : fitted base s ownAreas .number ≢ 18
+-- whatever the survey, the fit's own areas are long enough: 17 and 18 never show
+pub record AmpleForFit (s : Survey) : Type 0 where
+  pub work : fitted base s ownAreas .number ≢ 17
+  pub answer : fitted base s ownAreas .number ≢ 18
+  pub never-17 : surveyText s ≢ refusedText 17
+  pub never-18 : surveyText s ≢ refusedText 18
+
+-- whatever the bytes, the areas for their lists are too: the reader's only refusal is 16, and what is printed is never 17 or 18
+pub record AmpleForFile (bytes : List ℕ) : Type 0 where
+  pub lists : reader baseVersion bytes ownLists .number ≢ 18
+  pub never-17 : fileText bytes ≢ refusedText 17
+  pub never-18 : fileText bytes ≢ refusedText 18

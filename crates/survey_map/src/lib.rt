@@ -1,5 +1,4 @@
 // From the bytes of a survey file to the text that `wellmap` prints: the reader, the fit and the report, one after another.
-use error::Refusal;
 use file_reader::read_survey;
 use kriging::Fit;
 use kriging::universal_kriging_fit;
@@ -13,20 +12,62 @@ use survey_file::Header;
 use survey_file::Read;
 ghost use mathlib.Core.Path.{_≡_};
 ghost use Prim.Native.Nat.{_≤_};
-ghost use lib.ListN.{length};
-ghost use Rattle.survey.specs.Survey.{surveyOf};
-ghost use Rattle.report.specs.Listing.{longest};
+ghost use lib.ListN.{length, take};
+ghost use Rattle.survey.specs.Survey.{surveyOf, columnSum};
+ghost use Rattle.file_reader.specs.Counts.{areasOf};
+ghost use Rattle.report.specs.Listing.{listing, longest};
 ghost use Rattle.report.specs.Printed.{outcomeOf, printed};
+ghost use Rattle.survey_map.specs.Areas.{Holding, surveyHeld};
 ghost use Rattle.survey_map.specs.Text.{surveyText, fileText};
 
-// The numbers of a file's lists: a file of 65,536 bytes has room for 8,190 numbers before its trailer, and the first five are in no list.
-const NUMBERS: usize = 8185;
+// The most nodes and columns of an accepted fit, the work area of its 48 wells and 12 columns, 2 * 60 * 60, and the weights of 48 wells at 100 nodes.
+const NODES: usize = 100;
 
-// The codes of a file: 65,536 bytes less those five numbers and the trailer.
+const COLUMNS: usize = 12;
+
+const WORK: usize = 7200;
+
+const WEIGHTS: usize = 4800;
+
+// The numbers of a file's longest list: a file of 65,536 bytes has room for 8,190 numbers before its trailer, the first five are in no list, and a list of
+// nodes has an even count.
+const NUMBERS: usize = 8184;
+
+// The codes of a file: 65,536 bytes less five numbers and the trailer.
 const CODES: usize = 65482;
 
-// The fit of a survey, and its listing or its refusal as text. The fit's own areas are as long as 48 wells, 100 nodes and 12 columns need, so that 17
-// and 18 never show.
+// The listing of an accepted fit of m nodes, from the first places of the areas that hold its answer.
+fn print_answer(
+    bases: &[u8],
+    m: usize,
+    predicted: &[f64],
+    variance: &[f64],
+    verdicts: &[u8],
+    coefficients: &[f64],
+    text: &mut [u8],
+) -> Printed
+    requires { ⌜ (m ≤ 100) × (m ≤ length (now predicted)) × (m ≤ length (now variance)) × (m ≤ length (now verdicts))
+        × (columnSum (now bases) ≤ 12) × (columnSum (now bases) ≤ length (now coefficients)) ⌝ }
+    ensures equation { λ r. ⌜ outcomeOf r (now (text .exit)) ≡ printed
+        (listing (take m (now (predicted .entry))) (take m (now (variance .entry))) (take m (now (verdicts .entry)))
+        (take (columnSum (now (bases .entry))) (now (coefficients .entry))))
+        (now (text .entry)) ⌝ }
+    ensures longest { λ _. ⌜ length
+        (listing (take m (now (predicted .entry))) (take m (now (variance .entry))) (take m (now (verdicts .entry)))
+        (take (columnSum (now (bases .entry))) (now (coefficients .entry))))
+        ≤ longest ⌝ }
+{
+    let p = drift_columns(bases);
+    write_listing(
+        &predicted[..m],
+        &variance[..m],
+        &verdicts[..m],
+        &coefficients[..p],
+        text,
+    )
+}
+
+// The fit of a survey, and its listing or its refusal as text. The fit has areas of its own, as long as it can need, so that 17 and 18 never show.
 pub fn print_fit(
     values: &[f64],
     coords: &[f64],
@@ -47,12 +88,12 @@ pub fn print_fit(
         (now (nodes .entry)) (now («node_external» .entry)) options tolerance))
         ≤ longest ⌝ }
 {
-    let mut work = [0.0; 7200]; // 2 * 60 * 60: the matrix of 48 wells and 12 columns beside the identity
-    let mut predicted = [0.0; 100];
-    let mut variance = [0.0; 100];
-    let mut verdicts = [0u8; 100];
-    let mut weights = [0.0; 4800];
-    let mut coefficients = [0.0; 12];
+    let mut work = [0.0; WORK];
+    let mut predicted = [0.0; NODES];
+    let mut variance = [0.0; NODES];
+    let mut verdicts = [0u8; NODES];
+    let mut weights = [0.0; WEIGHTS];
+    let mut coefficients = [0.0; COLUMNS];
     let fit = universal_kriging_fit(
         values,
         coords,
@@ -70,22 +111,20 @@ pub fn print_fit(
         &mut coefficients,
     );
     match fit {
-        Fit::Done => {
-            let m = nodes.len() / 2;
-            let p = drift_columns(bases);
-            write_listing(
-                &predicted[..m],
-                &variance[..m],
-                &verdicts[..m],
-                &coefficients[..p],
-                text,
-            )
-        }
+        Fit::Done => print_answer(
+            bases,
+            nodes.len() / 2,
+            &predicted,
+            &variance,
+            &verdicts,
+            &coefficients,
+            text,
+        ),
         Fit::Refused(refusal) => write_refusal(refusal, text),
     }
 }
 
-// The fit of the survey that was read: its lists are the first places of these.
+// The text of a survey that was read: its lists are in the first places of these.
 fn print_read(
     header: Header,
     values: &[f64],
@@ -95,10 +134,21 @@ fn print_read(
     nodes: &[f64],
     node_external: &[f64],
     text: &mut [u8],
-) -> Printed {
+) -> Printed
+    requires { ⌜ Holding header (areasOf (now values) (now coords) (now bases) (now external) (now nodes) (now «node_external»)) ⌝ }
+    ensures equation { λ r. ⌜ outcomeOf r (now (text .exit)) ≡ printed
+        (surveyText (surveyHeld header (areasOf (now (values .entry)) (now (coords .entry)) (now (bases .entry)) (now (external .entry))
+        (now (nodes .entry)) (now («node_external» .entry)))))
+        (now (text .entry)) ⌝ }
+    ensures longest { λ _. ⌜ length
+        (surveyText (surveyHeld header (areasOf (now (values .entry)) (now (coords .entry)) (now (bases .entry)) (now (external .entry))
+        (now (nodes .entry)) (now («node_external» .entry)))))
+        ≤ longest ⌝ }
+{
     let n = header.wells;
     let m = header.nodes;
-    let codes = &bases[..header.bases];
+    let count = header.bases;
+    let codes = &bases[..count];
     let k = external_columns(codes);
     print_fit(
         &values[..n],
