@@ -7,3 +7,4 @@ pub mod Lines
 pub mod Answers
 pub mod Longest
 pub mod Cases
+pub mod Apart

@@ -1,0 +1,94 @@
+-- No area of the program is too short, whatever it reads: 17 and 18 never show. Assumes nothing.
+use Prim.Native.Nat.{ℕ, zero, suc, _*_, _≤_, _<_}
+use native.Mathlib.Nat.{mul-le-mul}
+use native.Mathlib.Omega.{arith}
+use mathlib.Core.Path.{_≡_, sym}
+use mathlib.Core.Logic.{_≢_, inl, inr}
+use mathlib.Core.Bool.{Bool, true, false, cond}
+use mathlib.Core.List.{List}
+use lib.ListN.{length}
+use Rattle.error.specs.Rules.{Lowest}
+use Rattle.error.proofs.Rules.{ruled-exactly}
+use Rattle.survey.specs.Limits.{base}
+use Rattle.survey.specs.Survey.{Survey, wells, nodeCount, columns, size}
+use Rattle.fit.specs.Areas.{Areas}
+use Rattle.fit.specs.Rules.{ShortAnswer, rules}
+use Rattle.fit.specs.Refusals.{refusal}
+use Rattle.fit.specs.Fit.{fitted}
+use Rattle.fit.proofs.Endings.{told, fit-ends, lowest-in-a-fit}
+use Rattle.survey_file.specs.File.{baseVersion}
+use Rattle.survey_file.specs.Refusals.{malformed}
+use Rattle.survey_file.specs.Reader.{surveyIn}
+use Rattle.survey_file.proofs.Reader.{eighteen-exactly}
+use Rattle.report.specs.Listing.{refusedText}
+use Rattle.report.proofs.Apart.{refusals-apart, listing-apart}
+use Rattle.survey_map.specs.Areas.{ownLists, ownAreas}
+use Rattle.survey_map.specs.Text.{fitText, surveyText, fileText, AmpleForFit, AmpleForFile}
+use Rattle.survey_map.proofs.Own.{lists-fit, own-work, own-predicted, own-variance, own-verdicts, own-weights, own-coefficients}
+
+module _ (s : Survey) where
+  -- a number that is given is the lowest whose condition holds
+  lowest : (k : ℕ) → k ≢ 0 → k ≢ 19 → fitted base s ownAreas .number ≡ k → Lowest (rules base s ownAreas) k
+  unfolding refusal
+  lowest k z n e =
+      let r = fit-ends base s ownAreas .refused k z n .0 e in
+      lowest-in-a-fit base s ownAreas k .0 (ruled-exactly (told base s ownAreas) k .1 r, z)
+
+  -- past 9 the counts are those of the areas
+  work-fits : wells s ≤ 48 → columns s ≤ 12 → ¬ (length (ownAreas .work) < 2 * size s * size s)
+  work-fits n p l =
+      let most : size s ≤ 60 = omega arith in
+      let square = mul-le-mul most most in
+      omega (arith, own-work)
+
+  answer-fits : wells s ≤ 48 → columns s ≤ 12 → nodeCount s ≤ 100 → ¬ ShortAnswer s ownAreas
+  answer-fits n p m (inl l) = omega (arith, own-predicted)
+  answer-fits n p m (inr (inl l)) = omega (arith, own-variance)
+  answer-fits n p m (inr (inr (inl l))) = omega (arith, own-verdicts)
+  answer-fits n p m (inr (inr (inr (inl l)))) = let product = mul-le-mul n m in omega (arith, own-weights)
+  answer-fits n p m (inr (inr (inr (inr l)))) = omega (arith, own-coefficients)
+
+  at-most : {k most : ℕ} → ¬ (most < k) → k ≤ most
+  at-most h = omega arith
+
+  never-17 : fitted base s ownAreas .number ≢ 17
+  never-17 e =
+      let l = lowest 17 (λ x. omega arith) (λ x. omega arith) e in
+      let few = l .none-below 9 (omega arith) in
+      work-fits (at-most (λ x. few (inl x))) (at-most (λ x. few (inr (inl x)))) (l .applies)
+
+  never-18 : fitted base s ownAreas .number ≢ 18
+  never-18 e =
+      let l = lowest 18 (λ x. omega arith) (λ x. omega arith) e in
+      let few = l .none-below 9 (omega arith) in
+      answer-fits (at-most (λ x. few (inl x))) (at-most (λ x. few (inr (inl x)))) (at-most (λ x. few (inr (inr x)))) (l .applies)
+
+  -- so that neither is printed
+  apart : (k : ℕ) → fitted base s ownAreas .number ≢ k → surveyText s ≢ refusedText k
+  unfolding surveyText
+  apart k n = let o = fitted base s ownAreas in go (o .number) (o .areas) n
+    where
+      go : (j : ℕ) (a : Areas) → j ≢ k → fitText j s a ≢ refusedText k
+      go zero a d e = listing-apart _ _ _ _ k e
+      go (suc j) a d e = d (refusals-apart (suc j) k e)
+
+  pub ample-for-fit : AmpleForFit s
+  ample-for-fit = record { work = never-17; answer = never-18; never-17 = apart 17 never-17; never-18 = apart 18 never-18 }
+
+module _ (bytes : List ℕ) where
+  file-apart : (k : ℕ) → k ≢ 16 → surveyText (surveyIn bytes) ≢ refusedText k → fileText bytes ≢ refusedText k
+  unfolding fileText
+  file-apart k n d = go (malformed baseVersion bytes)
+    where
+      go : (b : Bool) → cond b (refusedText 16) (surveyText (surveyIn bytes)) ≢ refusedText k
+      go true e = n (sym (refusals-apart 16 k e))
+      go false e = d e
+
+  pub ample-for-file : AmpleForFile bytes
+  ample-for-file =
+      let s = ample-for-fit (surveyIn bytes) in
+      record {
+        lists = λ e. let x = eighteen-exactly baseVersion bytes ownLists .0 e in x .1 (lists-fit bytes (x .0));
+        never-17 = file-apart 17 (λ x. omega arith) (s .never-17);
+        never-18 = file-apart 18 (λ x. omega arith) (s .never-18);
+      }

@@ -1,0 +1,33 @@
+-- What an accepted fit leaves in the program's own areas: they are as long as they were, and as long as its listing needs. Assumes nothing.
+use Prim.Native.Nat.{_≤_}
+use native.Mathlib.Omega.{arith}
+use mathlib.Core.Path.{_≡_, ap, sym, subst}
+use lib.ListN.{length}
+use Rattle.error.specs.Outcome.{Outcome, outcome}
+use Rattle.survey.specs.Limits.{base}
+use Rattle.survey.specs.Survey.{Survey, nodeCount, columns}
+use Rattle.fit.specs.Areas.{Areas}
+use Rattle.fit.specs.Fit.{fitted}
+use Rattle.fit.specs.Untouched.{Untouched}
+use Rattle.fit.proofs.Endings.{untouched, few-columns, predicted-long}
+use Rattle.survey_map.specs.Areas.{ownAreas}
+use Rattle.survey_map.proofs.Own.{own-predicted, own-variance, own-verdicts, own-coefficients}
+
+module _ (s : Survey) (a : Areas) (e : outcome 0 a ≡ fitted base s ownAreas) where
+  kept : Untouched s ownAreas a
+  kept = subst (Untouched s ownAreas) (sym (ap (λ (o : Outcome Areas). o .areas) e)) (untouched base s ownAreas)
+
+  -- what the listing asks
+  pub listable : (nodeCount s ≤ 100) × (nodeCount s ≤ length (a .predicted)) × (nodeCount s ≤ length (a .variance))
+      × (nodeCount s ≤ length (a .verdicts)) × (columns s ≤ 12) × (columns s ≤ length (a .coefficients))
+  listable =
+      let done = sym (ap (λ (o : Outcome Areas). o .number) e) in
+      let m : nodeCount s ≤ 100 = omega (arith, predicted-long base s ownAreas done, own-predicted) in
+      let p = few-columns base s ownAreas done in (
+        m,
+        omega (arith, kept .predicted .len, own-predicted),
+        omega (arith, kept .variance .len, own-variance),
+        omega (arith, kept .verdicts .len, own-verdicts),
+        p,
+        omega (arith, kept .coefficients .len, own-coefficients),
+      )

@@ -1,0 +1,5 @@
+pub mod Own
+pub mod Ample
+pub mod Answer
+pub mod Texts
+pub mod Held

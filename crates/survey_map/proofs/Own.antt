@@ -1,0 +1,89 @@
+-- The program's own areas are as long as they can be needed: no file's list and no fit's answer is longer. Assumes nothing.
+use Prim.Native.Nat.{ℕ, _+_, _*_, _≤_}
+use native.Mathlib.Decide.{decLt}
+use native.Mathlib.Omega.{arith}
+use mathlib.Core.Path.{_≡_}
+use mathlib.Core.List.{List}
+use lib.ListN.{length, length-replicate}
+use Rattle.ieee.specs.Floats.{zeroFloat}
+use Rattle.survey_file.specs.File.{baseVersion}
+use Rattle.survey_file.specs.Trailer.{startIn, wellsIn, nodesIn, basesIn, externalsIn}
+use Rattle.survey_file.specs.Rules.{WellFormed, Room}
+use Rattle.survey_map.specs.Areas.{ownLists, ownAreas}
+
+-- ---- the lists
+pub own-values : length (ownLists .values) ≡ 8184
+unfolding ownLists
+own-values = length-replicate 8184 zeroFloat
+
+pub own-coords : length (ownLists .coords) ≡ 8184
+unfolding ownLists
+own-coords = length-replicate 8184 zeroFloat
+
+pub own-bases : length (ownLists .bases) ≡ 65482
+unfolding ownLists
+own-bases = length-replicate {A = ℕ} 65482 0
+
+pub own-external : length (ownLists .external) ≡ 8184
+unfolding ownLists
+own-external = length-replicate 8184 zeroFloat
+
+pub own-nodes : length (ownLists .nodes) ≡ 8184
+unfolding ownLists
+own-nodes = length-replicate 8184 zeroFloat
+
+pub own-node-external : length (ownLists .nodeExternal) ≡ 8184
+unfolding ownLists
+own-node-external = length-replicate 8184 zeroFloat
+
+-- externals beside what they belong to: with none of the latter there are none
+beside : (k n rest : ℕ) → 2 * n + k * n + rest ≤ 8185 → k * n ≤ 8184
+beside k n rest h =
+    elim (decLt 0 n) [
+      | yes p ↦ omega arith
+      | no z ↦ let e : n ≡ 0 = omega arith in rw e (omega arith)
+    ]
+
+-- whatever a readable file can hold
+pub lists-fit : (bytes : List ℕ) → WellFormed baseVersion bytes → Room bytes ownLists
+lists-fit bytes w =
+    let k = externalsIn bytes in
+    let n = wellsIn bytes in
+    let m = nodesIn bytes in
+    let meet : length bytes ≡ startIn bytes + 8 * (5 + 3 * n + k * n + 2 * m + k * m) + basesIn bytes + 14 = w .meet in
+    let most = w .most in
+    let wide = beside k n (n + 2 * m + k * m) (omega arith) in
+    let node-wide = beside k m (3 * n + k * n) (omega arith) in
+    record {
+      values = omega (arith, own-values);
+      coords = omega (arith, own-coords);
+      bases = omega (arith, own-bases);
+      external = omega (arith, own-external);
+      nodes = omega (arith, own-nodes);
+      nodeExternal = omega (arith, own-node-external);
+    }
+
+-- ---- the answer
+pub own-work : length (ownAreas .work) ≡ 7200
+unfolding ownAreas
+own-work = length-replicate 7200 zeroFloat
+
+pub own-predicted : length (ownAreas .predicted) ≡ 100
+unfolding ownAreas
+own-predicted = length-replicate 100 zeroFloat
+
+pub own-variance : length (ownAreas .variance) ≡ 100
+unfolding ownAreas
+own-variance = length-replicate 100 zeroFloat
+
+pub own-verdicts : length (ownAreas .verdicts) ≡ 100
+unfolding ownAreas
+own-verdicts = length-replicate {A = ℕ} 100 0
+
+pub own-weights : length (ownAreas .weights) ≡ 4800
+unfolding ownAreas
+own-weights = length-replicate 4800 zeroFloat
+
+pub own-coefficients : length (ownAreas .coefficients) ≡ 12
+unfolding ownAreas
+own-coefficients = length-replicate 12 zeroFloat

@@ -1,0 +1,46 @@
+-- What is printed for a survey file: paper 01, "Program `wellmap` reads one from standard input". Assumes nothing.
+use Prim.Native.Nat.{ℕ, zero, suc}
+use mathlib.Core.Logic.{_≢_}
+use mathlib.Core.Bool.{cond}
+use mathlib.Core.List.{List}
+use lib.ListN.{take}
+use Rattle.survey.specs.Limits.{base}
+use Rattle.survey.specs.Survey.{Survey, nodeCount, columns}
+use Rattle.fit.specs.Areas.{Areas}
+use Rattle.fit.specs.Fit.{fitted}
+use Rattle.survey_file.specs.File.{baseVersion}
+use Rattle.survey_file.specs.Refusals.{malformed}
+use Rattle.survey_file.specs.Reader.{surveyIn, reader}
+use Rattle.report.specs.Listing.{listing, refusedText}
+use Rattle.survey_map.specs.Areas.{ownLists, ownAreas}
+
+-- of a fit that ended with this number: "node count; node number from 1, figure bits, variance bits, verdict; one coef line a column", or
+-- "A refusal prints only `refused N`"
+abbrev pub fitText : ℕ → Survey → Areas → List ℕ
+fitText zero s a =
+    listing (take (nodeCount s) (a .predicted)) (take (nodeCount s) (a .variance)) (take (nodeCount s) (a .verdicts)) (take (columns s) (a .coefficients))
+fitText (suc k) s a = refusedText (suc k)
+
+-- of a survey
+unfoldable pub surveyText : Survey → List ℕ
+unfolding ownAreas fitted
+surveyText s = let o = fitted base s ownAreas in fitText (o .number) s (o .areas)
+
+-- of a file: "16 comes before the fit's"
+unfoldable pub fileText : List ℕ → List ℕ
+unfolding surveyText
+fileText bytes = cond (malformed baseVersion bytes) (refusedText 16) (surveyText (surveyIn bytes))
+
+-- ---- what holds of it
+-- whatever the survey, the fit's own areas are long enough: 17 and 18 never show
+pub record AmpleForFit (s : Survey) : Type 0 where
+  pub work : fitted base s ownAreas .number ≢ 17
+  pub answer : fitted base s ownAreas .number ≢ 18
+  pub never-17 : surveyText s ≢ refusedText 17
+  pub never-18 : surveyText s ≢ refusedText 18
+
+-- whatever the bytes, the areas for their lists are too: the reader's only refusal is 16, and what is printed is never 17 or 18
+pub record AmpleForFile (bytes : List ℕ) : Type 0 where
+  pub lists : reader baseVersion bytes ownLists .number ≢ 18
+  pub never-17 : fileText bytes ≢ refusedText 17
+  pub never-18 : fileText bytes ≢ refusedText 18

@@ -1,0 +1,199 @@
+// From the bytes of a survey file to the text that `wellmap` prints: the reader, the fit and the report, one after another.
+use file_reader::read_survey;
+use kriging::Fit;
+use kriging::universal_kriging_fit;
+use report::Printed;
+use report::write_listing;
+use report::write_refusal;
+use survey::UniversalKrigingOptions;
+use survey_checks::counts::drift_columns;
+use survey_checks::counts::external_columns;
+use survey_file::Header;
+use survey_file::Read;
+ghost use mathlib.Core.Path.{_≡_};
+ghost use Prim.Native.Nat.{_≤_};
+ghost use lib.ListN.{length, take};
+ghost use Rattle.survey.specs.Survey.{surveyOf, columnSum};
+ghost use Rattle.file_reader.specs.Counts.{areasOf};
+ghost use Rattle.report.specs.Listing.{listing, longest};
+ghost use Rattle.report.specs.Printed.{outcomeOf, printed};
+ghost use Rattle.survey_map.specs.Areas.{Holding, surveyHeld};
+ghost use Rattle.survey_map.specs.Text.{surveyText, fileText};
+
+// The most nodes and columns of an accepted fit, the work area of its 48 wells and 12 columns, 2 * 60 * 60, and the weights of 48 wells at 100 nodes.
+const NODES: usize = 100;
+
+const COLUMNS: usize = 12;
+
+const WORK: usize = 7200;
+
+const WEIGHTS: usize = 4800;
+
+// The numbers of a file's longest list: a file of 65,536 bytes has room for 8,190 numbers before its trailer, the first five are in no list, and a list of
+// nodes has an even count.
+const NUMBERS: usize = 8184;
+
+// The codes of a file: 65,536 bytes less five numbers and the trailer.
+const CODES: usize = 65482;
+
+// The listing of an accepted fit of m nodes, from the first places of the areas that hold its answer.
+fn print_answer(
+    bases: &[u8],
+    m: usize,
+    predicted: &[f64],
+    variance: &[f64],
+    verdicts: &[u8],
+    coefficients: &[f64],
+    text: &mut [u8],
+) -> Printed
+    requires { ⌜ (m ≤ 100) × (m ≤ length (now predicted)) × (m ≤ length (now variance)) × (m ≤ length (now verdicts))
+        × (columnSum (now bases) ≤ 12) × (columnSum (now bases) ≤ length (now coefficients)) ⌝ }
+    ensures equation { λ r. ⌜ outcomeOf r (now (text .exit)) ≡ printed
+        (listing (take m (now (predicted .entry))) (take m (now (variance .entry))) (take m (now (verdicts .entry)))
+        (take (columnSum (now (bases .entry))) (now (coefficients .entry))))
+        (now (text .entry)) ⌝ }
+    ensures longest { λ _. ⌜ length
+        (listing (take m (now (predicted .entry))) (take m (now (variance .entry))) (take m (now (verdicts .entry)))
+        (take (columnSum (now (bases .entry))) (now (coefficients .entry))))
+        ≤ longest ⌝ }
+{
+    let p = drift_columns(bases);
+    write_listing(
+        &predicted[..m],
+        &variance[..m],
+        &verdicts[..m],
+        &coefficients[..p],
+        text,
+    )
+}
+
+// The fit of a survey, and its listing or its refusal as text. The fit has areas of its own, as long as it can need, so that 17 and 18 never show.
+pub fn print_fit(
+    values: &[f64],
+    coords: &[f64],
+    bases: &[u8],
+    external: &[f64],
+    options: UniversalKrigingOptions,
+    nodes: &[f64],
+    node_external: &[f64],
+    tolerance: f64,
+    text: &mut [u8],
+) -> Printed
+    ensures equation { λ r. ⌜ outcomeOf r (now (text .exit)) ≡ printed
+        (surveyText (surveyOf (now (values .entry)) (now (coords .entry)) (now (bases .entry)) (now (external .entry))
+        (now (nodes .entry)) (now («node_external» .entry)) options tolerance))
+        (now (text .entry)) ⌝ }
+    ensures longest { λ _. ⌜ length
+        (surveyText (surveyOf (now (values .entry)) (now (coords .entry)) (now (bases .entry)) (now (external .entry))
+        (now (nodes .entry)) (now («node_external» .entry)) options tolerance))
+        ≤ longest ⌝ }
+{
+    let mut work = [0.0; WORK];
+    let mut predicted = [0.0; NODES];
+    let mut variance = [0.0; NODES];
+    let mut verdicts = [0u8; NODES];
+    let mut weights = [0.0; WEIGHTS];
+    let mut coefficients = [0.0; COLUMNS];
+    let fit = universal_kriging_fit(
+        values,
+        coords,
+        bases,
+        external,
+        options,
+        nodes,
+        node_external,
+        tolerance,
+        &mut work,
+        &mut predicted,
+        &mut variance,
+        &mut verdicts,
+        &mut weights,
+        &mut coefficients,
+    );
+    match fit {
+        Fit::Done => print_answer(
+            bases,
+            nodes.len() / 2,
+            &predicted,
+            &variance,
+            &verdicts,
+            &coefficients,
+            text,
+        ),
+        Fit::Refused(refusal) => write_refusal(refusal, text),
+    }
+}
+
+// The text of a survey that was read: its lists are in the first places of these.
+fn print_read(
+    header: Header,
+    values: &[f64],
+    coords: &[f64],
+    bases: &[u8],
+    external: &[f64],
+    nodes: &[f64],
+    node_external: &[f64],
+    text: &mut [u8],
+) -> Printed
+    requires { ⌜ Holding header (areasOf (now values) (now coords) (now bases) (now external) (now nodes) (now «node_external»)) ⌝ }
+    ensures equation { λ r. ⌜ outcomeOf r (now (text .exit)) ≡ printed
+        (surveyText (surveyHeld header (areasOf (now (values .entry)) (now (coords .entry)) (now (bases .entry)) (now (external .entry))
+        (now (nodes .entry)) (now («node_external» .entry)))))
+        (now (text .entry)) ⌝ }
+    ensures longest { λ _. ⌜ length
+        (surveyText (surveyHeld header (areasOf (now (values .entry)) (now (coords .entry)) (now (bases .entry)) (now (external .entry))
+        (now (nodes .entry)) (now («node_external» .entry)))))
+        ≤ longest ⌝ }
+{
+    let n = header.wells;
+    let m = header.nodes;
+    let count = header.bases;
+    let codes = &bases[..count];
+    let k = external_columns(codes);
+    print_fit(
+        &values[..n],
+        &coords[..2 * n],
+        codes,
+        &external[..k * n],
+        header.options,
+        &nodes[..2 * m],
+        &node_external[..k * m],
+        header.tolerance,
+        text,
+    )
+}
+
+// A survey file's text: the listing of its fit, or why there is none.
+pub fn print_survey(bytes: &[u8], text: &mut [u8]) -> Printed
+    ensures equation { λ r. ⌜ outcomeOf r (now (text .exit)) ≡ printed (fileText (now (bytes .entry))) (now (text .entry)) ⌝ }
+    ensures longest { λ _. ⌜ length (fileText (now (bytes .entry))) ≤ longest ⌝ }
+{
+    let mut values = [0.0; NUMBERS];
+    let mut coords = [0.0; NUMBERS];
+    let mut bases = [0u8; CODES];
+    let mut external = [0.0; NUMBERS];
+    let mut nodes = [0.0; NUMBERS];
+    let mut node_external = [0.0; NUMBERS];
+    let read = read_survey(
+        bytes,
+        &mut values,
+        &mut coords,
+        &mut bases,
+        &mut external,
+        &mut nodes,
+        &mut node_external,
+    );
+    match read {
+        Read::Done(header) => print_read(
+            header,
+            &values,
+            &coords,
+            &bases,
+            &external,
+            &nodes,
+            &node_external,
+            text,
+        ),
+        Read::Refused(refusal) => write_refusal(refusal, text),
+    }
+}
