@@ -1,8 +1,8 @@
 // Floating-point functions that the Rust takes from its standard library, worked out by the program.
 ghost use mathlib.Core.Path.{_≡_};
-ghost use Prim.Native.Nat.{_+_, _*_, _^_, _<_, _≤_};
+ghost use Prim.Native.Nat.{_+_, _*_, _/_, _^_, _<_, _≤_};
 ghost use mathlib.Core.Bool.{true, false};
-ghost use lib.Dec.{T};
+ghost use lib.Dec.{T, eqb};
 ghost use lib.Ieee.Scale.{finite};
 ghost use lib.Ieee.Positive.{positive};
 ghost use Rattle.ieee.specs.Finite.{allFinite};
@@ -106,6 +106,79 @@ fn root_digits(n: u64) -> u64
     root
 }
 
+// (r * r + more) / 2^54, from the halves of r of 27 digits each: r * r may pass a word, and no product of halves does.
+fn square_part(r: u64, more: u64) -> u64
+    requires { ⌜ (r < 2 ^ 55) × (more < 2 ^ 56) ⌝ }
+    ensures { λ q. ⌜ q ≡ (r * r + more) / 2 ^ 54 ⌝ }
+{
+    let high = r / 0x800_0000;
+    let low = r % 0x800_0000;
+    let middle = high * low * 2 + (low * low + more) / 0x800_0000;
+    high * high + middle / 0x800_0000
+}
+
+// Whether r is the whole root of n * 2^54: r * r is not above it, and r * r + 2 * r, which is 1 below the next square, is not below it.
+fn is_root(n: u64, r: u64) -> bool
+    requires { ⌜ (n < 2 ^ 54) × (r < 2 ^ 55) ⌝ }
+    ensures { λ t. ⌜ t ≡ eqb r (wholeRoot 54 (n * 2 ^ 54)) ⌝ }
+{
+    if square_part(r, 0x3f_ffff_ffff_ffff) > n {
+        return false;
+    }
+    n <= square_part(r, 2 * r)
+}
+
+// One step of Newton's from y towards 2^32 / √(m / 2^30): half of y * (3 - y * y * m), with the digits below 2^-30 taken for ones, so that it stays below.
+// Nothing is proved of it but that it fits: `is_root` judges what comes of it.
+fn sharper(m: u64, y: u64) -> u64
+    requires { ⌜ (m < 2 ^ 32) × (y < 2 ^ 32) ⌝ }
+    ensures { λ r. ⌜ r < 2 ^ 32 ⌝ }
+{
+    let square = y * y / 0x1_0000_0000;
+    let product = square * m / 0x1_0000_0000;
+    let rest = (0x1_bfff_fffe - product) % 0x1_0000_0000;
+    y * rest / 0x8000_0000 % 0x1_0000_0000
+}
+
+// 2^32 / √(m / 2^30) to within 4 in a hundred, by a line for each power of two.
+fn first_guess(m: u64) -> u64
+    requires { ⌜ (2 ^ 30 ≤ m) × (m < 2 ^ 32) ⌝ }
+    ensures { λ r. ⌜ r < 2 ^ 32 ⌝ }
+{
+    if m < 0x8000_0000 {
+        return 0x1_3937_4bc6 - m;
+    }
+    0xf937_4bc6 - m / 2
+}
+
+// The whole root of n * 2^54, or 1 below it: 32 digits from n times 1 / √n, and the others from what their square leaves of n, times 1 / √n again.
+// Nothing is proved of it but that it fits: `is_root` judges it.
+fn guessed_root(n: u64) -> u64
+    requires { ⌜ (2 ^ 52 ≤ n) × (n < 2 ^ 54) ⌝ }
+    ensures { λ r. ⌜ r < 2 ^ 54 + 2 ^ 27 ⌝ }
+{
+    let m = n / 0x40_0000;
+    let inverse = sharper(m, sharper(m, sharper(m, first_guess(m))));
+    let near = m * inverse / 0x8000_0000 % 0x1_0000_0000;
+    let rest = std::num::wrapping_sub_u64(n * 0x400, near * near) / 0x20 % 0x1_0000_0000;
+    near * 0x40_0000 + rest * inverse / 0x20_0000_0000
+}
+
+// The whole root of n * 2^54: a guess or the number above it, where the test says so, and else digit by digit.
+fn whole_root(n: u64) -> u64
+    requires { ⌜ (2 ^ 52 ≤ n) × (n < 2 ^ 54) ⌝ }
+    ensures { λ r. ⌜ r ≡ wholeRoot 54 (n * 2 ^ 54) ⌝ }
+{
+    let guess = guessed_root(n);
+    if is_root(n, guess) {
+        return guess;
+    }
+    if is_root(n, guess + 1) {
+        return guess + 1;
+    }
+    root_digits(n)
+}
+
 // The f64 nearest the root of x. The root of an even power of two times n is that of n times half the power; its 54th digit
 // rounds the first 53, since no root lies half-way between two f64.
 fn nearest_root(x: f64) -> f64
@@ -115,7 +188,7 @@ fn nearest_root(x: f64) -> f64
     let bits = f64::to_bits(x);
     let scaled = normalised(bits / 0x10_0000_0000_0000, bits % 0x10_0000_0000_0000);
     let half = scaled.exponent / 2;
-    let root = root_digits(scaled.significand * (1 + scaled.exponent % 2));
+    let root = whole_root(scaled.significand * (1 + scaled.exponent % 2));
     f64::from_bits((half - 26) * 0x10_0000_0000_0000 + (root + 1) / 2)
 }
 
