@@ -1,21 +1,12 @@
 -- The test of a whole root in one word: the parts of a square by halves, and what its two comparisons say. Assumes nothing.
 use Prim.Native.Nat.{ℕ, _+_, _-_, _*_, _/_, _%_, _^_, _≤_, _<_}
-use native.Mathlib.Nat.{le-of-lt, lt-of-le-of-lt, mul-le-mul-left, mul-lt-mul-of-pos-right}
 use native.Mathlib.Omega.{arith}
 use mathlib.Core.Path.{_≡_, refl, ap, sym, _∙_, subst}
 use mathlib.Core.Bool.{Bool, true, false}
 use lib.Dec.{leb, eqb}
-use lib.Pow.{pow-pos}
 use borrow.Author.Tests.{leb-true, leb-false, eq-eqb, ne-eqb}
 use Rattle.ieee.specs.Root.{wholeRoot}
 use Rattle.ieee.proofs.WholeRoot.{square-next, root-unique, whole-root-le, whole-root-lt}
-
--- ---- products that fit
-pub product-lt : (x y m k : ℕ) → 0 < k → x < m → y < k → x * y < m * k
-product-lt x y m k p h l = lt-of-le-of-lt (mul-le-mul-left x (le-of-lt l)) (mul-lt-mul-of-pos-right h p)
-
-pub word-lt : (x y : ℕ) → x < 2 ^ 32 → y < 2 ^ 32 → x * y < 2 ^ 64
-word-lt x y h l = product-lt x y (2 ^ 32) (2 ^ 32) (pow-pos 32) h l
 
 -- ---- (r * r + more) / 2^54 from the halves of r
 of-halves : (h l more : ℕ) → h * h + (h * l * 2 + (l * l + more) / 2 ^ 27) / 2 ^ 27 ≡ ((h * 2 ^ 27 + l) * (h * 2 ^ 27 + l) + more) / 2 ^ 54

@@ -106,9 +106,9 @@ fn root_digits(n: u64) -> u64
     root
 }
 
-// (r * r + more) / 2^54, from the halves of r of 27 digits each: r * r may pass a word, and no product of halves does.
+// (r * r + more) / 2^54, by the halves of r, of 27 digits each: the square of r may pass a word, and no product of its halves does.
 fn square_part(r: u64, more: u64) -> u64
-    requires { ⌜ (r < 2 ^ 55) × (more < 2 ^ 56) ⌝ }
+    requires { ⌜ (r < 2 ^ 55) × (more < 2 ^ 57) ⌝ }
     ensures { λ q. ⌜ q ≡ (r * r + more) / 2 ^ 54 ⌝ }
 {
     let high = r / 0x800_0000;
@@ -117,7 +117,8 @@ fn square_part(r: u64, more: u64) -> u64
     high * high + middle / 0x800_0000
 }
 
-// Whether r is the whole root of n * 2^54: r * r is not above it, and r * r + 2 * r, which is 1 below the next square, is not below it.
+// Whether r is the whole root of n * 2^54: its square, rounded up to a multiple of 2^54, is not above that,
+// and the last number before the next square, r * r + 2 * r, not below it.
 fn is_root(n: u64, r: u64) -> bool
     requires { ⌜ (n < 2 ^ 54) × (r < 2 ^ 55) ⌝ }
     ensures { λ t. ⌜ t ≡ eqb r (wholeRoot 54 (n * 2 ^ 54)) ⌝ }
@@ -128,22 +129,11 @@ fn is_root(n: u64, r: u64) -> bool
     n <= square_part(r, 2 * r)
 }
 
-// One step of Newton's from y towards 2^32 / √(m / 2^30): half of y * (3 - y * y * m), with the digits below 2^-30 taken for ones, so that it stays below.
-// Nothing is proved of it but that it fits: `is_root` judges what comes of it.
-fn sharper(m: u64, y: u64) -> u64
-    requires { ⌜ (m < 2 ^ 32) × (y < 2 ^ 32) ⌝ }
-    ensures { λ r. ⌜ r < 2 ^ 32 ⌝ }
-{
-    let square = y * y / 0x1_0000_0000;
-    let product = square * m / 0x1_0000_0000;
-    let rest = (0x1_bfff_fffe - product) % 0x1_0000_0000;
-    y * rest / 0x8000_0000 % 0x1_0000_0000
-}
-
-// 2^32 / √(m / 2^30) to within 4 in a hundred, by a line for each power of two.
+// A guess of 1 / √m, 6 in a hundred off at most: a straight line from 1 to 2, 1.2235 - m / 4, and one from 2 to 4, 0.9735 - m / 8.
+// Here and below m counts 2^-30 and a guess 2^-32. What a guess is worth `is_root` says: no more is proved of it than that it fits.
 fn first_guess(m: u64) -> u64
     requires { ⌜ (2 ^ 30 ≤ m) × (m < 2 ^ 32) ⌝ }
-    ensures { λ r. ⌜ r < 2 ^ 32 ⌝ }
+    ensures { λ y. ⌜ y < 2 ^ 32 ⌝ }
 {
     if m < 0x8000_0000 {
         return 0x1_3937_4bc6 - m;
@@ -151,20 +141,32 @@ fn first_guess(m: u64) -> u64
     0xf937_4bc6 - m / 2
 }
 
-// The whole root of n * 2^54, or 1 below it: 32 digits from n times 1 / √n, and the others from what their square leaves of n, times 1 / √n again.
-// Nothing is proved of it but that it fits: `is_root` judges it.
+// Newton's step from a guess y of 1 / √m to one with twice the digits: y * (3 - m * y * y) / 2. The divisions drop digits of what the 3 is lessened by,
+// two units at most, so it is 3 less two units: no guess comes out above 1 / √m.
+fn better_guess(m: u64, y: u64) -> u64
+    requires { ⌜ (m < 2 ^ 32) × (y < 2 ^ 32) ⌝ }
+    ensures { λ r. ⌜ r < 2 ^ 32 ⌝ }
+{
+    let square = y * y / 0x1_0000_0000;
+    let product = square * m / 0x1_0000_0000;
+    let factor = (0x1_bfff_fffe - product) % 0x1_0000_0000;
+    y * factor / 0x8000_0000 % 0x1_0000_0000
+}
+
+// A guess of the whole root of n * 2^54, right or 1 too small. Its first 32 digits are those of m / √m, m the first 32 digits of n;
+// what their square leaves of n, over twice themselves, are the others.
 fn guessed_root(n: u64) -> u64
     requires { ⌜ (2 ^ 52 ≤ n) × (n < 2 ^ 54) ⌝ }
     ensures { λ r. ⌜ r < 2 ^ 54 + 2 ^ 27 ⌝ }
 {
     let m = n / 0x40_0000;
-    let inverse = sharper(m, sharper(m, sharper(m, first_guess(m))));
-    let near = m * inverse / 0x8000_0000 % 0x1_0000_0000;
-    let rest = std::num::wrapping_sub_u64(n * 0x400, near * near) / 0x20 % 0x1_0000_0000;
-    near * 0x40_0000 + rest * inverse / 0x20_0000_0000
+    let y = better_guess(m, better_guess(m, better_guess(m, first_guess(m))));
+    let first = m * y / 0x8000_0000 % 0x1_0000_0000;
+    let rest = std::num::wrapping_sub_u64(n * 0x400, first * first);
+    first * 0x40_0000 + rest / 0x20 % 0x1_0000_0000 * y / 0x20_0000_0000
 }
 
-// The whole root of n * 2^54: a guess or the number above it, where the test says so, and else digit by digit.
+// The whole root of n * 2^54: what is guessed or the number above it, if that is the root, and else the root by its digits.
 fn whole_root(n: u64) -> u64
     requires { ⌜ (2 ^ 52 ≤ n) × (n < 2 ^ 54) ⌝ }
     ensures { λ r. ⌜ r ≡ wholeRoot 54 (n * 2 ^ 54) ⌝ }
@@ -173,8 +175,9 @@ fn whole_root(n: u64) -> u64
     if is_root(n, guess) {
         return guess;
     }
-    if is_root(n, guess + 1) {
-        return guess + 1;
+    let next = guess + 1;
+    if is_root(n, next) {
+        return next;
     }
     root_digits(n)
 }

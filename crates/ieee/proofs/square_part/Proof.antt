@@ -2,7 +2,8 @@
 use Prim.Native.Nat.{_*_, _/_, _%_, _^_, _<_}
 use native.Mathlib.Omega.{arith}
 use lib.Pow.{pow-pos}
-use Rattle.ieee.proofs.RootTest.{product-lt, square-part-is}
+use Rattle.ieee.proofs.Products.{product-lt}
+use Rattle.ieee.proofs.RootTest.{square-part-is}
 use Rattle.ieee.proofs.square_part.Statement.{statement}
 use Rattle.ieee.proofs.square_part.Tie as tie
 

@@ -23,17 +23,15 @@ returns c =
     let g = c .before .before in
     eqb-true (g .guessed-root .result) (wholeRoot 54 (g .before .args .n * 2 ^ 54)) (sym (c .before .is-root .ensures) ∙ c .if1 .taken)
 
--- if is_root(n, guess + 1)
-add-is-root : tie.Need-add-is-root
-add-is-root c = search needs
+-- let next = guess + 1;
+add-next : tie.Need-add-next
+add-next c = search needs
 
+-- if is_root(n, next)
 is-root-requires-2 : tie.Need-is-root-requires-2
 is-root-requires-2 c κs = search needs
 
--- return guess + 1;
-add-result : tie.Need-add-result
-add-result c = search needs
-
+-- return next;
 returns-2 : tie.Need-returns-2
 returns-2 c =
     let d = c .before .before in
@@ -54,9 +52,8 @@ whole-root-spec =
     guessed-root-requires
     is-root-requires
     returns
-    add-is-root
+    add-next
     is-root-requires-2
-    add-result
     returns-2
     root-digits-requires
     returns-3)

@@ -1,11 +1,10 @@
--- `ieee::sharper` meets its contract: each product is of two numbers below 2^32. Assumes nothing.
+-- `ieee::better_guess` meets its contract: each product is of two numbers below 2^32. Assumes nothing.
 use Prim.Native.Nat.{_*_, _/_, _^_, _<_}
 use native.Mathlib.Omega.{arith}
 use borrow.Author.Needs.{needs}
-use lib.Pow.{pow-pos}
-use Rattle.ieee.proofs.RootTest.{word-lt}
-use Rattle.ieee.proofs.sharper.Statement.{statement}
-use Rattle.ieee.proofs.sharper.Tie as tie
+use Rattle.ieee.proofs.Products.{word-lt}
+use Rattle.ieee.proofs.better_guess.Statement.{statement}
+use Rattle.ieee.proofs.better_guess.Tie as tie
 
 -- The needs, grouped below the lines of src/ that they are for.
 
@@ -20,16 +19,16 @@ product-lt c = let y = c .args .y in let s : y * y < 2 ^ 64 = word-lt y y (c .pr
 mul-product : tie.Need-mul-product
 mul-product c = record { fits = product-lt c }
 
--- let rest = (0x1_bfff_fffe - product) % 0x1_0000_0000;
-sub-rest : tie.Need-sub-rest
-sub-rest c = omega (arith, product-lt c)
+-- let factor = (0x1_bfff_fffe - product) % 0x1_0000_0000;
+sub-factor : tie.Need-sub-factor
+sub-factor c = omega (arith, product-lt c)
 
--- y * rest / 0x8000_0000 % 0x1_0000_0000
+-- y * factor / 0x8000_0000 % 0x1_0000_0000
 mul-result : tie.Need-mul-result
 mul-result c = record { fits = word-lt (c .args .y) _ (c .pre .1) (omega arith) }
 
 returns : tie.Need-returns
 returns c = search needs
 
-pub sharper-spec : {M : Type 1} → statement M
-sharper-spec = tie.close (tie.spec mul-square mul-product sub-rest mul-result returns)
+pub better-guess-spec : {M : Type 1} → statement M
+better-guess-spec = tie.close (tie.spec mul-square mul-product sub-factor mul-result returns)
