@@ -130,7 +130,7 @@ fn is_root(n: u64, r: u64) -> bool
 }
 
 // A guess of 1 / √m, 6 in a hundred off at most: a straight line from 1 to 2, 1.2235 - m / 4, and one from 2 to 4, 0.9735 - m / 8.
-// Here and below m counts 2^-30 and a guess 2^-32. What a guess is worth `is_root` says: no more is proved of it than that it fits.
+// Here and below m counts 2^-30 and a guess 2^-32. What a guess is worth, `is_root` says: no more is proved of it than that it fits.
 fn first_guess(m: u64) -> u64
     requires { ⌜ (2 ^ 30 ≤ m) × (m < 2 ^ 32) ⌝ }
     ensures { λ y. ⌜ y < 2 ^ 32 ⌝ }
@@ -141,8 +141,8 @@ fn first_guess(m: u64) -> u64
     0xf937_4bc6 - m / 2
 }
 
-// Newton's step from a guess y of 1 / √m to one with twice the digits: y * (3 - m * y * y) / 2. The divisions drop digits of what the 3 is lessened by,
-// two units at most, so it is 3 less two units: no guess comes out above 1 / √m.
+// Newton's step from a guess y of 1 / √m to one with twice the digits, y * (3 - m * y * y) / 2. The divisions take less than two units from m * y * y,
+// so the 3 is two units less: no guess comes out above 1 / √m. The remainders by 2^32, and 2^32 on top of the 3, change no good guess and make any fit.
 fn better_guess(m: u64, y: u64) -> u64
     requires { ⌜ (m < 2 ^ 32) × (y < 2 ^ 32) ⌝ }
     ensures { λ r. ⌜ r < 2 ^ 32 ⌝ }
@@ -153,8 +153,8 @@ fn better_guess(m: u64, y: u64) -> u64
     y * factor / 0x8000_0000 % 0x1_0000_0000
 }
 
-// A guess of the whole root of n * 2^54, right or 1 too small. Its first 32 digits are those of m / √m, m the first 32 digits of n;
-// what their square leaves of n, over twice themselves, are the others.
+// A guess of the whole root of n * 2^54, right or 1 too small. Its first 32 digits are m / √m, for m the first 32 digits of n,
+// and the other 22 what the square of those leaves of n, without its last 5 digits, for the product to fit, times half of 1 / √m.
 fn guessed_root(n: u64) -> u64
     requires { ⌜ (2 ^ 52 ≤ n) × (n < 2 ^ 54) ⌝ }
     ensures { λ r. ⌜ r < 2 ^ 54 + 2 ^ 27 ⌝ }
@@ -166,7 +166,7 @@ fn guessed_root(n: u64) -> u64
     first * 0x40_0000 + rest / 0x20 % 0x1_0000_0000 * y / 0x20_0000_0000
 }
 
-// The whole root of n * 2^54: what is guessed or the number above it, if that is the root, and else the root by its digits.
+// The whole root of n * 2^54: the guess or the number above it where that passes the test, and else digit by digit.
 fn whole_root(n: u64) -> u64
     requires { ⌜ (2 ^ 52 ≤ n) × (n < 2 ^ 54) ⌝ }
     ensures { λ r. ⌜ r ≡ wholeRoot 54 (n * 2 ^ 54) ⌝ }

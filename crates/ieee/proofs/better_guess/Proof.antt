@@ -13,15 +13,18 @@ mul-square : tie.Need-mul-square
 mul-square c = record { fits = word-lt (c .args .y) (c .args .y) (c .pre .1) (c .pre .1) }
 
 -- let product = square * m / 0x1_0000_0000;
-product-lt : (c : tie.Start) → c .args .y * c .args .y / 2 ^ 32 * c .args .m < 2 ^ 64
-product-lt c = let y = c .args .y in let s : y * y < 2 ^ 64 = word-lt y y (c .pre .1) (c .pre .1) in word-lt (y * y / 2 ^ 32) (c .args .m) (omega arith) (c .pre .0)
+product-fits : (c : tie.Start) → c .args .y * c .args .y / 2 ^ 32 * c .args .m < 2 ^ 64
+product-fits c =
+    let y = c .args .y in
+    let s : y * y < 2 ^ 64 = word-lt y y (c .pre .1) (c .pre .1) in
+    word-lt (y * y / 2 ^ 32) (c .args .m) (omega arith) (c .pre .0)
 
 mul-product : tie.Need-mul-product
-mul-product c = record { fits = product-lt c }
+mul-product c = record { fits = product-fits c }
 
 -- let factor = (0x1_bfff_fffe - product) % 0x1_0000_0000;
 sub-factor : tie.Need-sub-factor
-sub-factor c = omega (arith, product-lt c)
+sub-factor c = omega (arith, product-fits c)
 
 -- y * factor / 0x8000_0000 % 0x1_0000_0000
 mul-result : tie.Need-mul-result

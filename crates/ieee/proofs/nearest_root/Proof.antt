@@ -40,7 +40,9 @@ mul-whole-root : tie.Need-mul-whole-root
 mul-whole-root c = omega (arith, bounded c)
 
 whole-root-requires : tie.Need-whole-root-requires
-whole-root-requires c κs = let d = at-scaled c .normalised in (not-halved (d .result .significand) (d .result .exponent) (d .ensures .lower), omega (arith, bounded c))
+whole-root-requires c κs =
+    let d = at-scaled c .normalised in
+    (not-halved (d .result .significand) (d .result .exponent) (d .ensures .lower), omega (arith, bounded c))
 
 -- and so does the root
 root-small : (c : tie.After-whole-root) → c .whole-root .result < 2 ^ 54
