@@ -1,13 +1,11 @@
 -- A product by halves of words, and a shift over words. Assumes nothing.
 use Prim.Native.Nat.{ℕ, _+_, _-_, _*_, _/_, _%_, _^_, _≤_, _<_}
-use native.Mathlib.Nat.{le-of-lt, lt-of-le-of-lt, mul-le-mul-left, mul-lt-mul-of-pos-right, mul-div-mul-right, div-add-mod', mod-lt, div-lt-iff-lt-mul, add-mul, mul-assoc, mul-comm}
+use native.Mathlib.Nat.{mul-lt-mul-of-pos-right, mul-div-mul-right, div-add-mod', mod-lt, div-lt-iff-lt-mul, add-mul, mul-assoc, mul-comm}
 use native.Mathlib.Omega.{arith}
 use mathlib.Core.Path.{_≡_, sym, ap, _∙_, subst}
 use lib.Arith.{digits-lt, digits-mod}
 use lib.Pow.{pow-pos, pow-add}
-
-pub product-lt : (x y m k : ℕ) → 0 < k → x < m → y < k → x * y < m * k
-product-lt x y m k p h l = lt-of-le-of-lt (mul-le-mul-left x (le-of-lt l)) (mul-lt-mul-of-pos-right h p)
+use Rattle.ieee.proofs.Products.{product-lt, word-lt}
 
 -- (a₁·h + a₀)·(b₁·h + b₀), from the product of the low halves and what the two sums in the middle carry, each by its own halves
 pub by-halves : (h a₀ a₁ b₀ b₁ l₀ l₁ m₀ m₁ n₀ n₁ : ℕ) → l₁ * h + l₀ ≡ a₀ * b₀ → m₁ * h + m₀ ≡ a₁ * b₀ + l₁ → n₁ * h + n₀ ≡ a₀ * b₁ + m₀
@@ -20,7 +18,7 @@ low-word l c d = omega arith
 
 -- the products of the halves of two significands
 pub low-low : (a b : ℕ) → a % 2 ^ 32 * (b % 2 ^ 32) < 2 ^ 64
-low-low a b = product-lt (a % 2 ^ 32) (b % 2 ^ 32) (2 ^ 32) (2 ^ 32) (pow-pos 32) (omega arith) (omega arith)
+low-low a b = word-lt (a % 2 ^ 32) (b % 2 ^ 32) (omega arith) (omega arith)
 
 pub low-high : (a b : ℕ) → b < 2 ^ 53 → a % 2 ^ 32 * (b / 2 ^ 32) < 2 ^ 53
 low-high a b h = product-lt (a % 2 ^ 32) (b / 2 ^ 32) (2 ^ 32) (2 ^ 21) (pow-pos 21) (omega arith) (omega arith)

@@ -2,6 +2,8 @@ pub mod Zero
 pub mod Fields
 pub mod WholeRoot
 pub mod RootDigits
+pub mod Products
+pub mod RootTest
 pub mod Normal
 pub mod RootRound
 pub mod RootBits

@@ -1,8 +1,8 @@
 // Floating-point functions that the Rust takes from its standard library, worked out by the program.
 ghost use mathlib.Core.Path.{_≡_};
-ghost use Prim.Native.Nat.{_+_, _*_, _^_, _<_, _≤_};
+ghost use Prim.Native.Nat.{_+_, _*_, _/_, _^_, _<_, _≤_};
 ghost use mathlib.Core.Bool.{true, false};
-ghost use lib.Dec.{T};
+ghost use lib.Dec.{T, eqb};
 ghost use lib.Ieee.Scale.{finite};
 ghost use lib.Ieee.Positive.{positive};
 ghost use Rattle.ieee.specs.Finite.{allFinite};
@@ -106,6 +106,82 @@ fn root_digits(n: u64) -> u64
     root
 }
 
+// (r * r + more) / 2^54, by the halves of r, of 27 digits each: the square of r may pass a word, and no product of its halves does.
+fn square_part(r: u64, more: u64) -> u64
+    requires { ⌜ (r < 2 ^ 55) × (more < 2 ^ 57) ⌝ }
+    ensures { λ q. ⌜ q ≡ (r * r + more) / 2 ^ 54 ⌝ }
+{
+    let high = r / 0x800_0000;
+    let low = r % 0x800_0000;
+    let middle = high * low * 2 + (low * low + more) / 0x800_0000;
+    high * high + middle / 0x800_0000
+}
+
+// Whether r is the whole root of n * 2^54: its square, rounded up to a multiple of 2^54, is not above that,
+// and the last number before the next square, r * r + 2 * r, not below it.
+fn is_root(n: u64, r: u64) -> bool
+    requires { ⌜ (n < 2 ^ 54) × (r < 2 ^ 55) ⌝ }
+    ensures { λ t. ⌜ t ≡ eqb r (wholeRoot 54 (n * 2 ^ 54)) ⌝ }
+{
+    if square_part(r, 0x3f_ffff_ffff_ffff) > n {
+        return false;
+    }
+    n <= square_part(r, 2 * r)
+}
+
+// A guess of 1 / √m, 6 in a hundred off at most: a straight line from 1 to 2, 1.2235 - m / 4, and one from 2 to 4, 0.9735 - m / 8.
+// Here and below m counts 2^-30 and a guess 2^-32. What a guess is worth, `is_root` says: no more is proved of it than that it fits.
+fn first_guess(m: u64) -> u64
+    requires { ⌜ (2 ^ 30 ≤ m) × (m < 2 ^ 32) ⌝ }
+    ensures { λ y. ⌜ y < 2 ^ 32 ⌝ }
+{
+    if m < 0x8000_0000 {
+        return 0x1_3937_4bc6 - m;
+    }
+    0xf937_4bc6 - m / 2
+}
+
+// Newton's step from a guess y of 1 / √m to one with twice the digits, y * (3 - m * y * y) / 2. The divisions take less than two units from m * y * y,
+// so the 3 is two units less: no guess comes out above 1 / √m. The remainders by 2^32, and 2^32 on top of the 3, change no good guess and make any fit.
+fn better_guess(m: u64, y: u64) -> u64
+    requires { ⌜ (m < 2 ^ 32) × (y < 2 ^ 32) ⌝ }
+    ensures { λ r. ⌜ r < 2 ^ 32 ⌝ }
+{
+    let square = y * y / 0x1_0000_0000;
+    let product = square * m / 0x1_0000_0000;
+    let factor = (0x1_bfff_fffe - product) % 0x1_0000_0000;
+    y * factor / 0x8000_0000 % 0x1_0000_0000
+}
+
+// A guess of the whole root of n * 2^54, right or 1 too small. Its first 32 digits are m / √m, for m the first 32 digits of n,
+// and the other 22 what the square of those leaves of n, without its last 5 digits, for the product to fit, times half of 1 / √m.
+fn guessed_root(n: u64) -> u64
+    requires { ⌜ (2 ^ 52 ≤ n) × (n < 2 ^ 54) ⌝ }
+    ensures { λ r. ⌜ r < 2 ^ 54 + 2 ^ 27 ⌝ }
+{
+    let m = n / 0x40_0000;
+    let y = better_guess(m, better_guess(m, better_guess(m, first_guess(m))));
+    let first = m * y / 0x8000_0000 % 0x1_0000_0000;
+    let rest = std::num::wrapping_sub_u64(n * 0x400, first * first);
+    first * 0x40_0000 + rest / 0x20 % 0x1_0000_0000 * y / 0x20_0000_0000
+}
+
+// The whole root of n * 2^54: the guess or the number above it where that passes the test, and else digit by digit.
+fn whole_root(n: u64) -> u64
+    requires { ⌜ (2 ^ 52 ≤ n) × (n < 2 ^ 54) ⌝ }
+    ensures { λ r. ⌜ r ≡ wholeRoot 54 (n * 2 ^ 54) ⌝ }
+{
+    let guess = guessed_root(n);
+    if is_root(n, guess) {
+        return guess;
+    }
+    let next = guess + 1;
+    if is_root(n, next) {
+        return next;
+    }
+    root_digits(n)
+}
+
 // The f64 nearest the root of x. The root of an even power of two times n is that of n times half the power; its 54th digit
 // rounds the first 53, since no root lies half-way between two f64.
 fn nearest_root(x: f64) -> f64
@@ -115,7 +191,7 @@ fn nearest_root(x: f64) -> f64
     let bits = f64::to_bits(x);
     let scaled = normalised(bits / 0x10_0000_0000_0000, bits % 0x10_0000_0000_0000);
     let half = scaled.exponent / 2;
-    let root = root_digits(scaled.significand * (1 + scaled.exponent % 2));
+    let root = whole_root(scaled.significand * (1 + scaled.exponent % 2));
     f64::from_bits((half - 26) * 0x10_0000_0000_0000 + (root + 1) / 2)
 }
 

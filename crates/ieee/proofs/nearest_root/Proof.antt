@@ -6,7 +6,7 @@ use borrow.Author.Needs.{needs}
 use lib.Ieee.{binary64, fits, toBits, ofBits}
 use Rattle.ieee.specs.Values.{multiple}
 use Rattle.ieee.proofs.Zero.{holds}
-use Rattle.ieee.proofs.RootCall.{AboveZero, above-zero, positive-number, doubled, root-bound, no-nan, root-of-normalised}
+use Rattle.ieee.proofs.RootCall.{AboveZero, above-zero, positive-number, doubled, not-halved, root-bound, no-nan, root-of-normalised}
 use Rattle.ieee.proofs.nearest_root.Statement.{statement}
 use Rattle.ieee.proofs.nearest_root.Tie as tie
 
@@ -28,25 +28,27 @@ float-to-bits-bits c = positive-number (c .args .x) (c .pre)
 normalised-requires : tie.Need-normalised-requires
 normalised-requires c κs = (fields c .field, omega arith, fields c .some)
 
--- the argument of root_digits fits
+-- the argument of whole_root fits
 bounded : (c : tie.After-struct-known3) → let d = at-scaled c .normalised .result in d .significand * (1 + d .exponent % 2) ≤ 2 ^ 54 - 2
 bounded c = let d = at-scaled c .normalised in doubled (d .result .significand) (d .result .exponent) (d .ensures .upper)
 
--- let root = root_digits(scaled.significand * (1 + scaled.exponent % 2));
-add-root-digits : tie.Need-add-root-digits
-add-root-digits c = search needs
+-- let root = whole_root(scaled.significand * (1 + scaled.exponent % 2));
+add-whole-root : tie.Need-add-whole-root
+add-whole-root c = search needs
 
-mul-root-digits : tie.Need-mul-root-digits
-mul-root-digits c = omega (arith, bounded c)
+mul-whole-root : tie.Need-mul-whole-root
+mul-whole-root c = omega (arith, bounded c)
 
-root-digits-requires : tie.Need-root-digits-requires
-root-digits-requires c κs = omega (arith, bounded c)
+whole-root-requires : tie.Need-whole-root-requires
+whole-root-requires c κs =
+    let d = at-scaled c .normalised in
+    (not-halved (d .result .significand) (d .result .exponent) (d .ensures .lower), omega (arith, bounded c))
 
 -- and so does the root
-root-small : (c : tie.After-root-digits) → c .root-digits .result < 2 ^ 54
+root-small : (c : tie.After-whole-root) → c .whole-root .result < 2 ^ 54
 root-small c =
     let d = at-scaled (c .before) .normalised in
-    subst (λ (n : ℕ). n < 2 ^ 54) (sym (c .root-digits .ensures)) (root-bound (d .result .significand * (1 + d .result .exponent % 2)) (bounded (c .before)))
+    subst (λ (n : ℕ). n < 2 ^ 54) (sym (c .whole-root .ensures)) (root-bound (d .result .significand * (1 + d .result .exponent % 2)) (bounded (c .before)))
 
 -- f64::from_bits((half - 26) * 0x10_0000_0000_0000 + (root + 1) / 2)
 sub-result : tie.Need-sub-result
@@ -72,7 +74,7 @@ returns c =
     let x = s .args .x in
     let b = toBits binary64 x in
     let d = at-scaled (c .before) .normalised in
-    ap (λ (q : ℕ). ofBits binary64 ((d .result .exponent / 2 - 26) * 2 ^ 52 + (q + 1) / 2)) (c .root-digits .ensures)
+    ap (λ (q : ℕ). ofBits binary64 ((d .result .exponent / 2 - 26) * 2 ^ 52 + (q + 1) / 2)) (c .whole-root .ensures)
     ∙ root-of-normalised (multiple x) (b / 2 ^ 52) (b % 2 ^ 52) (d .result .significand) (d .result .exponent) (d .ensures) (fields s .value)
 
 pub nearest-root-spec : {M : Type 1} → statement M
@@ -81,9 +83,9 @@ nearest-root-spec =
     (tie.spec
     float-to-bits-bits
     normalised-requires
-    add-root-digits
-    mul-root-digits
-    root-digits-requires
+    add-whole-root
+    mul-whole-root
+    whole-root-requires
     sub-result
     mul-result
     add-result
