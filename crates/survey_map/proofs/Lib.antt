@@ -2,4 +2,5 @@ pub mod Own
 pub mod Ample
 pub mod Answer
 pub mod Texts
+pub mod Input
 pub mod Held

@@ -9,35 +9,35 @@ use Rattle.ieee.specs.Floats.{zeroFloat}
 use Rattle.survey_file.specs.File.{baseVersion}
 use Rattle.survey_file.specs.Trailer.{startIn, wellsIn, nodesIn, basesIn, externalsIn}
 use Rattle.survey_file.specs.Rules.{WellFormed, Room}
-use Rattle.survey_map.specs.Areas.{ownLists, ownAreas}
+use Rattle.survey_map.specs.Areas.{mostNumbers, mostCodes, ownLists, mostNodes, mostColumns, mostWork, mostWeights, ownAreas}
 
 -- ---- the lists
-pub own-values : length (ownLists .values) ≡ 8184
+pub own-values : length (ownLists .values) ≡ mostNumbers
 unfolding ownLists
-own-values = length-replicate 8184 zeroFloat
+own-values = length-replicate mostNumbers zeroFloat
 
-pub own-coords : length (ownLists .coords) ≡ 8184
+pub own-coords : length (ownLists .coords) ≡ mostNumbers
 unfolding ownLists
-own-coords = length-replicate 8184 zeroFloat
+own-coords = length-replicate mostNumbers zeroFloat
 
-pub own-bases : length (ownLists .bases) ≡ 65482
+pub own-bases : length (ownLists .bases) ≡ mostCodes
 unfolding ownLists
-own-bases = length-replicate {A = ℕ} 65482 0
+own-bases = length-replicate {A = ℕ} mostCodes 0
 
-pub own-external : length (ownLists .external) ≡ 8184
+pub own-external : length (ownLists .external) ≡ mostNumbers
 unfolding ownLists
-own-external = length-replicate 8184 zeroFloat
+own-external = length-replicate mostNumbers zeroFloat
 
-pub own-nodes : length (ownLists .nodes) ≡ 8184
+pub own-nodes : length (ownLists .nodes) ≡ mostNumbers
 unfolding ownLists
-own-nodes = length-replicate 8184 zeroFloat
+own-nodes = length-replicate mostNumbers zeroFloat
 
-pub own-node-external : length (ownLists .nodeExternal) ≡ 8184
+pub own-node-external : length (ownLists .nodeExternal) ≡ mostNumbers
 unfolding ownLists
-own-node-external = length-replicate 8184 zeroFloat
+own-node-external = length-replicate mostNumbers zeroFloat
 
 -- externals beside what they belong to: with none of the latter there are none
-beside : (k n rest : ℕ) → 2 * n + k * n + rest ≤ 8185 → k * n ≤ 8184
+beside : (k n rest : ℕ) → 2 * n + k * n + rest ≤ 8185 → k * n ≤ 8183
 beside k n rest h =
     elim (decLt 0 n) [
       | yes p ↦ omega arith
@@ -64,26 +64,26 @@ lists-fit bytes w =
     }
 
 -- ---- the answer
-pub own-work : length (ownAreas .work) ≡ 7200
+pub own-work : length (ownAreas .work) ≡ mostWork
 unfolding ownAreas
-own-work = length-replicate 7200 zeroFloat
+own-work = length-replicate mostWork zeroFloat
 
-pub own-predicted : length (ownAreas .predicted) ≡ 100
+pub own-predicted : length (ownAreas .predicted) ≡ mostNodes
 unfolding ownAreas
-own-predicted = length-replicate 100 zeroFloat
+own-predicted = length-replicate mostNodes zeroFloat
 
-pub own-variance : length (ownAreas .variance) ≡ 100
+pub own-variance : length (ownAreas .variance) ≡ mostNodes
 unfolding ownAreas
-own-variance = length-replicate 100 zeroFloat
+own-variance = length-replicate mostNodes zeroFloat
 
-pub own-verdicts : length (ownAreas .verdicts) ≡ 100
+pub own-verdicts : length (ownAreas .verdicts) ≡ mostNodes
 unfolding ownAreas
-own-verdicts = length-replicate {A = ℕ} 100 0
+own-verdicts = length-replicate {A = ℕ} mostNodes 0
 
-pub own-weights : length (ownAreas .weights) ≡ 4800
+pub own-weights : length (ownAreas .weights) ≡ mostWeights
 unfolding ownAreas
-own-weights = length-replicate 4800 zeroFloat
+own-weights = length-replicate mostWeights zeroFloat
 
-pub own-coefficients : length (ownAreas .coefficients) ≡ 12
+pub own-coefficients : length (ownAreas .coefficients) ≡ mostColumns
 unfolding ownAreas
-own-coefficients = length-replicate 12 zeroFloat
+own-coefficients = length-replicate mostColumns zeroFloat

@@ -56,7 +56,7 @@ module _ (bytes : List ℕ) where
       sym (ap (λ (b : Bool). cond b (refusedText 16) (surveyText (surveyIn bytes)))
       (refute (malformed-told baseVersion bytes) (well-formed-exactly baseVersion bytes .0 w)))
 
-  malformed-text : Malformed baseVersion bytes → refusedText 16 ≡ fileText bytes
+  pub malformed-text : Malformed baseVersion bytes → refusedText 16 ≡ fileText bytes
   unfolding fileText
   malformed-text m =
       sym (ap (λ (b : Bool). cond b (refusedText 16) (surveyText (surveyIn bytes))) (affirm (malformed-told baseVersion bytes) m))

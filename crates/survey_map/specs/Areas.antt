@@ -8,17 +8,41 @@ use Rattle.survey_file.specs.Areas as file
 use Rattle.survey_file.specs.declared.Header.{Header}
 use Rattle.file_reader.specs.Counts as reader
 
--- of zeros: as long as the lists of a file of 65,536 bytes can be
+-- the most numbers of a file's list: 65,536 bytes have room for 8,190 before the trailer, five of them are in no list, and nodes are an even count
+abbrev pub mostNumbers : ℕ
+mostNumbers = 8184
+
+-- the most codes of a file: its 65,536 bytes but for five numbers and the trailer
+abbrev pub mostCodes : ℕ
+mostCodes = 65482
+
+-- zeros, as long as the lists of a file can be
 unfoldable pub ownLists : file.Areas
 ownLists =
-    reader.areasOf (replicate 8184 zeroFloat) (replicate 8184 zeroFloat) (replicate 65482 0) (replicate 8184 zeroFloat) (replicate 8184 zeroFloat)
-    (replicate 8184 zeroFloat)
+    let numbers = replicate mostNumbers zeroFloat in
+    reader.areasOf numbers numbers (replicate mostCodes 0) numbers numbers numbers
 
--- of zeros: as long as 48 wells, 100 nodes and 12 columns need
+-- the most that a fit needs: "n > 48, p > 12 or m > 100" is refused
+abbrev pub mostNodes : ℕ
+mostNodes = 100
+
+abbrev pub mostColumns : ℕ
+mostColumns = 12
+
+-- "2·s·s numbers", where s = n + p
+abbrev pub mostWork : ℕ
+mostWork = 7200
+
+-- "n·m weights"
+abbrev pub mostWeights : ℕ
+mostWeights = 4800
+
+-- zeros, as long as a fit can need
 unfoldable pub ownAreas : fit.Areas
 ownAreas =
-    fit.areasOf (replicate 7200 zeroFloat) (replicate 100 zeroFloat) (replicate 100 zeroFloat) (replicate 100 0) (replicate 4800 zeroFloat)
-    (replicate 12 zeroFloat)
+    fit.areasOf (replicate mostWork zeroFloat) (replicate mostNodes zeroFloat) (replicate mostNodes zeroFloat) (replicate mostNodes 0)
+    (replicate mostWeights zeroFloat)
+    (replicate mostColumns zeroFloat)
 
 -- ---- a survey in the areas that the reader filled
 -- "k the count of code 4"

@@ -11,9 +11,10 @@ use survey_checks::counts::external_columns;
 use survey_file::Header;
 use survey_file::Read;
 ghost use mathlib.Core.Path.{_≡_};
-ghost use Prim.Native.Nat.{_≤_};
-ghost use lib.ListN.{length, take};
+ghost use Prim.Native.Nat.{_+_, _≤_};
+ghost use lib.ListN.{length, take, replicate};
 ghost use Rattle.survey.specs.Survey.{surveyOf, columnSum};
+ghost use Rattle.survey_file.specs.File.{longestFile};
 ghost use Rattle.file_reader.specs.Counts.{areasOf};
 ghost use Rattle.report.specs.Listing.{listing, longest};
 ghost use Rattle.report.specs.Printed.{outcomeOf, printed};
@@ -35,6 +36,16 @@ const NUMBERS: usize = 8184;
 
 // The codes of a file: 65,536 bytes less five numbers and the trailer.
 const CODES: usize = 65482;
+
+// One byte more than a file may have.
+const INPUT: usize = 65537;
+
+// Zeros, as many as there are bytes to read: all of a file, or so many that it is seen to be over.
+pub fn input_area() -> [u8; INPUT]
+    ensures { λ r. ⌜ r ≡ replicate (longestFile + 1) 0 ⌝ }
+{
+    [0; INPUT]
+}
 
 // The listing of an accepted fit of m nodes, from the first places of the areas that hold its answer.
 fn print_answer(

@@ -3,11 +3,8 @@ use libc::STDIN_FILENO;
 use libc::STDOUT_FILENO;
 use report::Printed;
 
-// One byte more than a survey file may have, so that a longer one is seen to be over.
-const INPUT: usize = 65537;
-
 fn main() {
-    let mut bytes = [0u8; INPUT];
+    let mut bytes = survey_map::input_area(); // 65,537: one more than a file may have, so that a longer one is seen to be over
     let got = io::read_full(STDIN_FILENO, &mut bytes);
     let mut text = report::text_area();
     let printed = survey_map::print_survey(&bytes[..got], &mut text);

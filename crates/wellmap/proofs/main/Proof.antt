@@ -39,6 +39,10 @@ inside c =
     let room : length (at-area p .text-area .result) ≡ longest = ap length (at-area p .text-area .ensures) ∙ length-replicate {A = ℕ} longest 0 in
     omega (arith, p .print-survey .ensures .1, p .print-survey .kept .1 .0)
 
+-- let mut bytes = survey_map::input_area();
+input-area-requires : tie.Need-input-area-requires
+input-area-requires c κs = search needs
+
 -- let got = io::read_full(STDIN_FILENO, &mut bytes);
 slice-aggregate-read-full : tie.Need-slice-aggregate-read-full
 slice-aggregate-read-full c = search needs
@@ -88,6 +92,7 @@ pub main-spec : {M : Type 1} → statement M
 main-spec =
     tie.close
     (tie.spec
+    input-area-requires
     slice-aggregate-read-full
     read-full-requires
     text-area-requires
