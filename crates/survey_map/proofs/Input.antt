@@ -1,5 +1,5 @@
 -- What is printed of a file's first 65,537 bytes is what is printed of all of it. Assumes nothing.
-use Prim.Native.Nat.{ℕ, _+_, _<_}
+use Prim.Native.Nat.{ℕ, _<_}
 use native.Mathlib.Decide.{decLt}
 use native.Mathlib.Omega.{arith}
 use mathlib.Core.Path.{_≡_, ap, sym, _∙_}
@@ -9,7 +9,7 @@ use lib.ListN.{length, take}
 use lib.Seq.{length-take-le, take-all}
 use Rattle.survey_file.specs.File.{longestFile}
 use Rattle.report.specs.Listing.{refusedText}
-use Rattle.survey_map.specs.Text.{fileText, FirstBytes}
+use Rattle.survey_map.specs.Text.{fileText, bytesRead, FirstBytes}
 use Rattle.survey_map.proofs.Texts.{malformed-text}
 
 -- a file that is over
@@ -19,6 +19,6 @@ over bytes l = malformed-text bytes (inr (inl l))
 pub first-bytes : (bytes : List ℕ) → FirstBytes bytes
 first-bytes bytes =
     elim (decLt longestFile (length bytes)) [
-      | yes l ↦ let e = length-take-le (longestFile + 1) bytes (omega arith) in sym (over (take (longestFile + 1) bytes) (omega arith)) ∙ over bytes l
-      | no h ↦ ap fileText (take-all (longestFile + 1) bytes (omega arith))
+      | yes l ↦ let e = length-take-le bytesRead bytes (omega arith) in sym (over (take bytesRead bytes) (omega arith)) ∙ over bytes l
+      | no h ↦ ap fileText (take-all bytesRead bytes (omega arith))
     ]

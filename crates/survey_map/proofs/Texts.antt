@@ -5,6 +5,7 @@ use mathlib.Core.Logic.{_≢_, inl, inr}
 use mathlib.Core.Bool.{Bool, cond}
 use mathlib.Core.List.{List}
 use lib.ListN.{length}
+use lib.Ieee.{Float}
 use Rattle.error.specs.declared.Refusal.{Refusal}
 use Rattle.error.specs.Numbers.{numberOf}
 use Rattle.error.specs.Outcome.{Outcome, outcome}
@@ -20,8 +21,9 @@ use Rattle.survey_file.specs.Rules.{WellFormed, readerRules, Malformed}
 use Rattle.survey_file.specs.Reader.{surveyIn}
 use Rattle.survey_file.proofs.Told.{malformed-told}
 use Rattle.survey_file.proofs.WellFormed.{well-formed-exactly, room-exactly}
-use Rattle.report.specs.Listing.{refusedText, longest}
-use Rattle.report.specs.Printed.{Outcome as Printing, printed}
+use Rattle.report.specs.Listing.{listing, refusedText, longest}
+use Rattle.report.specs.Printed.{Outcome as Printing, printed, listed}
+use Rattle.report.proofs.Answers.{even-listed}
 use Rattle.survey_map.specs.Areas.{ownLists, ownAreas}
 use Rattle.survey_map.specs.Text.{fitText, surveyText, fileText}
 use Rattle.survey_map.proofs.Own.{lists-fit}
@@ -33,6 +35,12 @@ same-text area e x = (
   x .0 ∙ ap (λ (t : List ℕ). printed t area) e,
   subst (λ (t : List ℕ). length t ≤ longest) e (x .1),
 )
+
+-- of even lists the listing is printed
+pub listed-text : {o : Printing} (figures variances : List Float) (verdicts : List ℕ) (coefficients : List Float) (area : List ℕ)
+    → length figures ≡ length verdicts → length variances ≡ length verdicts → o ≡ listed figures variances verdicts coefficients area
+    → o ≡ printed (listing figures variances verdicts coefficients) area
+listed-text figures variances verdicts coefficients area f v e = e ∙ even-listed figures variances verdicts coefficients area f v
 
 -- ---- a fit
 module _ (s : Survey) (a : Areas) where

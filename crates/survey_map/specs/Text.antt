@@ -1,5 +1,5 @@
 -- What is printed for a survey file: paper 01, "Program `wellmap` reads one from standard input". Assumes nothing.
-use Prim.Native.Nat.{ℕ, zero, suc, _+_}
+use Prim.Native.Nat.{ℕ, zero, suc}
 use mathlib.Core.Path.{_≡_}
 use mathlib.Core.Logic.{_≢_}
 use mathlib.Core.Bool.{cond}
@@ -9,7 +9,7 @@ use Rattle.survey.specs.Limits.{base}
 use Rattle.survey.specs.Survey.{Survey, nodeCount, columns}
 use Rattle.fit.specs.Areas.{Areas}
 use Rattle.fit.specs.Fit.{fitted}
-use Rattle.survey_file.specs.File.{longestFile, baseVersion}
+use Rattle.survey_file.specs.File.{baseVersion}
 use Rattle.survey_file.specs.Refusals.{malformed}
 use Rattle.survey_file.specs.Reader.{surveyIn, reader}
 use Rattle.report.specs.Listing.{listing, refusedText}
@@ -33,9 +33,13 @@ unfolding surveyText
 fileText bytes = cond (malformed baseVersion bytes) (refusedText 16) (surveyText (surveyIn bytes))
 
 -- ---- what holds of it
--- it is enough to read one byte more than a file may have: "over 65,536 bytes" is 16, however many there are
+-- one byte more than a file may have
+abbrev pub bytesRead : ℕ
+bytesRead = 65537
+
+-- so many are enough: "over 65,536 bytes" is 16, however many there are
 abbrev pub FirstBytes : List ℕ → Type 0
-FirstBytes bytes = fileText (take (longestFile + 1) bytes) ≡ fileText bytes
+FirstBytes bytes = fileText (take bytesRead bytes) ≡ fileText bytes
 
 -- whatever the survey, the fit's own areas are long enough: 17 and 18 never show
 pub record AmpleForFit (s : Survey) : Type 0 where

@@ -11,15 +11,14 @@ use survey_checks::counts::external_columns;
 use survey_file::Header;
 use survey_file::Read;
 ghost use mathlib.Core.Path.{_≡_};
-ghost use Prim.Native.Nat.{_+_, _≤_};
+ghost use Prim.Native.Nat.{_≤_};
 ghost use lib.ListN.{length, take, replicate};
 ghost use Rattle.survey.specs.Survey.{surveyOf, columnSum};
-ghost use Rattle.survey_file.specs.File.{longestFile};
 ghost use Rattle.file_reader.specs.Counts.{areasOf};
 ghost use Rattle.report.specs.Listing.{listing, longest};
 ghost use Rattle.report.specs.Printed.{outcomeOf, printed};
 ghost use Rattle.survey_map.specs.Areas.{Holding, surveyHeld};
-ghost use Rattle.survey_map.specs.Text.{surveyText, fileText};
+ghost use Rattle.survey_map.specs.Text.{surveyText, fileText, bytesRead};
 
 // The most nodes and columns of an accepted fit, the work area of its 48 wells and 12 columns, 2 * 60 * 60, and the weights of 48 wells at 100 nodes.
 const NODES: usize = 100;
@@ -42,7 +41,7 @@ const INPUT: usize = 65537;
 
 // Zeros, as many as there are bytes to read: all of a file, or so many that it is seen to be over.
 pub fn input_area() -> [u8; INPUT]
-    ensures { λ r. ⌜ r ≡ replicate (longestFile + 1) 0 ⌝ }
+    ensures { λ r. ⌜ r ≡ replicate bytesRead 0 ⌝ }
 {
     [0; INPUT]
 }

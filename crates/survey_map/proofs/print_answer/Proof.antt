@@ -9,8 +9,7 @@ use lib.Seq.{length-take-le}
 use Rattle.survey.specs.Survey.{columnSum}
 use Rattle.survey.proofs.Codes.{held-exact}
 use Rattle.report.specs.Listing.{listing}
-use Rattle.report.proofs.Answers.{even-listed}
-use Rattle.survey_map.proofs.Texts.{same-text}
+use Rattle.survey_map.proofs.Texts.{same-text, listed-text}
 use Rattle.survey_map.proofs.print_answer.Statement.{statement}
 use Rattle.survey_map.proofs.print_answer.Tie as tie
 
@@ -77,7 +76,7 @@ returns c =
     let few-nodes : length (take (a .m) (a .verdicts .now)) ≤ 100 = omega (arith, s .pre .0) in
     let few-columns : length (take (d .drift-columns .result) (a .coefficients .now)) ≤ 12 = omega (arith, columns-taken d, counted d, s .pre .4) in
     same-text (a .text .now) (ap (text-of s) (counted d)) (
-      w .write-listing .ensures .0 ∙ even-listed _ _ _ _ _ (figures ∙ sym verdicts) (variances ∙ sym verdicts),
+      listed-text _ _ _ _ _ (figures ∙ sym verdicts) (variances ∙ sym verdicts) (w .write-listing .ensures .0),
       w .write-listing .ensures .1 few-nodes few-columns,
     )
 
