@@ -1,0 +1,102 @@
+-- `nakwemol::file_calls::nakwemol_write` meets its contract: the file of the survey that its parameters are, or nothing where the model's code is none. Assumes nothing.
+use Prim.Native.Nat.{ℕ}
+use mathlib.Core.Path.{_≡_, ap, _∙_}
+use mathlib.Core.List.{List}
+use borrow.Author.Needs.{needs}
+use Rattle.variogram.specs.declared.Variogram.{Variogram}
+use Rattle.variogram.specs.declared.VariogramModel.{VariogramModel}
+use Rattle.variogram.specs.Model.{variogram}
+use Rattle.survey.specs.declared.UniversalKrigingOptions.{UniversalKrigingOptions}
+use Rattle.survey.specs.Survey.{surveyOf}
+use Rattle.survey_file.specs.File.{baseVersion}
+use Rattle.survey_file.specs.Writer.{Outcome, writer}
+use Rattle.nakwemol.specs.Codes.{unknownCode}
+use Rattle.nakwemol.specs.Told.{Ending, ending, lengthTold}
+use Rattle.nakwemol.proofs.Coded.{model-unknown, model-known}
+use Rattle.nakwemol.proofs.file_calls.nakwemol_write.Statement.{statement}
+use Rattle.nakwemol.proofs.file_calls.nakwemol_write.Tie as tie
+
+-- The states that the needs look back to, in the order of the code: a name takes a later state back to its own.
+abbrev at-entry : tie.After-model-of → tie.Start
+at-entry c =
+    let d = c .before .before .before .before in
+    d .before .before .before .before
+
+abbrev at-code : tie.After-new → tie.After-model-of
+at-code c = c .before .before .before .before
+
+-- how the call ends where the code is none, the file with a variogram, and how the call ends with a model
+abbrev away : tie.Start → Ending ℕ (List ℕ)
+away c = ending unknownCode (c .args .length .now) (c .args .file .now)
+
+abbrev with-variogram : tie.Start → Variogram → Outcome
+with-variogram c v =
+    let a = c .args in
+    let options : UniversalKrigingOptions = record { variogram = v; regularization = a .regularization } in
+    writer baseVersion
+    (surveyOf (a .values .now) (a .coords .now) (a .bases .now) (a .external .now) (a .nodes .now) (a .node-external .now) options (a .tolerance))
+    (a .file .now)
+
+abbrev told : tie.Start → Outcome → Ending ℕ (List ℕ)
+told c e = lengthTold e (c .args .length .now)
+
+abbrev with-model : tie.Start → VariogramModel → Ending ℕ (List ℕ)
+with-model c m = let a = c .args in told c (with-variogram c (variogram m (a .nugget) (a .sill) (a .range)))
+
+-- let coded = model_of(model);
+model-of-requires : tie.Need-model-of-requires
+model-of-requires c κs = search needs
+
+-- let CodedModel::Known(known) = coded else {
+enum-known-coded : tie.Need-enum-known-coded
+enum-known-coded c = search needs
+
+enum-told : tie.Need-enum-told
+enum-told c = search needs
+
+-- return UNKNOWN_CODE;
+returns : tie.Need-returns
+returns c =
+    let m = c .before .before in
+    let s = at-entry m in
+    model-unknown (away s) (with-model s) (m .model-of .ensures) (c .enum-told .given .1)
+
+-- variogram: Variogram::new(known, nugget, sill, range),
+new-requires : tie.Need-new-requires
+new-requires c κs = search needs
+
+-- let written = write_survey(
+write-survey-requires : tie.Need-write-survey-requires
+write-survey-requires c κs = search needs
+
+-- tell_length(written, length)
+tell-length-requires : tie.Need-tell-length-requires
+tell-length-requires c κs = search needs
+
+-- pub extern "C" fn nakwemol_write(
+same-length : tie.Need-same-length
+same-length c = search needs
+
+returns-2 : tie.Need-returns-2
+returns-2 c =
+    let w = c .before .before .before .before in
+    let n = w .before .before in
+    let m = at-code n in
+    let s = at-entry m in
+    c .tell-length .ensures _
+    ∙ ap (told s) (w .write-survey .ensures .0 ∙ ap (with-variogram s) (n .new .ensures))
+    ∙ model-known (away s) (with-model s) (m .model-of .ensures) (n .before .before .coded .given .1)
+
+pub nakwemol-write-spec : {M : Type 1} → statement M
+nakwemol-write-spec =
+    tie.close
+    (tie.spec
+    model-of-requires
+    enum-known-coded
+    enum-told
+    returns
+    new-requires
+    write-survey-requires
+    tell-length-requires
+    same-length
+    returns-2)
