@@ -1,5 +1,5 @@
 -- A call by a code: what it comes to where the code stands for nothing, and where it stands for something. Assumes nothing.
-use mathlib.Core.Path.{_≡_, refl, ap, sym, _∙_}
+use mathlib.Core.Path.{_≡_, refl, ap, sym}
 use Rattle.variogram.specs.declared.VariogramModel.{VariogramModel}
 use Rattle.variogram.specs.declared.VariogramModel.the-variants.{Spherical, Exponential, Gaussian, Linear}
 use Rattle.interpolation.specs.declared.KrigingType.{KrigingType}
@@ -15,18 +15,16 @@ as-in-the-file Exponential = refl
 as-in-the-file Gaussian = refl
 as-in-the-file Linear = refl
 
--- what a code was found to say, and what a call comes to by it
+-- what a call comes to by a code
 module _ {A : Type 0} (away : A) where
-  pub model-unknown : (call : VariogramModel → A) {k coded : CodedModel} → coded ≡ k → coded ≡ CodedModel.Unknown → away ≡ byModel k away call
-  model-unknown call is none = ap (λ (x : CodedModel). byModel x away call) (sym none ∙ is)
+  pub model-unknown : (call : VariogramModel → A) {k : CodedModel} → k ≡ CodedModel.Unknown → away ≡ byModel k away call
+  model-unknown call h = ap (λ (x : CodedModel). byModel x away call) (sym h)
 
-  pub model-known : (call : VariogramModel → A) {k coded : CodedModel} {model : VariogramModel} → coded ≡ k → coded ≡ CodedModel.Known model
-      → call model ≡ byModel k away call
-  model-known call is some = ap (λ (x : CodedModel). byModel x away call) (sym some ∙ is)
+  pub model-known : (call : VariogramModel → A) {k : CodedModel} {model : VariogramModel} → k ≡ CodedModel.Known model → call model ≡ byModel k away call
+  model-known call h = ap (λ (x : CodedModel). byModel x away call) (sym h)
 
-  pub type-unknown : (call : KrigingType → A) {k coded : CodedType} → coded ≡ k → coded ≡ CodedType.Unknown → away ≡ byType k away call
-  type-unknown call is none = ap (λ (x : CodedType). byType x away call) (sym none ∙ is)
+  pub type-unknown : (call : KrigingType → A) {k : CodedType} → k ≡ CodedType.Unknown → away ≡ byType k away call
+  type-unknown call h = ap (λ (x : CodedType). byType x away call) (sym h)
 
-  pub type-known : (call : KrigingType → A) {k coded : CodedType} {type : KrigingType} → coded ≡ k → coded ≡ CodedType.Known type
-      → call type ≡ byType k away call
-  type-known call is some = ap (λ (x : CodedType). byType x away call) (sym some ∙ is)
+  pub type-known : (call : KrigingType → A) {k : CodedType} {type : KrigingType} → k ≡ CodedType.Known type → call type ≡ byType k away call
+  type-known call h = ap (λ (x : CodedType). byType x away call) (sym h)

@@ -22,12 +22,7 @@ ghost use Rattle.nakwemol.specs.Codes.{modelOf, byModel, unknownCode, op
 ghost use Rattle.nakwemol.specs.Told.{ending, headingOf, headingTold, lengthTold};
 
 // The number of the reader's answer; what the file says besides its lists goes to its places.
-fn tell_header(
-    read: Read,
-    counts: &mut [usize; 3],
-    numbers: &mut [f64; 5],
-    model: &mut u8,
-) -> u8
+fn tell_header(read: Read, counts: &mut [usize; 3], numbers: &mut [f64; 5], model: &mut u8) -> u8
     ensures { λ r. ⌜ ((a : Areas) → ending r (headingOf (now (counts .exit)) (now (numbers .exit)) (now (model .exit))) a
         ≡ headingTold (Reader.outcomeOf read a) (headingOf (now (counts .entry)) (now (numbers .entry)) (now (model .entry)))) ⌝ }
 {
@@ -37,7 +32,13 @@ fn tell_header(
             let v = options.variogram;
             let m = v.model;
             *counts = [header.wells, header.nodes, header.bases];
-            *numbers = [v.nugget, v.sill, v.range, options.regularization, header.tolerance];
+            *numbers = [
+                v.nugget,
+                v.sill,
+                v.range,
+                options.regularization,
+                header.tolerance,
+            ];
             *model = model_code(m);
             0
         }

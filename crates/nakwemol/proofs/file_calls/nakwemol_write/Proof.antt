@@ -1,6 +1,6 @@
 -- `nakwemol::file_calls::nakwemol_write` meets its contract: the file of the survey that its parameters are, or nothing where the model's code is none. Assumes nothing.
 use Prim.Native.Nat.{ℕ}
-use mathlib.Core.Path.{_≡_, ap, _∙_}
+use mathlib.Core.Path.{_≡_, ap, sym, _∙_}
 use mathlib.Core.List.{List}
 use borrow.Author.Needs.{needs}
 use Rattle.variogram.specs.declared.Variogram.{Variogram}
@@ -8,9 +8,11 @@ use Rattle.variogram.specs.declared.VariogramModel.{VariogramModel}
 use Rattle.variogram.specs.Model.{variogram}
 use Rattle.survey.specs.declared.UniversalKrigingOptions.{UniversalKrigingOptions}
 use Rattle.survey.specs.Survey.{surveyOf}
+use Rattle.survey_file.specs.declared.Written.{Written}
 use Rattle.survey_file.specs.File.{baseVersion}
-use Rattle.survey_file.specs.Writer.{Outcome, writer}
-use Rattle.nakwemol.specs.Codes.{unknownCode}
+use Rattle.survey_file.specs.Writer.{Outcome, outcomeOf, writer}
+use Rattle.nakwemol.specs.declared.codes.CodedModel.{CodedModel}
+use Rattle.nakwemol.specs.Codes.{modelOf, byModel, unknownCode}
 use Rattle.nakwemol.specs.Told.{Ending, ending, lengthTold}
 use Rattle.nakwemol.proofs.Coded.{model-unknown, model-known}
 use Rattle.nakwemol.proofs.file_calls.nakwemol_write.Statement.{statement}
@@ -43,6 +45,14 @@ told c e = lengthTold e (c .args .length .now)
 abbrev with-model : tie.Start → VariogramModel → Ending ℕ (List ℕ)
 with-model c m = let a = c .args in told c (with-variogram c (variogram m (a .nugget) (a .sill) (a .range)))
 
+-- the file with the model that the code stands for is how the call ends
+with-known : (s : tie.Start) (n count : ℕ) (written : Written) (after : List ℕ) (v : Variogram) (m : VariogramModel)
+    → ((file : List ℕ) → ending n count file ≡ told s (outcomeOf written file)) → outcomeOf written after ≡ with-variogram s v
+    → v ≡ variogram m (s .args .nugget) (s .args .sill) (s .args .range) → modelOf (s .args .model) ≡ CodedModel.Known m
+    → ending n count after ≡ byModel (modelOf (s .args .model)) (away s) (with-model s)
+with-known s n count written after v m number is new code =
+    number after ∙ ap (told s) (is ∙ ap (with-variogram s) new) ∙ model-known (away s) (with-model s) code
+
 -- let coded = model_of(model);
 model-of-requires : tie.Need-model-of-requires
 model-of-requires c κs = search needs
@@ -59,7 +69,7 @@ returns : tie.Need-returns
 returns c =
     let m = c .before .before in
     let s = at-entry m in
-    model-unknown (away s) (with-model s) (m .model-of .ensures) (c .enum-told .given .1)
+    model-unknown (away s) (with-model s) (sym (m .model-of .ensures) ∙ c .enum-told .given .1)
 
 -- variogram: Variogram::new(known, nugget, sill, range),
 new-requires : tie.Need-new-requires
@@ -82,10 +92,10 @@ returns-2 c =
     let w = c .before .before .before .before in
     let n = w .before .before in
     let m = at-code n in
-    let s = at-entry m in
-    c .tell-length .ensures _
-    ∙ ap (told s) (w .write-survey .ensures .0 ∙ ap (with-variogram s) (n .new .ensures))
-    ∙ model-known (away s) (with-model s) (m .model-of .ensures) (n .before .before .coded .given .1)
+    let known = n .before .before .coded .given in
+    let file = w .write-survey .last .1 .1 .1 .1 .1 .1 .1 .1 .0 in
+    with-known (at-entry m) (c .tell-length .result) (c .tell-length .last .1 .0) (w .write-survey .result) file (n .new .result) (known .0 .0)
+    (c .tell-length .ensures) (w .write-survey .ensures .0) (n .new .ensures) (sym (m .model-of .ensures) ∙ known .1)
 
 pub nakwemol-write-spec : {M : Type 1} → statement M
 nakwemol-write-spec =

@@ -1,5 +1,6 @@
 -- `nakwemol::fit_call::nakwemol_fit` meets its contract: the fit of the survey that its parameters are, or nothing where the model's code is none. Assumes nothing.
-use mathlib.Core.Path.{_≡_, ap, _∙_}
+use Prim.Native.Nat.{ℕ}
+use mathlib.Core.Path.{_≡_, ap, sym, _∙_}
 use borrow.Author.Needs.{needs}
 use Rattle.error.specs.Outcome.{Outcome, outcome}
 use Rattle.variogram.specs.declared.Variogram.{Variogram}
@@ -10,7 +11,10 @@ use Rattle.survey.specs.Limits.{base}
 use Rattle.survey.specs.Survey.{surveyOf}
 use Rattle.fit.specs.Areas.{Areas, areasOf}
 use Rattle.fit.specs.Fit.{fitted}
-use Rattle.nakwemol.specs.Codes.{unknownCode}
+use Rattle.kriging.specs.declared.Fit.{Fit}
+use Rattle.kriging.specs.Outcome.{outcomeOf}
+use Rattle.nakwemol.specs.declared.codes.CodedModel.{CodedModel}
+use Rattle.nakwemol.specs.Codes.{modelOf, byModel, unknownCode}
 use Rattle.nakwemol.proofs.Coded.{model-unknown, model-known}
 use Rattle.nakwemol.proofs.fit_call.nakwemol_fit.Statement.{statement}
 use Rattle.nakwemol.proofs.fit_call.nakwemol_fit.Tie as tie
@@ -55,6 +59,19 @@ with-variogram c v =
 abbrev with-model : tie.Start → VariogramModel → Outcome Areas
 with-model c m = let a = c .args in with-variogram c (variogram m (a .nugget) (a .sill) (a .range))
 
+-- what the fit leaves
+abbrev left : tie.After-universal-kriging-fit → Areas
+left c =
+    let work = c .universal-kriging-fit .last .1 .1 .1 .1 .1 .1 .1 .1 in
+    let verdicts = work .1 .1 .1 in
+    areasOf (work .0) (work .1 .0) (work .1 .1 .0) (verdicts .0) (verdicts .1 .0) (verdicts .1 .1 .0)
+
+-- the fit with the model that the code stands for is how the call ends
+with-known : (s : tie.Start) (n : ℕ) (fit : Fit) (after : Areas) (v : Variogram) (m : VariogramModel) → ((a : Areas) → outcome n a ≡ outcomeOf fit a)
+    → outcomeOf fit after ≡ with-variogram s v → v ≡ variogram m (s .args .nugget) (s .args .sill) (s .args .range)
+    → modelOf (s .args .model) ≡ CodedModel.Known m → outcome n after ≡ byModel (modelOf (s .args .model)) (away s) (with-model s)
+with-known s n fit after v m number is new code = number after ∙ is ∙ ap (with-variogram s) new ∙ model-known (away s) (with-model s) code
+
 -- let coded = model_of(model);
 model-of-requires : tie.Need-model-of-requires
 model-of-requires c κs = search needs
@@ -71,7 +88,7 @@ returns : tie.Need-returns
 returns c =
     let m = c .before .before in
     let s = at-entry m in
-    model-unknown (away s) (with-model s) (m .model-of .ensures) (c .enum-told .given .1)
+    model-unknown (away s) (with-model s) (sym (m .model-of .ensures) ∙ c .enum-told .given .1)
 
 -- variogram: Variogram::new(known, nugget, sill, range),
 new-requires : tie.Need-new-requires
@@ -109,11 +126,9 @@ returns-2 c =
     let f = at-fit (c .before) in
     let n = at-new f in
     let m = at-code n in
-    let s = at-entry m in
-    c .fit-number .ensures _
-    ∙ f .universal-kriging-fit .ensures .0
-    ∙ ap (with-variogram s) (n .new .ensures)
-    ∙ model-known (away s) (with-model s) (m .model-of .ensures) (n .before .before .coded .given .1)
+    let known = n .before .before .coded .given in
+    with-known (at-entry m) (c .fit-number .result) (f .universal-kriging-fit .result) (left f) (n .new .result) (known .0 .0)
+    (c .fit-number .ensures) (f .universal-kriging-fit .ensures .0) (n .new .ensures) (sym (m .model-of .ensures) ∙ known .1)
 
 pub nakwemol-fit-spec : {M : Type 1} → statement M
 nakwemol-fit-spec =

@@ -1,5 +1,6 @@
 -- `nakwemol::interpolate_call::nakwemol_interpolate` meets its contract: the interpolation that its parameters are, or nothing where a code is none. Assumes nothing.
-use mathlib.Core.Path.{_≡_, ap, _∙_}
+use Prim.Native.Nat.{ℕ}
+use mathlib.Core.Path.{_≡_, ap, sym, _∙_}
 use borrow.Author.Needs.{needs}
 use Rattle.error.specs.Outcome.{Outcome, outcome}
 use Rattle.variogram.specs.declared.Variogram.{Variogram}
@@ -10,7 +11,9 @@ use Rattle.interpolation.specs.declared.KrigingType.{KrigingType}
 use Rattle.interpolation.specs.Call.{Areas, areasOf}
 use Rattle.interpolation.specs.Interpolation.{interpolated}
 use Rattle.interpolator.specs.declared.KrigingInterpolator.{KrigingInterpolator}
-use Rattle.interpolator.specs.Outcome.{interpolator, queryOf}
+use Rattle.interpolator.specs.declared.Interpolation.{Interpolation}
+use Rattle.interpolator.specs.Outcome.{interpolator, queryOf, outcomeOf}
+use Rattle.nakwemol.specs.declared.codes.CodedModel.{CodedModel}
 use Rattle.nakwemol.specs.Codes.{modelOf, typeOf, byModel, byType, unknownCode}
 use Rattle.nakwemol.proofs.Coded.{model-unknown, model-known, type-unknown, type-known}
 use Rattle.nakwemol.proofs.interpolate_call.nakwemol_interpolate.Statement.{statement}
@@ -44,6 +47,17 @@ with-model c t m = let a = c .args in by-interpolator c (interpolator t (variogr
 abbrev with-type : tie.Start → KrigingType → Outcome Areas
 with-type c t = byModel (modelOf (c .args .model)) (away c) (with-model c t)
 
+-- what the call leaves
+abbrev left : tie.After-interpolate → Areas
+left c = let work = c .interpolate .last .1 .1 .1 .1 .1 in areasOf (work .0) (work .1 .0) (work .1 .1 .0)
+
+-- the interpolation with the model that the code stands for is that of its kriging type
+with-known : (s : tie.Start) (t : KrigingType) (n : ℕ) (i : Interpolation) (after : Areas) (k : KrigingInterpolator) (v : Variogram) (m : VariogramModel)
+    → ((a : Areas) → outcome n a ≡ outcomeOf i a) → outcomeOf i after ≡ by-interpolator s k → k ≡ interpolator t v
+    → v ≡ variogram m (s .args .nugget) (s .args .sill) (s .args .range) → modelOf (s .args .model) ≡ CodedModel.Known m → outcome n after ≡ with-type s t
+with-known s t n i after k v m number is made new code =
+    number after ∙ is ∙ ap (by-interpolator s) (made ∙ ap (interpolator t) new) ∙ model-known (away s) (with-model s t) code
+
 -- let coded_type = type_of(kriging_type);
 type-of-requires : tie.Need-type-of-requires
 type-of-requires c κs = search needs
@@ -60,7 +74,7 @@ returns : tie.Need-returns
 returns c =
     let k = c .before .before in
     let s = at-entry k in
-    type-unknown (away s) (with-type s) (k .type-of .ensures) (c .enum-told .given .1)
+    type-unknown (away s) (with-type s) (sym (k .type-of .ensures) ∙ c .enum-told .given .1)
 
 -- let coded = model_of(model);
 model-of-requires : tie.Need-model-of-requires
@@ -81,14 +95,14 @@ typed : (m : tie.After-model-of) → let s = at-entry (at-type m) in with-type s
 typed m =
     let k = at-type m in
     let s = at-entry k in
-    type-known (away s) (with-type s) (k .type-of .ensures) (m .before .before .coded-type .given .1)
+    type-known (away s) (with-type s) (sym (k .type-of .ensures) ∙ m .before .before .coded-type .given .1)
 
 -- return UNKNOWN_CODE;
 returns-2 : tie.Need-returns-2
 returns-2 c =
     let m = c .before .before in
     let s = at-entry (at-type m) in
-    model-unknown (away s) (with-model s (type-at m)) (m .model-of .ensures) (c .enum-told2 .given .1) ∙ typed m
+    model-unknown (away s) (with-model s (type-at m)) (sym (m .model-of .ensures) ∙ c .enum-told2 .given .1) ∙ typed m
 
 -- let kriging = KrigingInterpolator::new(known_type, Variogram::new(known, nugget, sill, range));
 new-requires : tie.Need-new-requires
@@ -118,15 +132,13 @@ same-length-3 c = search needs
 returns-3 : tie.Need-returns-3
 returns-3 c =
     let i = at-call c in
-    let made = i .before .before .before .before in
-    let n = made .before in
+    let k = i .before .before .before .before in
+    let n = k .before in
     let m = at-code n in
-    let s = at-entry (at-type m) in
-    let t = type-at m in
-    c .interpolation-number .ensures _
-    ∙ i .interpolate .ensures .0
-    ∙ ap (by-interpolator s) (made .new2 .ensures ∙ ap (interpolator t) (n .new .ensures))
-    ∙ model-known (away s) (with-model s t) (m .model-of .ensures) (n .before .before .coded .given .1)
+    let known = n .before .before .coded .given in
+    with-known (at-entry (at-type m)) (type-at m) (c .interpolation-number .result) (i .interpolate .result) (left i) (k .new2 .result) (n .new .result)
+    (known .0 .0) (c .interpolation-number .ensures) (i .interpolate .ensures .0) (k .new2 .ensures) (n .new .ensures)
+    (sym (m .model-of .ensures) ∙ known .1)
     ∙ typed m
 
 pub nakwemol-interpolate-spec : {M : Type 1} → statement M

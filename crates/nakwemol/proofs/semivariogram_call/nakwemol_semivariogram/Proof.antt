@@ -2,8 +2,12 @@
 use Prim.Native.Nat.{ℕ}
 use mathlib.Core.Path.{_≡_, ap, _∙_}
 use borrow.Author.Needs.{needs}
-use Rattle.bins.specs.Call.{Outcome}
-use Rattle.nakwemol.specs.Told.{binsTold}
+use Rattle.survey.specs.Limits.{base}
+use Rattle.bins.specs.Call.{Areas, Outcome, samplesOf, areasOf}
+use Rattle.bins.specs.Semivariogram.{calculated}
+use Rattle.semivariogram.specs.declared.Semivariogram.{Semivariogram}
+use Rattle.semivariogram.specs.Outcome.{outcomeOf}
+use Rattle.nakwemol.specs.Told.{ending, binsTold}
 use Rattle.nakwemol.proofs.semivariogram_call.nakwemol_semivariogram.Statement.{statement}
 use Rattle.nakwemol.proofs.semivariogram_call.nakwemol_semivariogram.Tie as tie
 
@@ -16,6 +20,20 @@ at-entry c =
 
 abbrev at-call : tie.After-tell-kept → tie.After-calculate
 at-call c = let d = c .before .before .before .before in d .before .before .before .before
+
+-- the call behind it, and what it leaves
+abbrev behind : tie.Start → Outcome
+behind c =
+    let a = c .args in
+    calculated base (samplesOf (a .points .now) (a .values .now) (a .d) (a .n-bins)) (areasOf (a .distances .now) (a .semivariances .now) (a .counts .now))
+
+abbrev left : tie.After-calculate → Areas
+left c = let distances = c .calculate .last .1 .1 .1 .1 in areasOf (distances .0) (distances .1 .0) (distances .1 .1 .0)
+
+told : (s : tie.Start) (n kept : ℕ) (semivariogram : Semivariogram) (after : Areas)
+    → ((a : Areas) → ending n kept a ≡ binsTold (outcomeOf semivariogram a) (s .args .kept .now)) → outcomeOf semivariogram after ≡ behind s
+    → ending n kept after ≡ binsTold (behind s) (s .args .kept .now)
+told s n kept semivariogram after number is = number after ∙ ap (λ (e : Outcome). binsTold e (s .args .kept .now)) is
 
 -- let semivariogram = SemivariogramCalculator::calculate(
 calculate-requires : tie.Need-calculate-requires
@@ -38,7 +56,7 @@ same-length-3 c = search needs
 returns : tie.Need-returns
 returns c =
     let f = at-call c in
-    c .tell-kept .ensures _ ∙ ap (λ (e : Outcome). binsTold e (at-entry f .args .kept .now)) (f .calculate .ensures .0)
+    told (at-entry f) (c .tell-kept .result) (c .tell-kept .last .1 .0) (f .calculate .result) (left f) (c .tell-kept .ensures) (f .calculate .ensures .0)
 
 pub nakwemol-semivariogram-spec : {M : Type 1} → statement M
 nakwemol-semivariogram-spec =
