@@ -14,21 +14,23 @@ use Rattle.nakwemol.proofs.file_calls.nakwemol_read.Tie as tie
 -- The states that the needs look back to, in the order of the code: a name takes a later state back to its own.
 abbrev areas-known : tie.After-read-survey → tie.After-slice-known6
 areas-known c =
-    let d = c .before .before .before .before in
-    d .before .before .before
+    let d = c .before .before .before in
+    let e = d .before .before .before in
+    e .before
 
 abbrev at-entry : tie.After-read-survey → tie.Start
 at-entry c =
-    let d = areas-known c .before .before .before .before in
-    d .before .before .before
+    let d = areas-known c .before .before .before in
+    let e = d .before .before .before in
+    e .before
 
 abbrev half-back : tie.After-slice-known12 → tie.After-slice-known9
 half-back c = let d = c .before .before .before in d .before .before .before
 
 abbrev at-call : tie.After-tell-header → tie.After-read-survey
 at-call c =
-    let d = c .before .before .before .before in
-    let e = half-back d .before .before .before in
+    let d = c .before .before .before in
+    let e = half-back (d .before) .before .before .before in
     e .before .before .before
 
 -- the places as they were lent

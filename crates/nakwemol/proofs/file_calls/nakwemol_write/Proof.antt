@@ -1,4 +1,4 @@
--- `nakwemol::file_calls::nakwemol_write` meets its contract: the file of the survey that its parameters are, or nothing where the model's code is none. Assumes nothing.
+-- `nakwemol::file_calls::nakwemol_write` meets its contract: the file of its parameters, or nothing where the model's code is none. Assumes nothing.
 use Prim.Native.Nat.{ℕ}
 use mathlib.Core.Path.{_≡_, ap, sym, _∙_}
 use mathlib.Core.List.{List}
@@ -21,11 +21,15 @@ use Rattle.nakwemol.proofs.file_calls.nakwemol_write.Tie as tie
 -- The states that the needs look back to, in the order of the code: a name takes a later state back to its own.
 abbrev at-entry : tie.After-model-of → tie.Start
 at-entry c =
-    let d = c .before .before .before .before in
-    d .before .before .before .before
+    let d = c .before .before .before in
+    let e = d .before .before .before in
+    e .before .before
 
 abbrev at-code : tie.After-new → tie.After-model-of
-at-code c = c .before .before .before .before
+at-code c = let d = c .before .before in d .before .before
+
+abbrev at-call : tie.After-tell-length → tie.After-write-survey
+at-call c = let d = c .before .before in d .before .before
 
 -- how the call ends where the code is none, the file with a variogram, and how the call ends with a model
 abbrev away : tie.Start → Ending ℕ (List ℕ)
@@ -89,7 +93,7 @@ same-length c = search needs
 
 returns-2 : tie.Need-returns-2
 returns-2 c =
-    let w = c .before .before .before .before in
+    let w = at-call c in
     let n = w .before .before in
     let m = at-code n in
     let known = n .before .before .coded .given in

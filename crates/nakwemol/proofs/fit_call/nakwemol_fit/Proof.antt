@@ -1,4 +1,4 @@
--- `nakwemol::fit_call::nakwemol_fit` meets its contract: the fit of the survey that its parameters are, or nothing where the model's code is none. Assumes nothing.
+-- `nakwemol::fit_call::nakwemol_fit` meets its contract: the fit of its parameters, or nothing where the model's code is none. Assumes nothing.
 use Prim.Native.Nat.{ℕ}
 use mathlib.Core.Path.{_≡_, ap, sym, _∙_}
 use borrow.Author.Needs.{needs}
@@ -21,16 +21,16 @@ use Rattle.nakwemol.proofs.fit_call.nakwemol_fit.Tie as tie
 
 -- The states that the needs look back to, in the order of the code: a name takes a later state back to its own.
 abbrev lists-known : tie.After-model-of → tie.After-shared-slice-known6
-lists-known c = let d = c .before .before .before .before in d .before .before .before
+lists-known c = let d = c .before .before .before in let e = d .before .before .before in e .before
 
 abbrev at-entry : tie.After-model-of → tie.Start
 at-entry c = let d = lists-known c .before .before .before in d .before .before .before
 
 abbrev at-code : tie.After-new → tie.After-model-of
-at-code c = c .before .before .before .before
+at-code c = let d = c .before .before in d .before .before
 
 abbrev at-new : tie.After-universal-kriging-fit → tie.After-new
-at-new c = let d = c .before .before .before .before in d .before .before .before
+at-new c = let d = c .before .before .before in let e = d .before .before .before in e .before
 
 abbrev half-back : tie.After-slice-known12 → tie.After-slice-known9
 half-back c = let d = c .before .before .before in d .before .before .before

@@ -1,4 +1,4 @@
--- `nakwemol::interpolate_call::nakwemol_interpolate` meets its contract: the interpolation that its parameters are, or nothing where a code is none. Assumes nothing.
+-- `nakwemol::interpolate_call::nakwemol_interpolate` meets its contract: the interpolation of its parameters, or nothing where a code is none. Assumes nothing.
 use Prim.Native.Nat.{ℕ}
 use mathlib.Core.Path.{_≡_, ap, sym, _∙_}
 use borrow.Author.Needs.{needs}
@@ -21,16 +21,19 @@ use Rattle.nakwemol.proofs.interpolate_call.nakwemol_interpolate.Tie as
 
 -- The states that the needs look back to, in the order of the code: a name takes a later state back to its own.
 abbrev at-entry : tie.After-type-of → tie.Start
-at-entry c = let d = c .before .before .before .before in d .before .before .before
+at-entry c = let d = c .before .before .before in let e = d .before .before .before in e .before
 
 abbrev at-type : tie.After-model-of → tie.After-type-of
-at-type c = c .before .before .before .before
+at-type c = let d = c .before .before in d .before .before
 
 abbrev at-code : tie.After-new → tie.After-model-of
-at-code c = c .before .before .before .before
+at-code c = let d = c .before .before in d .before .before
+
+abbrev made : tie.After-interpolate → tie.After-new2
+made c = let d = c .before .before in d .before .before
 
 abbrev at-call : tie.After-interpolation-number → tie.After-interpolate
-at-call c = let d = c .before .before .before .before in d .before .before .before
+at-call c = let d = c .before .before .before in let e = d .before .before .before in e .before
 
 -- how the call ends where a code is none, and the interpolation by an interpolator, by a model, and by a kriging type
 abbrev away : tie.Start → Outcome Areas
@@ -132,7 +135,7 @@ same-length-3 c = search needs
 returns-3 : tie.Need-returns-3
 returns-3 c =
     let i = at-call c in
-    let k = i .before .before .before .before in
+    let k = made i in
     let n = k .before in
     let m = at-code n in
     let known = n .before .before .coded .given in

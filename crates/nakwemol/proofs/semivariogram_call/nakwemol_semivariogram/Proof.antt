@@ -14,12 +14,15 @@ use Rattle.nakwemol.proofs.semivariogram_call.nakwemol_semivariogram.Ti
 -- The states that the needs look back to, in the order of the code: a name takes a later state back to its own.
 abbrev at-entry : tie.After-calculate → tie.Start
 at-entry c =
-    let areas = c .before .before .before .before in
-    let lists = areas .before .before .before in
-    lists .before .before
+    let d = c .before .before .before in
+    let e = d .before .before .before in
+    e .before .before .before
 
 abbrev at-call : tie.After-tell-kept → tie.After-calculate
-at-call c = let d = c .before .before .before .before in d .before .before .before .before
+at-call c =
+    let d = c .before .before .before in
+    let e = d .before .before .before in
+    e .before .before
 
 -- the call behind it, and what it leaves
 abbrev behind : tie.Start → Outcome
