@@ -6,7 +6,7 @@ use Rattle.error.specs.Numbers.{numberOf}
 use Rattle.semivariogram.specs.declared.Semivariogram.{Semivariogram}
 use Rattle.semivariogram.specs.Outcome.{outcomeOf}
 use Rattle.nakwemol.specs.Told.{ending, binsTold}
-use Rattle.nakwemol.proofs.Untouched.{place-kept}
+use Rattle.nakwemol.proofs.Numbers.{place-kept}
 use Rattle.nakwemol.proofs.semivariogram_call.tell_kept.Statement.{statement}
 use Rattle.nakwemol.proofs.semivariogram_call.tell_kept.Tie as tie
 
