@@ -11,7 +11,7 @@
  *     that stands with the call.
  *   - An area may be longer than it has to be. What is past the lengths named here is never touched, and a refused call writes nothing at all, no
  *     place either; but with NAKWEMOL_SINGULAR the work area is as the elimination stopped.
- *   - A NaN is any NaN.
+ *   - All NaNs are one: the bits of a NaN that comes back say nothing more.
  */
 #ifndef NAKWEMOL_H
 #define NAKWEMOL_H
