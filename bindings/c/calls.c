@@ -1,0 +1,110 @@
+/* Calls every function of nakwemol.h on small cases whose answers are known, and says how many numbers were compared and how many differ. */
+#include <nakwemol.h>
+#include <stdio.h>
+#include <string.h>
+
+static int compared = 0, differ = 0;
+
+static void same(const char *what, double is, double should) {
+    compared++;
+    if (is != should) {
+        differ++;
+        printf("differs: %s is %g and should be %g\n", what, is, should);
+    }
+}
+
+/* Two wells, (0, 0) with 2 and (2, 0) with 6, and the node (1, 0). */
+static const double values[] = {2, 6}, coords[] = {0, 0, 2, 0}, nodes[] = {1, 0}, none[1];
+static const uint8_t bases[] = {NAKWEMOL_BASIS_CONSTANT};
+
+/* Each area has one place more than it needs. */
+static double work[19], predicted[2], variance[2], weights[3], coefficients[2];
+static uint8_t verdicts[2];
+
+static void clear(void) {
+    for (int i = 0; i < 19; i++) work[i] = -1;
+    for (int i = 0; i < 2; i++) predicted[i] = variance[i] = coefficients[i] = -1;
+    for (int i = 0; i < 3; i++) weights[i] = -1;
+    verdicts[0] = verdicts[1] = 99;
+}
+
+static uint8_t fit(uint8_t model, size_t lent) {
+    clear();
+    return nakwemol_fit(values, 2, coords, 4, bases, 1, none, 0, nodes, 2, none, 0, model, 0, 1, 1, 0, 0,
+                        work, 19, predicted, lent, variance, 2, verdicts, 2, weights, 3, coefficients, 2);
+}
+
+static void fits(void) {
+    same("fit", fit(NAKWEMOL_SPHERICAL, 2), NAKWEMOL_OK);
+    same("figure", predicted[0], 4);
+    same("variance", variance[0], 1.5);
+    same("verdict", verdicts[0], 0);
+    same("weight 1", weights[0], 0.5);
+    same("weight 2", weights[1], 0.5);
+    same("coefficient", coefficients[0], 0.5);
+    same("past the figure", predicted[1], -1);
+    same("past the variance", variance[1], -1);
+    same("past the verdict", verdicts[1], 99);
+    same("past the weights", weights[2], -1);
+    same("past the coefficient", coefficients[1], -1);
+    same("past the work", work[18], -1);
+    same("a model that is not offered", fit(NAKWEMOL_GAUSSIAN, 2), NAKWEMOL_MODEL);
+    same("an area too short", fit(NAKWEMOL_SPHERICAL, 0), NAKWEMOL_ANSWER_AREA);
+    same("a code that is none", fit(5, 0), NAKWEMOL_UNKNOWN_CODE);
+    same("what a refusal leaves", predicted[0], -1);
+}
+
+static void interpolations(void) {
+    double figure = -1, estimate = -1;
+    same("interpolate", nakwemol_interpolate(values, 2, coords, 4, nodes, 2, 2, NAKWEMOL_ORDINARY, NAKWEMOL_SPHERICAL, 0, 1, 1,
+                                             work, 19, &figure, 1, &estimate, 1), NAKWEMOL_OK);
+    same("interpolated", figure, 4);
+    same("its variance", estimate, 1.5);
+    same("a kriging type that is none", nakwemol_interpolate(values, 2, coords, 4, nodes, 2, 2, 3, NAKWEMOL_SPHERICAL, 0, 1, 1,
+                                                             work, 19, &figure, 1, &estimate, 1), NAKWEMOL_UNKNOWN_CODE);
+}
+
+static void semivariograms(void) {
+    const double points[] = {0, 1, 2}, levels[] = {0, 2, 4};
+    double distances[2] = {-1, -1}, semivariances[2] = {-1, -1};
+    size_t counts[2] = {99, 99}, kept = 99;
+    same("one sample", nakwemol_semivariogram(points, 1, levels, 1, 1, 2, distances, 2, semivariances, 2, counts, 2, &kept), NAKWEMOL_TOO_FEW_SAMPLES);
+    same("kept of none", (double)kept, 99);
+    same("semivariogram", nakwemol_semivariogram(points, 3, levels, 3, 1, 2, distances, 2, semivariances, 2, counts, 2, &kept), NAKWEMOL_OK);
+    same("kept", (double)kept, 1);
+    same("distance", distances[0], 1.5);
+    same("semivariance", semivariances[0], 4);
+    same("count", (double)counts[0], 3);
+    same("past the count", (double)counts[1], 99);
+}
+
+static void files(void) {
+    uint8_t file[200], codes[1], model = 0;
+    double read_values[2], read_coords[4], read_nodes[2], numbers[5], unread[1];
+    size_t length = 0, sizes[3];
+    same("write", nakwemol_write(values, 2, coords, 4, bases, 1, none, 0, nodes, 2, none, 0, NAKWEMOL_LINEAR, 1, 2, 3, 4, 5, file, 200, &length),
+         NAKWEMOL_OK);
+    same("length", (double)length, 119);
+    same("read", nakwemol_read(file, length, read_values, 2, read_coords, 4, codes, 1, unread, 0, read_nodes, 2, unread, 0, sizes, numbers, &model),
+         NAKWEMOL_OK);
+    same("wells", (double)sizes[0], 2);
+    same("nodes", (double)sizes[1], 1);
+    same("codes", (double)sizes[2], 1);
+    for (int i = 0; i < 5; i++) same("a number of the header", numbers[i], i + 1);
+    same("model", model, NAKWEMOL_LINEAR);
+    same("values read", memcmp(read_values, values, sizeof values), 0);
+    same("coordinates read", memcmp(read_coords, coords, sizeof coords), 0);
+    same("nodes read", memcmp(read_nodes, nodes, sizeof nodes), 0);
+    same("code read", codes[0], NAKWEMOL_BASIS_CONSTANT);
+    same("no file", nakwemol_read(file, 3, read_values, 2, read_coords, 4, codes, 1, unread, 0, read_nodes, 2, unread, 0, sizes, numbers, &model),
+         NAKWEMOL_SURVEY_FILE);
+}
+
+int main(void) {
+    fits();
+    interpolations();
+    semivariograms();
+    files();
+    printf("%d compared, %d differ\n", compared, differ);
+    return differ != 0;
+}

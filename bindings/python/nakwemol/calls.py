@@ -1,0 +1,71 @@
+"""The exported functions as they are, over ctypes: arrays for lists and areas, numbers and codes for options, and the answer's number back.
+
+include/nakwemol.h says of each what its lists and areas hold, and in which order its numbers come.
+"""
+import ctypes
+import os
+from ctypes import POINTER, c_double, c_size_t, c_uint8
+from pathlib import Path
+
+HERE = Path(__file__).resolve().parent
+LIBRARY = HERE.parents[2] / "target" / "staticlib" / "libnakwemol.so"
+
+NUMBERS = [POINTER(c_double), c_size_t]
+BYTES = [POINTER(c_uint8), c_size_t]
+COUNTS = [POINTER(c_size_t), c_size_t]
+LISTS = [*NUMBERS, *NUMBERS, *BYTES, *NUMBERS, *NUMBERS, *NUMBERS]
+VARIOGRAM = [c_uint8, c_double, c_double, c_double]
+
+PARAMETERS = {
+    "nakwemol_fit": [*LISTS, *VARIOGRAM, c_double, c_double, *NUMBERS, *NUMBERS, *NUMBERS, *BYTES, *NUMBERS, *NUMBERS],
+    "nakwemol_interpolate": [*NUMBERS, *NUMBERS, *NUMBERS, c_size_t, c_uint8, *VARIOGRAM, *NUMBERS, *NUMBERS, *NUMBERS],
+    "nakwemol_semivariogram": [*NUMBERS, *NUMBERS, c_size_t, c_size_t, *NUMBERS, *NUMBERS, *COUNTS, POINTER(c_size_t)],
+    "nakwemol_read": [*BYTES, *LISTS, POINTER(c_size_t * 3), POINTER(c_double * 5), POINTER(c_uint8)],
+    "nakwemol_write": [*LISTS, *VARIOGRAM, c_double, c_double, *BYTES, POINTER(c_size_t)],
+}
+
+
+def load():
+    """The shared object that NAKWEMOL_LIBRARY names, else the one beside the archive of this repository."""
+    path = Path(os.environ.get("NAKWEMOL_LIBRARY", LIBRARY))
+    if not path.is_file():
+        raise OSError(f"{path} is not there: make it by `rt staticlib nakwemol` and `bindings/python/link`, or name it in NAKWEMOL_LIBRARY")
+    library = ctypes.CDLL(str(path))
+    for name, parameters in PARAMETERS.items():
+        getattr(library, name).argtypes = parameters
+        getattr(library, name).restype = c_uint8
+    return library
+
+
+library = load()
+
+
+def numbers(xs):
+    return (c_double * len(xs))(*xs)
+
+
+def codes(xs):
+    """A byte for each code; what is none is 0, which no list of codes has."""
+    return (c_uint8 * len(xs))(*map(code, xs))
+
+
+def code(x):
+    return x if 0 <= x <= 255 else 0
+
+
+def count(x):
+    """A count as a machine word holds it; what it cannot hold is the greatest, which no call takes."""
+    most = 2 ** (8 * ctypes.sizeof(c_size_t)) - 1
+    return x if 0 <= x <= most else most
+
+
+def area(length):
+    return (c_double * length)()
+
+
+def call(name, *arguments):
+    """Calls a function: an array goes as a pointer and its length, all else as it is."""
+    handed = []
+    for argument in arguments:
+        handed += [argument, len(argument)] if isinstance(argument, ctypes.Array) else [argument]
+    return getattr(library, name)(*handed)

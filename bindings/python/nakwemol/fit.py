@@ -1,0 +1,88 @@
+"""Universal kriging with external drift."""
+from enum import IntEnum
+from typing import NamedTuple, Sequence
+
+from nakwemol import calls
+from nakwemol.lists import flat, table
+from nakwemol.refused import unless_0
+from nakwemol.variogram import Variogram, VariogramModel
+
+# What a fit takes at most: past these it is refused by 9, so that no area is made longer.
+WELLS, COLUMNS, NODES = 48, 12, 100
+EXTERNAL_CODE = 4
+COLUMNS_OF = {1: 1, 2: 3, 3: 6, 4: 1}
+
+
+class DriftBasis(IntEnum):
+    """Columns at a place (x, y): `1`; `1, x, y`; `1, x, y, x·x, x·y, y·y`."""
+
+    CONSTANT = 1
+    LINEAR = 2
+    QUADRATIC = 3
+
+
+class External(NamedTuple):
+    """A basis with one column: a number for each well. The nodes' numbers stand in `query_external_drift`."""
+
+    values: Sequence
+
+
+class UniversalKrigingOptions(NamedTuple):
+    drift_bases: Sequence = (DriftBasis.CONSTANT,)
+    variogram: Variogram = Variogram(VariogramModel.SPHERICAL, 0.0, 1.0, 1.0)
+    regularization: float = 1e-10
+
+
+class UniversalKrigingResult(NamedTuple):
+    """For n wells, m nodes and p columns: m figures, m variances, the p coefficients of the last node, n·m weights, node after node, and m verdicts: 0
+    where the node passed its audit, 1 to p + 1 the first row missed, 255 where something is not finite."""
+
+    predicted: list
+    variance: list
+    drift_coefficients: list
+    weights: list
+    verdicts: list
+
+
+def code_of(basis):
+    return EXTERNAL_CODE if isinstance(basis, External) else int(basis)
+
+
+def external_list(bases, wells):
+    """The external columns one after another. One that has not a number for each well makes the list's length wrong, whatever the others have."""
+    columns = [table(basis.values)[0] for basis in bases if isinstance(basis, External)]
+    if all(len(column) == wells for column in columns):
+        return [x for column in columns for x in column]
+    return [0.0] * (len(columns) * wells + 1)
+
+
+def universal_kriging_fit(coords, values, options, query_points, query_external_drift=None, *, tolerance):
+    """The fit of wells at `coords`, x and y each, with `values`, at the nodes `query_points`.
+
+    `query_external_drift` has for each node a number for each external basis, and is not looked at where there is none. `tolerance` is that of the
+    audit, which the original does not have. Raises Refused.
+    """
+    values, coords, nodes = table(values)[0], flat(coords, 2, "coords"), flat(query_points, 2, "query_points")
+    codes = [code_of(basis) for basis in options.drift_bases]
+    external = external_list(options.drift_bases, len(values))
+    k = codes.count(EXTERNAL_CODE)
+    node_external = flat(query_external_drift, k, "query_external_drift") if k and query_external_drift is not None else []
+    n, p, m = min(len(values), WELLS), min(sum(COLUMNS_OF.get(code, 0) for code in codes), COLUMNS), min(len(nodes) // 2, NODES)
+    work, predicted, variance, weights, coefficients = map(calls.area, (2 * (n + p) ** 2, m, m, n * m, p))
+    verdicts = calls.codes([0] * m)
+    unless_0(calls.call(
+        "nakwemol_fit",
+        *map(calls.numbers, (values, coords)),
+        calls.codes(codes),
+        *map(calls.numbers, (external, nodes, node_external)),
+        *options.variogram.handed(),
+        options.regularization,
+        tolerance,
+        work,
+        predicted,
+        variance,
+        verdicts,
+        weights,
+        coefficients,
+    ))
+    return UniversalKrigingResult(*map(list, (predicted, variance, coefficients, weights, verdicts)))

@@ -1,0 +1,113 @@
+//! Small cases whose answers are written down here, the refusals that only the safe calls have to see to, and the sentences of the errors.
+use nakwemol::survey_file::{self, Survey};
+use nakwemol::*;
+
+const SPHERICAL: Variogram = Variogram { nugget: 0.0, sill: 1.0, range: 1.0, model: VariogramModel::Spherical };
+
+/// Two wells, (0, 0) with 2 and (2, 0) with 6, and the node (1, 0).
+const COORDS: [f64; 4] = [0.0, 0.0, 2.0, 0.0];
+const VALUES: [f64; 2] = [2.0, 6.0];
+const NODE: [f64; 2] = [1.0, 0.0];
+
+fn options(drift_bases: Vec<DriftBasis>) -> UniversalKrigingOptions {
+    UniversalKrigingOptions { drift_bases, variogram: SPHERICAL, regularization: 0.0 }
+}
+
+fn number<T>(result: Result<T>) -> u8 {
+    result.err().map_or(0, |error| error.number)
+}
+
+#[test]
+fn fit_between_two_wells() {
+    let fit = universal_kriging_fit(&COORDS, &VALUES, &options(vec![DriftBasis::Constant]), &NODE, None, 0.0).unwrap();
+    assert_eq!(fit.predicted, [4.0]);
+    assert_eq!(fit.variance, [1.5]);
+    assert_eq!(fit.drift_coefficients, [0.5]);
+    assert_eq!(fit.weights, [0.5, 0.5]);
+    assert_eq!(fit.verdicts, [0]);
+}
+
+#[test]
+fn default_options() {
+    let default = UniversalKrigingOptions::default();
+    assert_eq!(default, UniversalKrigingOptions { regularization: 1e-10, ..options(vec![DriftBasis::Constant]) });
+}
+
+#[test]
+fn interpolation_between_two_points() {
+    let interpolator = KrigingInterpolator::new(KrigingType::Ordinary, SPHERICAL);
+    let answer = interpolator.interpolate(&COORDS, &VALUES, &NODE, 2).unwrap();
+    assert_eq!((answer.values[0], answer.variances[0]), (4.0, 1.5));
+    assert_eq!(number(interpolator.interpolate(&COORDS, &VALUES, &NODE, 0)), 13);
+}
+
+#[test]
+fn semivariogram_of_three_samples() {
+    let bins = SemivariogramCalculator::calculate(&[0.0, 1.0, 2.0], &[0.0, 2.0, 4.0], 1, 2).unwrap();
+    assert_eq!(bins, Semivariogram { distances: vec![1.5], semivariances: vec![4.0], counts: vec![3] });
+    assert_eq!(number(SemivariogramCalculator::calculate(&[0.0, 1.0], &[0.0, 2.0], 1, usize::MAX)), 15);
+}
+
+/// Two columns that are one number short and one number long have together as many as they should; each is looked at.
+#[test]
+fn every_external_column_has_a_number_for_each_well() {
+    let columns = |one: usize, other: usize| options(vec![DriftBasis::External(vec![1.0; one]), DriftBasis::External(vec![2.0; other])]);
+    let fit = |options| number(universal_kriging_fit(&COORDS, &VALUES, &options, &NODE, Some(&[1.0, 2.0]), 0.0));
+    assert_eq!(fit(columns(1, 3)), 6);
+    assert_eq!(fit(columns(3, 1)), 6);
+    assert_eq!(fit(columns(2, 2)), 19);
+    assert_eq!(fit(UniversalKrigingOptions { regularization: -1.0, ..columns(1, 3) }), 5);
+}
+
+#[test]
+fn node_externals_are_asked_for() {
+    let external = options(vec![DriftBasis::External(vec![1.0, 1.0])]);
+    assert_eq!(number(universal_kriging_fit(&COORDS, &VALUES, &external, &NODE, None, 0.0)), 8);
+    assert_eq!(number(universal_kriging_fit(&COORDS, &VALUES, &external, &NODE, Some(&[1.0]), 0.0)), 0);
+}
+
+/// Past the limits the areas are not made longer, and it is 9.
+#[test]
+fn too_many() {
+    let constant = options(vec![DriftBasis::Constant]);
+    let fit = |n: usize, m: usize| number(universal_kriging_fit(&vec![0.5; 2 * n], &vec![1.0; n], &constant, &vec![0.0; 2 * m], None, 0.0));
+    assert_eq!(fit(49, 1), 9);
+    assert_eq!(fit(1, 101), 9);
+    assert_eq!(fit(1, 100), 0);
+    assert_eq!(number(KrigingInterpolator::new(KrigingType::Universal, SPHERICAL).interpolate(&[0.5; 98], &[1.0; 49], &NODE, 2)), 9);
+}
+
+#[test]
+fn survey_file_there_and_back() {
+    let survey = Survey {
+        values: VALUES.to_vec(),
+        coords: COORDS.to_vec(),
+        bases: vec![4, 1],
+        external: vec![0.25, -0.0],
+        nodes: NODE.to_vec(),
+        node_external: vec![7.0],
+        variogram: Variogram::new(VariogramModel::Linear, 0.0, 2.0, 3.0),
+        regularization: 1e-10,
+        tolerance: 1e-6,
+    };
+    let file = survey_file::write(&survey).unwrap();
+    assert_eq!(survey_file::read(&file).unwrap(), survey);
+    assert_eq!(number(survey_file::read(&file[1..])), 16);
+    assert_eq!(number(survey_file::write(&Survey { coords: vec![], ..survey })), 1);
+}
+
+/// docs/REFERENCE.md, section 8: `| no. | when | kind | what to do |`.
+#[test]
+fn kinds_and_sentences_are_the_reference_s() {
+    let text = std::fs::read_to_string(concat!(env!("CARGO_MANIFEST_DIR"), "/../../docs/REFERENCE.md")).unwrap();
+    let mut numbers = vec![];
+    for line in text.lines() {
+        let cells: Vec<&str> = line.trim_matches('|').split(" | ").map(str::trim).collect();
+        if let (Ok(number), [_, _, kind, sentence]) = (cells[0].parse::<u8>(), &cells[..]) {
+            let error = Error::of(number).unwrap_err();
+            assert_eq!((format!("{:?}", error.kind).as_str(), error.message()), (*kind, *sentence), "number {number}");
+            numbers.push(number);
+        }
+    }
+    assert!((1..=19).all(|number| numbers.contains(&number)), "{numbers:?}");
+}

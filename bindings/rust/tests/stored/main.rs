@@ -1,0 +1,4 @@
+//! Replays the stored answers of docs/TESTS.md.
+mod fits;
+mod older_calls;
+mod words;

@@ -1,0 +1,84 @@
+// The fit, for other languages.
+use crate::codes::CodedModel;
+use crate::codes::UNKNOWN_CODE;
+use crate::codes::model_of;
+use kriging::Fit;
+use kriging::universal_kriging_fit;
+use survey::UniversalKrigingOptions;
+use variogram::Variogram;
+ghost use mathlib.Core.Path.{_≡_};
+ghost use Rattle.error.specs.Outcome.{outcome};
+ghost use Rattle.survey.specs.Limits.{base};
+ghost use Rattle.survey.specs.Survey.{surveyOf};
+ghost use Rattle.fit.specs.Areas.{Areas, areasOf};
+ghost use Rattle.fit.specs.Fit.{fitted};
+ghost use Rattle.kriging.specs.Outcome.{outcomeOf};
+ghost use Rattle.nakwemol.specs.Codes.{modelOf, byModel, unknownCode, optionsOf};
+
+// The number of a fit's answer.
+fn fit_number(fit: Fit) -> u8
+    ensures { λ r. ⌜ ((a : Areas) → outcome r a ≡ outcomeOf fit a) ⌝ }
+{
+    match fit {
+        Fit::Done => 0,
+        Fit::Refused(refusal) => error::number(refusal),
+    }
+}
+
+// `universal_kriging_fit`: 0 where the areas hold the answer, else what turned the call away. 100 where the model's code is none, before all others.
+#[no_mangle]
+pub extern "C" fn nakwemol_fit(
+    values: &[f64],
+    coords: &[f64],
+    bases: &[u8],
+    external: &[f64],
+    nodes: &[f64],
+    node_external: &[f64],
+    model: u8,
+    nugget: f64,
+    sill: f64,
+    range: f64,
+    regularization: f64,
+    tolerance: f64,
+    work: &mut [f64],
+    predicted: &mut [f64],
+    variance: &mut [f64],
+    verdicts: &mut [u8],
+    weights: &mut [f64],
+    coefficients: &mut [f64],
+) -> u8
+    ensures { λ r.
+        let a = areasOf (now (work .entry)) (now (predicted .entry)) (now (variance .entry)) (now (verdicts .entry))
+        (now (weights .entry)) (now (coefficients .entry)) in
+        ⌜ outcome r (areasOf (now (work .exit)) (now (predicted .exit)) (now (variance .exit)) (now (verdicts .exit))
+        (now (weights .exit)) (now (coefficients .exit)))
+        ≡ byModel (modelOf model) (outcome unknownCode a)
+        (λ m. fitted base (surveyOf (now (values .entry)) (now (coords .entry)) (now (bases .entry)) (now (external .entry))
+        (now (nodes .entry)) (now («node_external» .entry)) (optionsOf m nugget sill range regularization) tolerance) a) ⌝ }
+{
+    let coded = model_of(model);
+    let CodedModel::Known(known) = coded else {
+        return UNKNOWN_CODE;
+    };
+    let options = UniversalKrigingOptions {
+        variogram: Variogram::new(known, nugget, sill, range),
+        regularization,
+    };
+    let fit = universal_kriging_fit(
+        values,
+        coords,
+        bases,
+        external,
+        options,
+        nodes,
+        node_external,
+        tolerance,
+        work,
+        predicted,
+        variance,
+        verdicts,
+        weights,
+        coefficients,
+    );
+    fit_number(fit)
+}
