@@ -69,8 +69,10 @@ pub fn all_differences(counts: &[u64]) -> u64
     counted_at(counts, DIFFERENCES)
 }
 
-// Writes a line for each number that calls ended by. Standard output is all that it changes, and no contract speaks of that.
-pub fn write_endings(counts: &[u64]) {
+// Writes a line for each number that calls ended by. It answers nothing, and the counts are as they were; of standard output no contract speaks.
+pub fn write_endings(counts: &[u64])
+    ensures { λ _. ⌜ now (counts .exit) ≡ now (counts .entry) ⌝ }
+{
     let mut number = 0;
     while number < counts.len() && number < NUMBER {
         let times = counts[number];

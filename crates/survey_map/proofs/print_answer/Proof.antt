@@ -15,7 +15,10 @@ use Rattle.survey_map.proofs.print_answer.Tie as tie
 
 -- The states that the needs look back to, in the order of the code: a name takes a later state back to its own.
 abbrev at-entry : tie.After-drift-columns → tie.Start
-at-entry c = let d = c .before .before .before in let e = d .before .before .before in e .before
+at-entry c =
+    let later = c .before .before .before in
+    let earlier = later .before .before .before in
+    earlier .before
 
 abbrev at-columns : tie.After-write-listing-arg4 → tie.After-drift-columns
 at-columns c = let d = c .before .before in d .before .before

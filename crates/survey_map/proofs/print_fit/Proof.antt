@@ -17,10 +17,16 @@ use Rattle.survey_map.proofs.print_fit.Tie as tie
 
 -- The states that the needs look back to, in the order of the code: a name takes a later state back to its own.
 abbrev at-lists : tie.After-slice-known → tie.Start
-at-lists c = let d = c .before .before .before in let e = d .before .before .before in e .before
+at-lists c =
+    let later = c .before .before .before in
+    let earlier = later .before .before .before in
+    earlier .before
 
 abbrev at-entry : tie.After-universal-kriging-fit → tie.Start
-at-entry c = let d = c .before .before .before in let e = d .before .before .before in at-lists (e .before)
+at-entry c =
+    let later = c .before .before .before in
+    let earlier = later .before .before .before in
+    at-lists (earlier .before)
 
 abbrev at-fit : tie.After-coefficients2 → tie.After-universal-kriging-fit
 at-fit c = let d = c .before .before .before in d .before .before .before

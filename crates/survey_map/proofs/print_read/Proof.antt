@@ -16,7 +16,10 @@ use Rattle.survey_map.proofs.print_read.Tie as tie
 
 -- The states that the needs look back to, in the order of the code: a name takes a later state back to its own.
 abbrev at-lists : tie.After-slice-known → tie.Start
-at-lists c = let d = c .before .before .before in let e = d .before .before .before in e .before
+at-lists c =
+    let later = c .before .before .before in
+    let earlier = later .before .before .before in
+    earlier .before
 
 abbrev at-entry : tie.After-external-columns → tie.Start
 at-entry c = at-lists (c .before .before)

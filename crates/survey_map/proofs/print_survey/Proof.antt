@@ -16,13 +16,19 @@ use Rattle.survey_map.proofs.print_survey.Tie as tie
 
 -- The states that the needs look back to, in the order of the code: a name takes a later state back to its own.
 abbrev at-entry : tie.After-read-survey → tie.Start
-at-entry c = let d = c .before .before .before in let e = d .before .before .before in e .before .before .before
+at-entry c =
+    let later = c .before .before .before in
+    let earlier = later .before .before .before in
+    earlier .before .before .before
 
 abbrev at-reader : tie.After-node-external2 → tie.After-read-survey
 at-reader c = let d = c .before .before .before in d .before .before .before
 
 abbrev at-read : tie.After-print-read-arg → tie.After-read
-at-read c = let d = c .before .before .before in let e = d .before .before .before in e .before .before
+at-read c =
+    let later = c .before .before .before in
+    let earlier = later .before .before .before in
+    earlier .before .before
 
 -- what the reader left in the areas
 abbrev left : tie.After-read-survey → Areas

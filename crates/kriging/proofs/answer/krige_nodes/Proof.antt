@@ -183,7 +183,7 @@ mul-store c =
     omega (arith, weights-inside v, at-entry (loop-of v) .good .1 .1 .1 .1 .1 .1 .1 .1 .1 .1 .1 .1 .1 .0 .1)
 
 store-requires : tie.Need-store-requires Inv-loop μ-loop
-store-requires c κs = omega (arith, weights-inside (c .before .before .before .before), z-first (c .before .before .before .before))
+store-requires c κs = let krige = c .before .before .before .before in omega (arith, weights-inside krige, z-first krige)
 
 -- store(&z[n..size], coefficients, 0);
 mul-store-2 : tie.Need-mul-store-2 Inv-loop μ-loop

@@ -75,12 +75,13 @@ unfolding zOf varianceOf
 returns c =
     let z = at-z (c .before .before) in
     let a = at-entry z .args in
-    let zs = z .fill-z .last .1 .1 .1 .0 in (
+    let zs = z .fill-z .last .1 .1 .1 .0 in
+    let clamped = c .before .before .before in (
       long (c .before .before),
       (
         ap (λ (xs : List Float). take (length (a .b .now)) xs) (z .fill-z .ensures) ∙ take-start (length (a .b .now)) _ _ nan (omega (arith, at-entry z .pre)),
         (
-          c .before .before .before .max .ensures ∙ ap (λ (x : Float). maxOf x zeroFloat) (c .before .before .before .before .weighted-sum .ensures),
+          clamped .max .ensures ∙ ap (λ (x : Float). maxOf x zeroFloat) (clamped .before .weighted-sum .ensures),
           c .audit-columns .ensures
               ∙ ap
               (λ (f0 : List Float). columnVerdictGiven (a .finite-drift) (weighedIn (take (a .n) zs) (a .drift .now) f0 (a .tolerance)))

@@ -21,7 +21,10 @@ use Rattle.nakwemol.proofs.fit_call.nakwemol_fit.Tie as tie
 
 -- The states that the needs look back to, in the order of the code: a name takes a later state back to its own.
 abbrev lists-known : tie.After-model-of → tie.After-shared-slice-known6
-lists-known c = let d = c .before .before .before in let e = d .before .before .before in e .before
+lists-known c =
+    let later = c .before .before .before in
+    let earlier = later .before .before .before in
+    earlier .before
 
 abbrev at-entry : tie.After-model-of → tie.Start
 at-entry c = let d = lists-known c .before .before .before in d .before .before .before
@@ -30,7 +33,10 @@ abbrev at-code : tie.After-new → tie.After-model-of
 at-code c = let d = c .before .before in d .before .before
 
 abbrev at-new : tie.After-universal-kriging-fit → tie.After-new
-at-new c = let d = c .before .before .before in let e = d .before .before .before in e .before
+at-new c =
+    let later = c .before .before .before in
+    let earlier = later .before .before .before in
+    earlier .before
 
 abbrev half-back : tie.After-slice-known12 → tie.After-slice-known9
 half-back c = let d = c .before .before .before in d .before .before .before

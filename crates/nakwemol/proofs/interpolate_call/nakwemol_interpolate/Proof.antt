@@ -21,7 +21,10 @@ use Rattle.nakwemol.proofs.interpolate_call.nakwemol_interpolate.Tie as
 
 -- The states that the needs look back to, in the order of the code: a name takes a later state back to its own.
 abbrev at-entry : tie.After-type-of → tie.Start
-at-entry c = let d = c .before .before .before in let e = d .before .before .before in e .before
+at-entry c =
+    let later = c .before .before .before in
+    let earlier = later .before .before .before in
+    earlier .before
 
 abbrev at-type : tie.After-model-of → tie.After-type-of
 at-type c = let d = c .before .before in d .before .before
@@ -33,7 +36,10 @@ abbrev made : tie.After-interpolate → tie.After-new2
 made c = let d = c .before .before in d .before .before
 
 abbrev at-call : tie.After-interpolation-number → tie.After-interpolate
-at-call c = let d = c .before .before .before in let e = d .before .before .before in e .before
+at-call c =
+    let later = c .before .before .before in
+    let earlier = later .before .before .before in
+    earlier .before
 
 -- how the call ends where a code is none, and the interpolation by an interpolator, by a model, and by a kriging type
 abbrev away : tie.Start → Outcome Areas

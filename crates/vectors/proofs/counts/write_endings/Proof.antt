@@ -1,5 +1,6 @@
 -- `vectors::counts::write_endings` is safe and ends: the numbers that are left fall. Assumes nothing.
 use Prim.Native.Nat.{_-_}
+use mathlib.Core.Path.{refl}
 use borrow.Author.Needs.{needs}
 use lib.ListN.{length}
 use Rattle.vectors.proofs.counts.write_endings.Statement.{statement}
@@ -64,10 +65,10 @@ loop-again c = search needs
 
 -- at the end
 returns : tie.Need-returns Inv-loop μ-loop
-returns c = tt
+returns c = refl
 
 returns-2 : tie.Need-returns-2 Inv-loop μ-loop
-returns-2 c = tt
+returns-2 c = refl
 
 pub write-endings-spec : {M : Type 1} → statement M
 write-endings-spec =
