@@ -110,6 +110,7 @@ pub mod ndarray {
         }
     }
 
+    #[inline(always)]
     fn place([row, column]: [usize; 2], rows: usize, columns: usize) -> usize {
         assert!(row < rows && column < columns, "index out of range");
         row * columns + column
@@ -117,12 +118,14 @@ pub mod ndarray {
 
     impl<T> Index<usize> for Array1<T> {
         type Output = T;
+        #[inline(always)]
         fn index(&self, at: usize) -> &T {
             &self.items[at]
         }
     }
 
     impl<T> IndexMut<usize> for Array1<T> {
+        #[inline(always)]
         fn index_mut(&mut self, at: usize) -> &mut T {
             &mut self.items[at]
         }
@@ -130,6 +133,7 @@ pub mod ndarray {
 
     impl<T> Index<usize> for ArrayView1<'_, T> {
         type Output = T;
+        #[inline(always)]
         fn index(&self, at: usize) -> &T {
             &self.items[at]
         }
@@ -137,12 +141,14 @@ pub mod ndarray {
 
     impl<T> Index<[usize; 2]> for Array2<T> {
         type Output = T;
+        #[inline(always)]
         fn index(&self, at: [usize; 2]) -> &T {
             &self.items[place(at, self.rows, self.columns)]
         }
     }
 
     impl<T> IndexMut<[usize; 2]> for Array2<T> {
+        #[inline(always)]
         fn index_mut(&mut self, at: [usize; 2]) -> &mut T {
             &mut self.items[place(at, self.rows, self.columns)]
         }
@@ -150,6 +156,7 @@ pub mod ndarray {
 
     impl<T> Index<[usize; 2]> for ArrayView2<'_, T> {
         type Output = T;
+        #[inline(always)]
         fn index(&self, at: [usize; 2]) -> &T {
             &self.items[place(at, self.rows, self.columns)]
         }

@@ -1,0 +1,24 @@
+#!/usr/bin/env bash
+# Builds the benchmark: the original kriging.rs, unchanged but for its inner doc comments, and the port's archive in one program.
+# Usage: tools/benchmark/build.sh PATH-OF-KRIGING.RS     writes target/bench/ and nothing else; needs target/staticlib/libnakwemol.a
+set -euo pipefail
+source=${1:?path of the original kriging.rs}
+here=$(cd "$(dirname "$0")" && pwd)
+root=$(cd "$here/../.." && pwd)
+archive=${NAKWEMOL_ARCHIVE:-$root/target/staticlib}
+out=$root/target/bench
+if [ ! -f "$archive/libnakwemol.a" ]; then
+    echo "$archive/libnakwemol.a is not there: make it by rt staticlib nakwemol, or name its folder in NAKWEMOL_ARCHIVE" >&2
+    exit 1
+fi
+mkdir -p "$out"
+
+# An inner doc comment (//!) may stand only at the head of a file, and include! puts the text into a module.
+sed '/^\/\/!/d' "$source" > "$out/kriging.rs"
+
+# For any x86-64, as the archive is. Symbols stay, for profiles.
+flags=(--edition 2021 -C opt-level=3 -C codegen-units=1 -C debuginfo=0)
+rustc "${flags[@]}" --crate-type rlib --crate-name scirs2_core "$root/tools/oracle/ndarray.rs" -o "$out/libscirs2_core.rlib"
+BENCH_SOURCE="$out/kriging.rs" rustc "${flags[@]}" --crate-name bench -A dead_code -A unused_imports \
+    --extern scirs2_core="$out/libscirs2_core.rlib" -L "native=$archive" -l static=nakwemol "$here/main.rs" -o "$out/bench"
+echo "$out/bench"

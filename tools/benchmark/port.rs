@@ -1,0 +1,145 @@
+//! The port's calls, with their areas lent once and used again.
+
+use crate::calls;
+use crate::inputs::{Kind, Samples, Survey};
+use std::hint::black_box;
+
+const SPHERICAL: u8 = 1;
+const AXES: usize = 2;
+
+pub struct Fit<'a> {
+    survey: &'a Survey,
+    work: Vec<f64>,
+    pub predicted: Vec<f64>,
+    pub variance: Vec<f64>,
+    pub verdicts: Vec<u8>,
+    pub weights: Vec<f64>,
+    pub coefficients: Vec<f64>,
+}
+
+impl Fit<'_> {
+    pub fn of(survey: &Survey) -> Fit<'_> {
+        let (n, p, m) = (survey.n(), survey.p(), survey.m());
+        let coefficients = if survey.kind == Kind::Refused { 0 } else { p };
+        Fit {
+            survey,
+            work: vec![0.0; 2 * (n + p) * (n + p)],
+            predicted: vec![0.0; m],
+            variance: vec![0.0; m],
+            verdicts: vec![0; m],
+            weights: vec![0.0; n * m],
+            coefficients: vec![0.0; coefficients],
+        }
+    }
+
+    pub fn call(&mut self) -> u8 {
+        let s = self.survey;
+        calls::fit(
+            &s.values,
+            &s.coords,
+            &s.bases,
+            &s.external,
+            &s.nodes,
+            &[],
+            SPHERICAL,
+            s.nugget,
+            s.sill,
+            s.range,
+            s.regularization,
+            s.tolerance,
+            &mut self.work,
+            &mut self.predicted,
+            &mut self.variance,
+            &mut self.verdicts,
+            &mut self.weights,
+            &mut self.coefficients,
+        )
+    }
+
+    pub fn run(&mut self) {
+        black_box(self.call());
+        black_box(&self.predicted);
+    }
+
+    /// How many rows the audits of all nodes look at: up to the first that is missed, else p + 1.
+    pub fn rows(&mut self) -> usize {
+        if self.call() != 0 {
+            return 0;
+        }
+        let all = self.survey.p() + 1;
+        self.verdicts.iter().map(|verdict| if *verdict == 0 { all } else { *verdict as usize }).sum()
+    }
+}
+
+pub struct Interpolation<'a> {
+    samples: &'a Samples,
+    kriging_type: u8,
+    work: Vec<f64>,
+    pub figures: Vec<f64>,
+    pub variances: Vec<f64>,
+}
+
+impl Interpolation<'_> {
+    pub fn of(samples: &Samples, kriging_type: u8) -> Interpolation<'_> {
+        let size = samples.values.len() + if kriging_type == 1 { 1 } else { 4 };
+        let m = samples.targets.len() / AXES;
+        Interpolation { samples, kriging_type, work: vec![0.0; 2 * size * size], figures: vec![0.0; m], variances: vec![0.0; m] }
+    }
+
+    pub fn call(&mut self) -> u8 {
+        let s = self.samples;
+        calls::interpolate(
+            &s.values,
+            &s.points,
+            &s.targets,
+            AXES,
+            self.kriging_type,
+            SPHERICAL,
+            s.nugget,
+            s.sill,
+            s.range,
+            &mut self.work,
+            &mut self.figures,
+            &mut self.variances,
+        )
+    }
+
+    pub fn run(&mut self) {
+        black_box(self.call());
+        black_box(&self.figures);
+    }
+}
+
+pub struct Semivariogram<'a> {
+    samples: &'a Samples,
+    n_bins: usize,
+    pub distances: Vec<f64>,
+    pub semivariances: Vec<f64>,
+    counts: Vec<usize>,
+    pub kept: usize,
+}
+
+impl Semivariogram<'_> {
+    pub fn of(samples: &Samples, n_bins: usize) -> Semivariogram<'_> {
+        let (distances, semivariances, counts) = (vec![0.0; n_bins], vec![0.0; n_bins], vec![0; n_bins]);
+        Semivariogram { samples, n_bins, distances, semivariances, counts, kept: 0 }
+    }
+
+    pub fn call(&mut self) -> u8 {
+        calls::semivariogram(
+            &self.samples.points,
+            &self.samples.values,
+            AXES,
+            self.n_bins,
+            &mut self.distances,
+            &mut self.semivariances,
+            &mut self.counts,
+            &mut self.kept,
+        )
+    }
+
+    pub fn run(&mut self) {
+        black_box(self.call());
+        black_box(&self.distances);
+    }
+}

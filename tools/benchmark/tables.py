@@ -1,0 +1,146 @@
+"""The measurements as tables."""
+from typing import NamedTuple
+
+SIZES, COLUMNS, NODES = (12, 24, 48), (1, 3, 6), (1, 25, 100)
+TYPES = {1: "Ordinary", 2: "Universal"}
+PARTS = [(12, 1, 25), (48, 1, 100), (48, 6, 100)]
+
+
+class Measured(NamedTuple):
+    """A ratio, port to original, with its spread, and what a call of each takes in µs."""
+    ratio: float
+    low: float
+    high: float
+    original: float
+    port: float
+
+    def shown(self):
+        return f"{self.ratio:.2f} ({self.low:.2f}–{self.high:.2f})"
+
+    def times(self):
+        return f"{time(self.original)} / {time(self.port)}"
+
+
+def time(microseconds):
+    """Three figures of a time in µs."""
+    return f"{microseconds:.0f}" if microseconds >= 100 else f"{microseconds:.3g}"
+
+
+def table(head, rows):
+    return [line(head), line("---" for _ in head), *map(line, rows)]
+
+
+def line(cells):
+    return "| " + " | ".join(map(str, cells)) + " |"
+
+
+def fits(figures):
+    rows = []
+    for n in SIZES:
+        for p in COLUMNS:
+            row = [figures["fit", str(n), str(p), str(m)] for m in NODES]
+            rows.append([n, p, *(cell.shown() for cell in row), row[-1].times()])
+    return table(["n", "p", *(f"m = {m}" for m in NODES), "µs at m = 100, original / port"], rows)
+
+
+def interpolations(figures):
+    rows = []
+    for code, name in TYPES.items():
+        for n in SIZES:
+            row = [figures["interpolate", str(n), str(m), str(code)] for m in NODES]
+            rows.append([name, n, *(cell.shown() for cell in row), row[-1].times()])
+    return table(["type", "n", *(f"m = {m}" for m in NODES), "µs at m = 100, original / port"], rows)
+
+
+def semivariograms(figures):
+    rows = [(n, figures["semivariogram", str(n)]) for n in SIZES]
+    return table(["n", "ratio", "µs, original / port"], [(n, cell.shown(), cell.times()) for n, cell in rows])
+
+
+def growth(figures):
+    """How the time of a fit grows: µs of original and port."""
+    rows = [[f"{axis[-1]} = {key[1] if axis == 'growth-n' else key[3]}", *(figures[key[0], key[1], p, key[3]] for p in "16")]
+            for axis in ("growth-n", "growth-m") for key in figures if key[0] == axis and key[2] == "1"]
+    return table(["", "p = 1, µs original / port", "ratio", "p = 6, µs original / port", "ratio"],
+                 [[name, one.times(), f"{one.ratio:.2f}", six.times(), f"{six.ratio:.2f}"] for name, one, six in rows])
+
+
+class Parts:
+    """The parts of one fit, in µs, by differences of fits that leave something out (tools/benchmark/inputs.rs)."""
+
+    def __init__(self, figures, n, p, m):
+        self.n, self.p, self.m = n, p, m
+        self.taken = {key[4:] + key[3:4]: value for key, value in figures.items() if key[:3] == ("part", str(n), str(p))}
+
+    def kind(self, name, m, side):
+        """A fit of that kind with m nodes: its time, and how many rows its audits look at."""
+        (rows, value), = ((int(key[1]), value) for key, value in self.taken.items() if key[0] == name and key[2] == str(m))
+        return getattr(value, side), rows
+
+    def row(self):
+        """One row of the audit: what a fit that looks at all of them takes longer than one that mostly stops at the first."""
+        (whole, rows), (first, fewer) = self.kind("whole", self.m, "port"), self.kind("first-row", self.m, "port")
+        return (whole - first) / (rows - fewer)
+
+    def audit(self):
+        return self.row() * self.kind("whole", self.m, "port")[1]
+
+    def refusals(self):
+        return self.kind("refused", self.m, "port")[0]
+
+    def elimination(self, side):
+        return self.kind("whole", 0, side)[0] - self.kind("stopped", 0, side)[0]
+
+    def assembly(self, side):
+        """Up to the elimination's first step, less the refusals, where they are a part."""
+        return self.kind("stopped", 0, side)[0] - (self.refusals() if side == "port" else 0)
+
+    def whole(self, side):
+        return self.kind("whole", self.m, side)[0]
+
+    def nodes(self, side):
+        """b, z, figure and variance of every node: what is left."""
+        audit = self.audit() + self.refusals() if side == "port" else 0
+        return self.whole(side) - self.assembly(side) - self.elimination(side) - audit
+
+    def root(self, side):
+        """One root, in ns: wells so close that the variogram takes no time, less wells in one place, whose roots are of 0."""
+        return 1000 * (self.kind("near", 0, side)[0] - self.kind("one-place", 0, side)[0]) / (self.n * (self.n - 1))
+
+    def entry(self, side):
+        """One entry of the matrix between two wells, in ns: the distance with its root, and the variogram."""
+        return 1000 * self.assembly(side) / (self.n * (self.n - 1))
+
+
+def parts(figures):
+    """What the parts of a fit take, in µs."""
+    rows = []
+    for sizes in PARTS:
+        made = Parts(figures, *sizes)
+        for side in ("original", "port"):
+            port = side == "port"
+            cells = [made.refusals() if port else None, made.assembly(side), made.elimination(side), made.nodes(side), made.audit() if port else None]
+            rows.append([", ".join(map(str, sizes)), side, *("" if cell is None else time(cell) for cell in cells), time(made.whole(side))])
+    return table(["n, p, m", "", "refusals", "F and matrix", "elimination", "b, z, figure, variance", "audit", "whole"], rows)
+
+
+def small(figures):
+    """One root, one exact product, one row of an audit and one elimination."""
+    of = {(n, p): Parts(figures, n, p, m) for n, p, m in [(12, 1, 25), (24, 1, 100), (48, 1, 100), (24, 6, 100), (48, 6, 100)]}
+    at = of[48, 1]
+    product = 1000 * (of[48, 6].row() - of[24, 6].row()) / 24
+    rows = [["one root", f"{at.root('original'):.1f} ns", f"{at.root('port'):.1f} ns"],
+            ["one entry of the matrix: distance, root, variogram", f"{at.entry('original'):.1f} ns", f"{at.entry('port'):.1f} ns"],
+            ["one exact product", "", f"{product:.1f} ns"],
+            ["one row of an audit of 48 wells, p = 6", "", f"{1000 * of[48, 6].row():.0f} ns"],
+            ["what is no product in it", "", f"{1000 * of[48, 6].row() - 48 * product:.0f} ns"]]
+    for n in SIZES:
+        original, port = of[n, 1].elimination("original"), of[n, 1].elimination("port")
+        rows.append([f"one elimination of {n + 1} rows", f"{time(original)} µs", f"{time(port)} µs, ratio {port / original:.2f}"])
+    return table(["", "original", "port"], rows)
+
+
+def blocks(figures):
+    """The tables of docs/SPEED.md, by the names of their blocks."""
+    makers = {"fits": fits, "interpolations": interpolations, "semivariograms": semivariograms, "growth": growth, "parts": parts, "small": small}
+    return {name: make(figures) for name, make in makers.items()}
