@@ -66,6 +66,7 @@ impl Kind {
     }
 }
 
+#[derive(Clone)]
 pub struct Survey {
     pub kind: Kind,
     pub values: Vec<f64>,

@@ -26,13 +26,14 @@ mod kriging {
 use inputs::{Kind, Samples, Survey};
 use kriging::original;
 use std::hint::black_box;
-use timing::{in_turns, Measured};
+use timing::{in_turns, Case};
 
 const SIZES: [usize; 3] = [12, 24, 48];
 const COLUMNS: [usize; 3] = [1, 3, 6];
 const NODES: [usize; 3] = [1, 25, 100];
 const GROWTH_N: [usize; 7] = [12, 18, 24, 30, 36, 42, 48];
 const GROWTH_M: [usize; 6] = [1, 10, 25, 50, 75, 100];
+const PARTS: [(usize, usize, usize); 5] = [(12, 1, 25), (24, 1, 100), (24, 6, 100), (48, 1, 100), (48, 6, 100)];
 const BINS: usize = 10;
 
 fn stop(what: &str) -> ! {
@@ -51,7 +52,7 @@ fn same_bits(what: &str, ours: &[f64], theirs: &[f64]) {
 fn check_fit(survey: &Survey) {
     let what = format!("fit of n = {}, p = {}, m = {}", survey.n(), survey.p(), survey.m());
     let original = original::Fit::of(survey).answer().unwrap_or_else(|| stop(&format!("{what}: the original refuses")));
-    let mut port = port::Fit::of(survey);
+    let mut port = port::Fit::of(survey.clone());
     if port.call() != 0 {
         stop(&format!("{what}: the port refuses"));
     }
@@ -63,93 +64,76 @@ fn check_fit(survey: &Survey) {
     }
 }
 
-fn measure_fit(survey: &Survey) -> Measured {
-    check_fit(survey);
-    time_fit(survey)
-}
-
-fn time_fit(survey: &Survey) -> Measured {
-    let original = original::Fit::of(survey);
+/// A fit of both sides, which is not looked at: fits that leave something out are not answered alike.
+fn timed_fit(what: String, survey: Survey) -> Case<'static> {
+    let original = original::Fit::of(&survey);
     let mut port = port::Fit::of(survey);
-    in_turns(|| black_box(&original).run(), || black_box(&mut port).run())
+    Case::new(what, move || black_box(&original).run(), move || black_box(&mut port).run())
 }
 
-fn fits() {
-    for n in SIZES {
-        for p in COLUMNS {
-            for m in NODES {
-                measure_fit(&Survey::new(n, p, m, Kind::Whole)).print(&format!("fit {n} {p} {m}"));
-            }
-        }
-    }
+fn fit(kind: &str, n: usize, p: usize, m: usize) -> Case<'static> {
+    let survey = Survey::new(n, p, m, Kind::Whole);
+    check_fit(&survey);
+    timed_fit(format!("{kind} {n} {p} {m}"), survey)
 }
 
-fn growth() {
-    for p in [1, 6] {
-        for n in GROWTH_N {
-            measure_fit(&Survey::new(n, p, 100, Kind::Whole)).print(&format!("growth-n {n} {p} 100"));
-        }
-        for m in GROWTH_M {
-            measure_fit(&Survey::new(48, p, m, Kind::Whole)).print(&format!("growth-m 48 {p} {m}"));
-        }
-    }
+fn fits() -> Vec<Case<'static>> {
+    let sizes = SIZES.iter().flat_map(|n| COLUMNS.iter().flat_map(move |p| NODES.iter().map(move |m| (*n, *p, *m))));
+    sizes.map(|(n, p, m)| fit("fit", n, p, m)).collect()
 }
 
-fn measure_interpolation(n: usize, m: usize, kriging_type: u8) -> Measured {
+fn growth() -> Vec<Case<'static>> {
+    let with_n = |p| GROWTH_N.iter().map(move |n| fit("growth-n", *n, p, 100));
+    let with_m = |p| GROWTH_M.iter().map(move |m| fit("growth-m", 48, p, *m));
+    [1, 6].into_iter().flat_map(|p| with_n(p).chain(with_m(p))).collect()
+}
+
+fn interpolation(n: usize, m: usize, kriging_type: u8) -> Case<'static> {
+    let what = format!("interpolation of n = {n}, m = {m}, type {kriging_type}");
     let samples = Samples::new(n, m);
     let original = original::Interpolation::of(&samples, kriging_type);
-    let mut port = port::Interpolation::of(&samples, kriging_type);
-    let what = format!("interpolation of n = {n}, m = {m}, type {kriging_type}");
+    let mut port = port::Interpolation::of(samples, kriging_type);
     let (values, variances) = original.answer().unwrap_or_else(|| stop(&format!("{what}: the original refuses")));
     if port.call() != 0 {
         stop(&format!("{what}: the port refuses"));
     }
     same_bits(&what, &port.figures, &values);
     same_bits(&what, &port.variances, &variances);
-    in_turns(|| black_box(&original).run(), || black_box(&mut port).run())
+    let name = format!("interpolate {n} {m} {kriging_type}");
+    Case::new(name, move || black_box(&original).run(), move || black_box(&mut port).run())
 }
 
-fn interpolations() {
-    for kriging_type in [1, 2] {
-        for n in SIZES {
-            for m in NODES {
-                measure_interpolation(n, m, kriging_type).print(&format!("interpolate {n} {m} {kriging_type}"));
-            }
-        }
-    }
+fn interpolations() -> Vec<Case<'static>> {
+    let sizes = [1, 2].into_iter().flat_map(|code| SIZES.iter().flat_map(move |n| NODES.iter().map(move |m| (*n, *m, code))));
+    sizes.map(|(n, m, code)| interpolation(n, m, code)).collect()
 }
 
-fn measure_semivariogram(n: usize) -> Measured {
+fn semivariogram(n: usize) -> Case<'static> {
+    let what = format!("semivariogram of n = {n}");
     let samples = Samples::new(n, 0);
     let original = original::Semivariogram::of(&samples, BINS);
-    let mut port = port::Semivariogram::of(&samples, BINS);
-    let what = format!("semivariogram of n = {n}");
+    let mut port = port::Semivariogram::of(samples, BINS);
     let (distances, semivariances) = original.answer().unwrap_or_else(|| stop(&format!("{what}: the original refuses")));
     if port.call() != 0 {
         stop(&format!("{what}: the port refuses"));
     }
     same_bits(&what, &port.distances[..port.kept], &distances);
     same_bits(&what, &port.semivariances[..port.kept], &semivariances);
-    in_turns(|| black_box(&original).run(), || black_box(&mut port).run())
+    Case::new(format!("semivariogram {n}"), move || black_box(&original).run(), move || black_box(&mut port).run())
 }
 
-fn semivariograms() {
-    for n in SIZES {
-        measure_semivariogram(n).print(&format!("semivariogram {n}"));
-    }
-}
-
-/// Fits that stop early or leave something out, whose differences are the parts of a fit. The last number is how many rows the audit looks at.
-fn parts() {
-    for (n, p, m) in [(12, 1, 25), (24, 1, 100), (24, 6, 100), (48, 1, 100), (48, 6, 100)] {
-        for kind in Kind::ALL {
-            for m in if kind == Kind::Whole { vec![m, 0] } else { vec![kind.nodes(m)] } {
-                let survey = Survey::new(n, p, m, kind);
-                let rows = port::Fit::of(&survey).rows();
-                time_fit(&survey).print(&format!("part {n} {p} {m} {} {rows}", kind.name()));
-            }
+/// Fits that stop early or leave something out, whose differences are the parts of a fit. The last number is how many rows the audits look at.
+fn parts() -> Vec<Case<'static>> {
+    let mut cases = Vec::new();
+    for (n, p, m) in PARTS {
+        let kinds = Kind::ALL.into_iter().map(|kind| (kind, kind.nodes(m)));
+        for (kind, m) in kinds.chain([(Kind::Whole, 0)]) {
+            let survey = Survey::new(n, p, m, kind);
+            let rows = port::Fit::of(Survey::new(n, p, m, kind)).rows();
+            cases.push(timed_fit(format!("part {n} {p} {m} {} {rows}", kind.name()), survey));
         }
     }
+    cases
 }
 
 fn number(words: &[String], at: usize) -> usize {
@@ -170,18 +154,18 @@ fn one(words: &[String]) {
         Some("fit") => {
             let kind = Kind::named(words.get(6).map_or("whole", String::as_str)).unwrap_or_else(|| stop("no such kind of fit"));
             let survey = Survey::new(number(words, 3), number(words, 4), number(words, 5), kind);
-            let (original, mut ours) = (original::Fit::of(&survey), port::Fit::of(&survey));
+            let (original, mut ours) = (original::Fit::of(&survey), port::Fit::of(survey));
             repeat(count, || if port { ours.run() } else { original.run() });
             eprintln!("rows {}", ours.rows());
         }
         Some("interpolate") => {
             let (samples, kind) = (Samples::new(number(words, 3), number(words, 4)), number(words, 5) as u8);
-            let (original, mut ours) = (original::Interpolation::of(&samples, kind), port::Interpolation::of(&samples, kind));
+            let (original, mut ours) = (original::Interpolation::of(&samples, kind), port::Interpolation::of(samples, kind));
             repeat(count, || if port { ours.run() } else { original.run() });
         }
         Some("semivariogram") => {
             let samples = Samples::new(number(words, 3), 0);
-            let (original, mut ours) = (original::Semivariogram::of(&samples, BINS), port::Semivariogram::of(&samples, BINS));
+            let (original, mut ours) = (original::Semivariogram::of(&samples, BINS), port::Semivariogram::of(samples, BINS));
             repeat(count, || if port { ours.run() } else { original.run() });
         }
         _ => stop("one of: fit, interpolate, semivariogram"),
@@ -193,9 +177,10 @@ fn main() {
     if words.first().map(String::as_str) == Some("--one") {
         return one(&words[1..]);
     }
-    fits();
-    growth();
-    interpolations();
-    semivariograms();
-    parts();
+    let mut cases = fits();
+    cases.extend(growth());
+    cases.extend(interpolations());
+    cases.extend(SIZES.map(semivariogram));
+    cases.extend(parts());
+    in_turns(cases);
 }

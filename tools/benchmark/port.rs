@@ -7,8 +7,8 @@ use std::hint::black_box;
 const SPHERICAL: u8 = 1;
 const AXES: usize = 2;
 
-pub struct Fit<'a> {
-    survey: &'a Survey,
+pub struct Fit {
+    survey: Survey,
     work: Vec<f64>,
     pub predicted: Vec<f64>,
     pub variance: Vec<f64>,
@@ -17,8 +17,8 @@ pub struct Fit<'a> {
     pub coefficients: Vec<f64>,
 }
 
-impl Fit<'_> {
-    pub fn of(survey: &Survey) -> Fit<'_> {
+impl Fit {
+    pub fn of(survey: Survey) -> Fit {
         let (n, p, m) = (survey.n(), survey.p(), survey.m());
         let coefficients = if survey.kind == Kind::Refused { 0 } else { p };
         Fit {
@@ -33,7 +33,7 @@ impl Fit<'_> {
     }
 
     pub fn call(&mut self) -> u8 {
-        let s = self.survey;
+        let s = &self.survey;
         calls::fit(
             &s.values,
             &s.coords,
@@ -71,23 +71,23 @@ impl Fit<'_> {
     }
 }
 
-pub struct Interpolation<'a> {
-    samples: &'a Samples,
+pub struct Interpolation {
+    samples: Samples,
     kriging_type: u8,
     work: Vec<f64>,
     pub figures: Vec<f64>,
     pub variances: Vec<f64>,
 }
 
-impl Interpolation<'_> {
-    pub fn of(samples: &Samples, kriging_type: u8) -> Interpolation<'_> {
+impl Interpolation {
+    pub fn of(samples: Samples, kriging_type: u8) -> Interpolation {
         let size = samples.values.len() + if kriging_type == 1 { 1 } else { 4 };
         let m = samples.targets.len() / AXES;
         Interpolation { samples, kriging_type, work: vec![0.0; 2 * size * size], figures: vec![0.0; m], variances: vec![0.0; m] }
     }
 
     pub fn call(&mut self) -> u8 {
-        let s = self.samples;
+        let s = &self.samples;
         calls::interpolate(
             &s.values,
             &s.points,
@@ -110,8 +110,8 @@ impl Interpolation<'_> {
     }
 }
 
-pub struct Semivariogram<'a> {
-    samples: &'a Samples,
+pub struct Semivariogram {
+    samples: Samples,
     n_bins: usize,
     pub distances: Vec<f64>,
     pub semivariances: Vec<f64>,
@@ -119,8 +119,8 @@ pub struct Semivariogram<'a> {
     pub kept: usize,
 }
 
-impl Semivariogram<'_> {
-    pub fn of(samples: &Samples, n_bins: usize) -> Semivariogram<'_> {
+impl Semivariogram {
+    pub fn of(samples: Samples, n_bins: usize) -> Semivariogram {
         let (distances, semivariances, counts) = (vec![0.0; n_bins], vec![0.0; n_bins], vec![0; n_bins]);
         Semivariogram { samples, n_bins, distances, semivariances, counts, kept: 0 }
     }

@@ -1,25 +1,21 @@
-//! Times two calls in turns: batches of each, one after the other, and the ratio of each pair.
+//! Times pairs of calls in turns: in each round a batch of either side of every case, so that what disturbs the machine meets all alike.
 
 use std::time::{Duration, Instant};
 
 const BATCH: Duration = Duration::from_millis(2);
-const PAIRS: usize = 41;
+const ROUNDS: usize = 41;
 
-/// What a comparison came to: the ratio port to original by its median and its 10th and 90th percentile, and what a call of each takes, in µs.
-pub struct Measured {
-    ratio: [f64; 3],
-    original: f64,
-    port: f64,
+type Call<'a> = Box<dyn FnMut() + 'a>;
+
+/// The same work for both sides, `count` calls to a batch, and what each batch took.
+pub struct Case<'a> {
+    what: String,
+    sides: [Call<'a>; 2],
+    count: usize,
+    taken: [Vec<f64>; 2],
 }
 
-impl Measured {
-    pub fn print(&self, what: &str) {
-        let [low, middle, high] = self.ratio;
-        println!("{what} | {middle:.4} {low:.4} {high:.4} {:.4} {:.4}", self.original, self.port);
-    }
-}
-
-fn seconds(count: usize, call: &mut impl FnMut()) -> f64 {
+fn seconds(count: usize, call: &mut Call) -> f64 {
     let start = Instant::now();
     for _ in 0..count {
         call();
@@ -27,8 +23,8 @@ fn seconds(count: usize, call: &mut impl FnMut()) -> f64 {
     start.elapsed().as_secs_f64()
 }
 
-/// How many calls fill a batch, by doubling: this warms the caches too.
-fn calibrated(call: &mut impl FnMut()) -> usize {
+/// How many calls fill a batch, by doubling.
+fn calibrated(call: &mut Call) -> usize {
     let mut count = 1;
     loop {
         let took = seconds(count, call);
@@ -39,27 +35,49 @@ fn calibrated(call: &mut impl FnMut()) -> usize {
     }
 }
 
-fn percentile(sorted: &[f64], percent: usize) -> f64 {
+fn percentile(numbers: &[f64], percent: usize) -> f64 {
+    let mut sorted = numbers.to_vec();
+    sorted.sort_by(f64::total_cmp);
     sorted[(sorted.len() - 1) * percent / 100]
 }
 
-fn sorted(mut numbers: Vec<f64>) -> Vec<f64> {
-    numbers.sort_by(f64::total_cmp);
-    numbers
-}
+impl<'a> Case<'a> {
+    pub fn new(what: String, original: impl FnMut() + 'a, port: impl FnMut() + 'a) -> Case<'a> {
+        Case { what, sides: [Box::new(original), Box::new(port)], count: 0, taken: [Vec::new(), Vec::new()] }
+    }
 
-/// Each pair has one batch of either side, of as many calls; which goes first changes from pair to pair.
-pub fn in_turns(mut original: impl FnMut(), mut port: impl FnMut()) -> Measured {
-    let count = calibrated(&mut original);
-    calibrated(&mut port);
-    let mut times = [Vec::new(), Vec::new()];
-    for pair in 0..PAIRS {
-        for side in [pair % 2, 1 - pair % 2] {
-            times[side].push(if side == 0 { seconds(count, &mut original) } else { seconds(count, &mut port) });
+    /// One batch of either side, one after the other.
+    fn pair(&mut self, first: usize) {
+        for side in [first, 1 - first] {
+            let took = seconds(self.count, &mut self.sides[side]);
+            self.taken[side].push(took);
         }
     }
-    let [original, port] = times;
-    let ratios = sorted(port.iter().zip(&original).map(|(port, original)| port / original).collect());
-    let each = |took: Vec<f64>| percentile(&sorted(took), 50) * 1e6 / count as f64;
-    Measured { ratio: [10, 50, 90].map(|percent| percentile(&ratios, percent)), original: each(original), port: each(port) }
+
+    /// What a call takes, in µs.
+    fn each(&self, side: usize) -> f64 {
+        percentile(&self.taken[side], 50) * 1e6 / self.count as f64
+    }
+
+    /// The ratio, port to original, by its median and its 10th and 90th percentile; then µs of a call of either.
+    fn print(&self) {
+        let ratios: Vec<f64> = self.taken[1].iter().zip(&self.taken[0]).map(|(port, original)| port / original).collect();
+        let [low, middle, high] = [10, 50, 90].map(|percent| percentile(&ratios, percent));
+        println!("{} | {middle:.4} {low:.4} {high:.4} {:.4} {:.4}", self.what, self.each(0), self.each(1));
+    }
+}
+
+/// Times the cases and prints a line of each. Which side goes first changes from round to round.
+pub fn in_turns(mut cases: Vec<Case>) {
+    for case in &mut cases {
+        case.count = calibrated(&mut case.sides[0]).min(calibrated(&mut case.sides[1]));
+    }
+    for round in 0..ROUNDS {
+        for case in &mut cases {
+            case.pair(round % 2);
+        }
+    }
+    for case in &cases {
+        case.print();
+    }
 }
