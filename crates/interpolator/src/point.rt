@@ -6,8 +6,7 @@ ghost use Prim.Native.Nat.{_+_, _*_, _/_, _≤_, _<_};
 ghost use lib.ListN.{length, getD};
 ghost use lib.Ieee.{nan, binary64, mul};
 ghost use Rattle.area.specs.Area.{written};
-ghost use Rattle.ieee.specs.Sums.{runningSum, lessEach};
-ghost use Rattle.elimination.specs.Inverse.{timesInverse};
+ghost use Rattle.ieee.specs.Sums.{lessEach};
 ghost use Rattle.interpolation.specs.declared.KrigingType.the-variants.{Universal};
 ghost use Rattle.interpolation.specs.Call.{areasOf, added};
 ghost use Rattle.interpolator.specs.Outcome.{queryOf, known};
@@ -33,41 +32,6 @@ fn fill_right_side(
     for i in 0..size {
         b[i] = column_entry(interpolator, values, points, d, targets, t, i);
     }
-}
-
-// One entry of z: row i of the inverse times b, summed from 0 by rising column.
-fn times_inverse(work: &[f64], size: usize, b: &[f64], i: usize) -> f64
-    requires { ⌜ (i < size) × (2 * size * size ≤ length (now work)) × (size ≤ length (now b)) ⌝ }
-    ensures { λ r. ⌜ r ≡ timesInverse size (now (work .entry)) (λ j. getD (now (b .entry)) j nan) i ⌝ }
-{
-    let row = i * (2 * size) + size;
-    let mut acc = 0.0;
-    for j in 0..size {
-        acc += work[row + j] * b[j];
-    }
-    acc
-}
-
-// z = inverse · b
-fn fill_z(work: &[f64], size: usize, b: &[f64], z: &mut [f64])
-    requires { ⌜ (2 * size * size ≤ length (now work)) × (size ≤ length (now b)) × (size ≤ length (now z)) ⌝ }
-    ensures { λ _. ⌜ now (z .exit) ≡ written 0 size (timesInverse size (now (work .entry)) (λ j. getD (now (b .entry)) j nan)) (now (z .entry)) ⌝ }
-{
-    for i in 0..size {
-        z[i] = times_inverse(work, size, b, i);
-    }
-}
-
-// Σ z_i·number_i over the first `count`, summed from 0.
-fn weighted_sum(z: &[f64], numbers: &[f64], count: usize) -> f64
-    requires { ⌜ (count ≤ length (now z)) × (count ≤ length (now numbers)) ⌝ }
-    ensures { λ r. ⌜ r ≡ runningSum count (λ i. mul binary64 (getD (now (z .entry)) i nan) (getD (now (numbers .entry)) i nan)) ⌝ }
-{
-    let mut acc = 0.0; // not the first product, which may be -0
-    for i in 0..count {
-        acc += z[i] * numbers[i];
-    }
-    acc
 }
 
 // The sill less each z_i·b_i in turn.
@@ -109,8 +73,8 @@ fn interpolate_point(
     let mut b = [0.0; 52];
     fill_right_side(interpolator, values, points, targets, d, t, size, &mut b);
     let mut z = [0.0; 52];
-    fill_z(work, size, &b, &mut z);
-    let value = weighted_sum(&z, values, values.len());
+    solution::fill_z(work, size, &b, &mut z);
+    let value = solution::weighted_sum(&z, values, values.len());
     let variance = ieee::max(sill_less(interpolator.variogram.sill, &z, &b, size), 0.0);
     Estimate {
         value: value,

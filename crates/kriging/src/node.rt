@@ -5,10 +5,8 @@ ghost use mathlib.Core.Path.{_≡_};
 ghost use mathlib.Core.List.{List};
 ghost use Prim.Native.Nat.{_+_, _*_, _≤_, _<_};
 ghost use lib.ListN.{length, getD, take, drop};
-ghost use lib.Ieee.{Float, nan, binary64, mul};
+ghost use lib.Ieee.{Float, nan};
 ghost use Rattle.area.specs.Area.{written};
-ghost use Rattle.ieee.specs.Sums.{runningSum};
-ghost use Rattle.elimination.specs.Inverse.{timesInverse};
 ghost use Rattle.audit.specs.Audit.{driftFinite, columnVerdictGiven};
 ghost use Rattle.audit.specs.Lists.{entryIn, weighedIn};
 ghost use Rattle.survey.specs.Survey.{surveyOf, columnSum, externalCount, size, xOf, yOf};
@@ -24,41 +22,6 @@ fn fill_gamma(coords: &[f64], variogram: Variogram, x: f64, y: f64, n: usize, b:
         let h = variogram::distance_2d(coords[2 * i], coords[2 * i + 1], x, y);
         b[i] = variogram.evaluate(h);
     }
-}
-
-// One entry of z: row i of the inverse times b, summed from 0 by rising column.
-fn times_inverse(work: &[f64], size: usize, b: &[f64], i: usize) -> f64
-    requires { ⌜ (i < size) × (2 * size * size ≤ length (now work)) × (size ≤ length (now b)) ⌝ }
-    ensures { λ r. ⌜ r ≡ timesInverse size (now (work .entry)) (λ j. getD (now (b .entry)) j nan) i ⌝ }
-{
-    let row = i * (2 * size) + size;
-    let mut acc = 0.0;
-    for j in 0..size {
-        acc += work[row + j] * b[j];
-    }
-    acc
-}
-
-// z = inverse · b
-fn fill_z(work: &[f64], size: usize, b: &[f64], z: &mut [f64])
-    requires { ⌜ (2 * size * size ≤ length (now work)) × (size ≤ length (now b)) × (size ≤ length (now z)) ⌝ }
-    ensures { λ _. ⌜ now (z .exit) ≡ written 0 size (timesInverse size (now (work .entry)) (λ j. getD (now (b .entry)) j nan)) (now (z .entry)) ⌝ }
-{
-    for i in 0..size {
-        z[i] = times_inverse(work, size, b, i);
-    }
-}
-
-// Σ z_i·number_i over the first `count`, summed from 0: the figure with the values, the variance with b.
-fn weighted_sum(z: &[f64], numbers: &[f64], count: usize) -> f64
-    requires { ⌜ (count ≤ length (now z)) × (count ≤ length (now numbers)) ⌝ }
-    ensures { λ r. ⌜ r ≡ runningSum count (λ i. mul binary64 (getD (now (z .entry)) i nan) (getD (now (numbers .entry)) i nan)) ⌝ }
-{
-    let mut sum = 0.0;
-    for i in 0..count {
-        sum += z[i] * numbers[i];
-    }
-    sum
 }
 
 // b of node q: the variogram to each of the n wells, then f0.
@@ -109,8 +72,8 @@ fn solve_node(
 {
     let size = b.len();
     let mut z = [0.0; 60];
-    fill_z(work, size, b, &mut z);
-    let variance = ieee::max(weighted_sum(&z, b, size), 0.0);
+    solution::fill_z(work, size, b, &mut z);
+    let variance = ieee::max(solution::weighted_sum(&z, b, size), 0.0);
     let columns = audit::audit_columns(&z[..n], drift, finite_drift, &b[n..], tolerance);
     Solution {
         z: z,
@@ -172,7 +135,7 @@ pub(crate) fn krige_node(
     );
     let solution = solve_node(work, &b[..size], drift, finite_drift, n, tolerance);
     let z = solution.z;
-    let figure = weighted_sum(&z, values, n);
+    let figure = solution::weighted_sum(&z, values, n);
     let verdict = audit::audit_figure(
         solution.columns,
         &z[..n],

@@ -3,6 +3,7 @@ use native.Mathlib.Omega.{arith}
 use mathlib.Core.Path.{ap, _∙_}
 use borrow.Author.Needs.{needs}
 use Rattle.ieee.specs.Floats.{notBelowZero}
+use Rattle.solution.proofs.Room.{solved-is}
 use Rattle.interpolation.specs.Call.{Query}
 use Rattle.interpolator.specs.Outcome.{queryOf}
 use Rattle.interpolator.proofs.Entries.{column-unread}
@@ -80,8 +81,10 @@ returns c =
     let a = s .args in
     let right = column-unread (a .interpolator) (a .values .now) (a .points .now) (a .targets .now) (a .d) (a .targets .now) (a .t) in
     let long = s .pre .3 in
+    let places = r .fill-right-side .kept .1 .1 .1 .1 .1 .1 .1 .0 in
+    let rows = z .fill-z .ensures ∙ solved-is (a .size) (a .work .now) _ _ (s .pre .4) (omega (arith, places)) (omega arith) in
     let solved = filled-solved (query s) (a .work .now) (a .t) (a .size) _ _ _ _ _ (s .pre .0) right
-    (r .fill-right-side .ensures) (z .fill-z .ensures) (omega arith) (omega arith) in (
+    (r .fill-right-side .ensures) rows (omega arith) (omega arith) in (
       figure-is (query s) (a .work .now) (a .t) (a .size) _ _ solved (f .weighted-sum .ensures),
       variance-is (query s) (a .work .now) (a .t) (a .size) _ _ solved (c .max .ensures ∙ ap notBelowZero (v .sill-less .ensures)),
     )

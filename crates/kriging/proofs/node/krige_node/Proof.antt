@@ -87,7 +87,7 @@ slice-aggregate-weighted-sum : tie.Need-slice-aggregate-weighted-sum
 slice-aggregate-weighted-sum c = search needs
 
 weighted-sum-requires : tie.Need-weighted-sum-requires
-weighted-sum-requires c κs = (z-inside (c .before .before), omega arith)
+weighted-sum-requires c κs = search needs
 
 -- &z[..n],
 array-share-prefix-z : tie.Need-array-share-prefix-z

@@ -11,6 +11,7 @@ use Rattle.area.proofs.Tables.{take-start}
 use Rattle.ieee.specs.Floats.{zeroFloat, maxOf}
 use Rattle.audit.specs.Audit.{columnVerdictGiven}
 use Rattle.audit.specs.Lists.{weighedIn}
+use Rattle.solution.proofs.Room.{solved-is}
 use Rattle.fit.specs.Node.{zOf, varianceOf}
 use Rattle.kriging.proofs.node.solve_node.Statement.{statement}
 use Rattle.kriging.proofs.node.solve_node.Tie as tie
@@ -75,11 +76,14 @@ unfolding zOf varianceOf
 returns c =
     let z = at-z (c .before .before) in
     let a = at-entry z .args in
+    let p = at-entry z .pre in
     let zs = z .fill-z .last .1 .1 .1 .0 in
     let clamped = c .before .before .before in (
       long (c .before .before),
       (
-        ap (λ (xs : List Float). take (length (a .b .now)) xs) (z .fill-z .ensures) ∙ take-start (length (a .b .now)) _ _ nan (omega (arith, at-entry z .pre)),
+        ap (λ (xs : List Float). take (length (a .b .now)) xs)
+            (z .fill-z .ensures ∙ solved-is (length (a .b .now)) (a .work .now) (a .b .now) _ (p .2) (omega arith) (omega (arith, p)))
+            ∙ take-start (length (a .b .now)) _ _ nan (omega (arith, p)),
         (
           clamped .max .ensures ∙ ap (λ (x : Float). maxOf x zeroFloat) (clamped .before .weighted-sum .ensures),
           c .audit-columns .ensures

@@ -1,4 +1,4 @@
--- `kriging::node::times_inverse` meets its contract: after j turns acc is the sum of the first j products. Assumes nothing.
+-- `solution::one_row` meets its contract: after j turns acc is the sum of the first j products. Assumes nothing.
 use Prim.Native.Nat.{ℕ, _≤_, _*_, _+_, _-_}
 use mathlib.Core.Path.{_≡_, refl, ap, sym, _∙_}
 use native.Mathlib.Omega.{arith}
@@ -9,8 +9,8 @@ use Rattle.ieee.specs.Sums.{runningSum}
 use Rattle.ieee.proofs.Sums.{no-terms, sum-turn, all-terms}
 use Rattle.elimination.proofs.Rows.{row-inside}
 use Rattle.elimination.specs.Inverse.{inverseAt, timesInverse}
-use Rattle.kriging.proofs.node.times_inverse.Statement.{statement}
-use Rattle.kriging.proofs.node.times_inverse.Tie as tie
+use Rattle.solution.proofs.one_row.Statement.{statement}
+use Rattle.solution.proofs.one_row.Tie as tie
 
 abbrev Inv-loop : tie.InvT-loop
 Inv-loop work size b i row acc₀ j₀ acc j =
@@ -84,8 +84,8 @@ returns c =
     let all : l .j ≡ c .before .before .args .size = omega arith in
     all-terms _ all (l .inv .2)
 
-pub times-inverse-spec : {M : Type 1} → statement M
-times-inverse-spec =
+pub one-row-spec : {M : Type 1} → statement M
+one-row-spec =
     tie.close
     (tie.spec
     Inv-loop

@@ -1,0 +1,31 @@
+-- z where there is room, and where there is none. Assumes nothing.
+use Prim.Native.Nat.{ℕ, _*_, _≤_, _<_}
+use mathlib.Core.Path.{_≡_, refl}
+use mathlib.Core.Bool.{true, false, _||_}
+use mathlib.Core.List.{List}
+use borrow.Author.Tests.{lt-ltb, le-ltb}
+use lib.Dec.{ltb}
+use lib.ListN.{length, getD}
+use lib.Ieee.{Float, nan}
+use Rattle.area.specs.Area.{written}
+use Rattle.elimination.specs.Inverse.{timesInverse}
+use Rattle.solution.specs.Solution.{noRoom, solved}
+
+-- every list is long enough
+pub solved-is : (size : ℕ) (work b z : List Float) → 2 * size * size ≤ length work → size ≤ length b → size ≤ length z
+    → solved size work b z ≡ written 0 size (timesInverse size work (λ j. getD b j nan)) z
+unfolding solved
+solved-is size work b z hw hb hz = simp (le-ltb _ _ hw, le-ltb _ _ hb, le-ltb _ _ hz)
+
+-- one is not
+pub short-work : (size : ℕ) (work b z : List Float) → ltb (length work) (2 * size * size) ≡ true → solved size work b z ≡ z
+unfolding solved
+short-work size work b z h = simp h
+
+pub short-right : (size : ℕ) (work b z : List Float) → ltb (length work) (2 * size * size) ≡ false → length b < size → solved size work b z ≡ z
+unfolding solved
+short-right size work b z h hb = simp (h, lt-ltb _ _ hb)
+
+pub short-z : (size : ℕ) (work b z : List Float) → ltb (length work) (2 * size * size) ≡ false → size ≤ length b → length z < size → solved size work b z ≡ z
+unfolding solved
+short-z size work b z h hb hz = simp (h, le-ltb _ _ hb, lt-ltb _ _ hz)
