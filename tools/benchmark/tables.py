@@ -112,15 +112,15 @@ class Parts:
         return 1000 * self.assembly(side) / (self.n * (self.n - 1))
 
 
-def parts(figures):
-    """What the parts of a fit take, in µs."""
+def parts(figures, shown=time):
+    """What the parts of a fit take: µs, or what else the figures are."""
     rows = []
     for sizes in PARTS:
         made = Parts(figures, *sizes)
         for side in ("original", "port"):
             port = side == "port"
             cells = [made.refusals() if port else None, made.assembly(side), made.elimination(side), made.nodes(side), made.audit() if port else None]
-            rows.append([", ".join(map(str, sizes)), side, *("" if cell is None else time(cell) for cell in cells), time(made.whole(side))])
+            rows.append([", ".join(map(str, sizes)), side, *("" if cell is None else shown(cell) for cell in cells), shown(made.whole(side))])
     return table(["n, p, m", "", "refusals", "F and matrix", "elimination", "b, z, figure, variance", "audit", "whole"], rows)
 
 
