@@ -170,5 +170,5 @@ def goals(figures):
 
 def blocks(figures):
     """The tables of docs/SPEED.md, by the names of their blocks."""
-    makers = {"goals": goals, "fits": fits, "interpolations": interpolations, "semivariograms": semivariograms, "growth": growth, "parts": parts, "small": small}
-    return {name: make(figures) for name, make in makers.items()}
+    makers = [goals, fits, interpolations, semivariograms, growth, parts, small]
+    return {make.__name__: make(figures) for make in makers}
