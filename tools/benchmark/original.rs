@@ -48,6 +48,7 @@ impl Fit {
         universal_kriging_fit(self.coords.view(), self.values.view(), &self.options, self.nodes.view(), node_external).ok()
     }
 
+    #[inline(never)]
     pub fn run(&self) {
         black_box(self.answer());
     }
@@ -80,6 +81,7 @@ impl Interpolation {
         Some((result.values.iter().copied().collect(), result.variances.iter().copied().collect()))
     }
 
+    #[inline(never)]
     pub fn run(&self) {
         black_box(self.result());
     }
@@ -105,6 +107,7 @@ impl Semivariogram {
         Some((distances.iter().copied().collect(), semivariances.iter().copied().collect()))
     }
 
+    #[inline(never)]
     pub fn run(&self) {
         black_box(self.result());
     }

@@ -2,7 +2,6 @@
 import re
 
 from tools.benchmark.plot import svg
-from tools.benchmark.tables import blocks
 
 
 def replaced(text, name, lines):
@@ -13,10 +12,13 @@ def replaced(text, name, lines):
     return made
 
 
-def write(docs, figures):
+def write_tables(docs, tables):
     page = docs / "SPEED.md"
     text = page.read_text()
-    for name, lines in blocks(figures).items():
+    for name, lines in tables.items():
         text = replaced(text, name, lines)
     page.write_text(text)
+
+
+def write_plot(docs, figures):
     (docs / "speed.svg").write_text(svg(figures))

@@ -1,5 +1,5 @@
 """The plot of docs/SPEED.md: how the time of a fit grows with n and with m."""
-WIDTH, HEIGHT, LEFT, TOP, GAP = 320, 240, 60, 40, 70
+WIDTH, HEIGHT, LEFT, TOP, GAP = 320, 240, 60, 56, 70
 SIDES = {"original": "#888888", "port": "#0060b0"}
 DASHES = {"1": "", "6": ' stroke-dasharray="5 3"'}
 PANELS = [("growth-n", "n wells (m = 100)", 1, 50, (12, 24, 36, 48)), ("growth-m", "m nodes (n = 48)", 3, 104, (1, 25, 50, 75, 100))]

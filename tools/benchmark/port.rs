@@ -56,6 +56,7 @@ impl Fit {
         )
     }
 
+    #[inline(never)]
     pub fn run(&mut self) {
         black_box(self.call());
         black_box(&self.predicted);
@@ -104,6 +105,7 @@ impl Interpolation {
         )
     }
 
+    #[inline(never)]
     pub fn run(&mut self) {
         black_box(self.call());
         black_box(&self.figures);
@@ -138,6 +140,7 @@ impl Semivariogram {
         )
     }
 
+    #[inline(never)]
     pub fn run(&mut self) {
         black_box(self.call());
         black_box(&self.distances);

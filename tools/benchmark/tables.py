@@ -26,6 +26,11 @@ def time(microseconds):
     return f"{microseconds:.0f}" if microseconds >= 100 else f"{microseconds:.3g}"
 
 
+def nanoseconds(count):
+    """A difference of times that lies within their noise is not told from 0."""
+    return "under 1 ns" if count < 1 else f"{count:.1f} ns"
+
+
 def table(head, rows):
     return [line(head), line("---" for _ in head), *map(line, rows)]
 
@@ -112,15 +117,15 @@ class Parts:
         return 1000 * self.assembly(side) / (self.n * (self.n - 1))
 
 
-def parts(figures):
-    """What the parts of a fit take, in µs."""
+def parts(figures, shown=time):
+    """What the parts of a fit take: µs, or what else the figures are."""
     rows = []
     for sizes in PARTS:
         made = Parts(figures, *sizes)
         for side in ("original", "port"):
             port = side == "port"
             cells = [made.refusals() if port else None, made.assembly(side), made.elimination(side), made.nodes(side), made.audit() if port else None]
-            rows.append([", ".join(map(str, sizes)), side, *("" if cell is None else time(cell) for cell in cells), time(made.whole(side))])
+            rows.append([", ".join(map(str, sizes)), side, *("" if cell is None else shown(cell) for cell in cells), shown(made.whole(side))])
     return table(["n, p, m", "", "refusals", "F and matrix", "elimination", "b, z, figure, variance", "audit", "whole"], rows)
 
 
@@ -129,9 +134,9 @@ def small(figures):
     of = {(n, p): Parts(figures, n, p, m) for n, p, m in [(12, 1, 25), (24, 1, 100), (48, 1, 100), (24, 6, 100), (48, 6, 100)]}
     at = of[48, 1]
     product = 1000 * (of[48, 6].row() - of[24, 6].row()) / 24
-    rows = [["one root", f"{at.root('original'):.1f} ns", f"{at.root('port'):.1f} ns"],
-            ["one entry of the matrix: distance, root, variogram", f"{at.entry('original'):.1f} ns", f"{at.entry('port'):.1f} ns"],
-            ["one exact product", "", f"{product:.1f} ns"],
+    rows = [["one root", nanoseconds(at.root("original")), nanoseconds(at.root("port"))],
+            ["one entry of the matrix: distance, root, variogram", nanoseconds(at.entry("original")), nanoseconds(at.entry("port"))],
+            ["one exact product", "", nanoseconds(product)],
             ["one row of an audit of 48 wells, p = 6", "", f"{1000 * of[48, 6].row():.0f} ns"],
             ["what is no product in it", "", f"{1000 * of[48, 6].row() - 48 * product:.0f} ns"]]
     for n in SIZES:
@@ -140,7 +145,30 @@ def small(figures):
     return table(["", "original", "port"], rows)
 
 
+def worst(figures, wanted):
+    """The greatest ratio of the cases that are wanted, and which it is."""
+    key = max(filter(wanted, figures), key=lambda key: figures[key].ratio)
+    return figures[key].ratio, " ".join(key)
+
+
+def goals(figures):
+    """The goals beside what was reached: of several cases the worst."""
+    asked = [("a fit of n = 48, m = 100, p = 1", 1.2, lambda key: key == ("fit", "48", "1", "100")),
+             ("a fit of n = 48, m = 100, p = 6", 1.5, lambda key: key == ("fit", "48", "6", "100")),
+             ("a fit of the other sizes", 1.5, lambda key: key[0] == "fit" and key not in {("fit", "48", "1", "100"), ("fit", "48", "6", "100")}),
+             ("interpolation", 1.2, lambda key: key[0] == "interpolate"),
+             ("semivariogram", 1.5, lambda key: key[0] == "semivariogram")]
+    rows = []
+    for name, most, wanted in asked:
+        ratio, case = worst(figures, wanted)
+        met = sum(figures[key].ratio <= most for key in filter(wanted, figures))
+        rows.append([name, f"{most}", f"{ratio:.2f}", case, f"{met} of {sum(map(wanted, figures))}", "" if ratio <= most else f"{ratio - most:.2f}"])
+    root = Parts(figures, 48, 1, 100).root("port")
+    rows.append(["one root", "50 ns", f"{root:.0f} ns", "", "1 of 1" if root < 50 else "0 of 1", "" if root < 50 else f"{root - 50:.0f} ns"])
+    return table(["goal", "at most", "reached, the worst", "which (call, then n, p, m as far as it has them)", "met", "missed by"], rows)
+
+
 def blocks(figures):
     """The tables of docs/SPEED.md, by the names of their blocks."""
-    makers = {"fits": fits, "interpolations": interpolations, "semivariograms": semivariograms, "growth": growth, "parts": parts, "small": small}
-    return {name: make(figures) for name, make in makers.items()}
+    makers = [goals, fits, interpolations, semivariograms, growth, parts, small]
+    return {make.__name__: make(figures) for make in makers}
