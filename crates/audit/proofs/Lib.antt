@@ -7,3 +7,4 @@ pub mod Row
 pub mod Scan
 pub mod Listed
 pub mod Bounds
+pub mod ClearRow

@@ -1,11 +1,13 @@
--- Laws of sums in turn: a sum goes on from where its first terms ended, and the same terms have the same sum. Assumes nothing.
+-- Laws of sums in turn: a sum goes on from where its first terms ended, the same terms have the same sum, and a NaN among them leaves a NaN. Assumes nothing.
 use native.Mathlib.Numerals.{add-one}
 use Prim.Native.Nat.{ℕ, zero, suc, _+_, _<_}
-use native.Mathlib.Nat.{add-zero, add-suc}
+use native.Mathlib.Nat.{add-zero, add-suc, not-suc-le-zero}
+use native.Mathlib.Decide.{decLt}
 use native.Mathlib.Omega.{arith}
 use mathlib.Core.Path.{_≡_, refl, ap, ap₂, _∙_}
-use lib.Ieee.{Float, binary64, add, sub}
+use lib.Ieee.{Float, nan, inf, fin, binary64, add, sub, mul}
 use Rattle.ieee.specs.Floats.{zeroFloat}
+use Rattle.ieee.proofs.RoundingSum.{add-nan}
 use Rattle.ieee.specs.Sums.{addEach, runningSum, lessEach}
 
 -- sums of the same terms are the same
@@ -53,3 +55,19 @@ less-on x k f (suc n) = ap (λ (m : ℕ). lessEach x m f) (add-suc k n) ∙ ap (
 pub less-turn : (x : Float) (k : ℕ) (f g h : ℕ → Float) (n : ℕ) → ((i : ℕ) → i < k → f i ≡ g i) → ((l : ℕ) → l < n → f (k + l) ≡ h l)
     → lessEach x (k + n) f ≡ lessEach (lessEach x k g) n h
 less-turn x k f g h n p q = less-on x k f n ∙ same-less _ n _ h q ∙ ap (λ (y : Float). lessEach y n h) (same-less x k f g p)
+
+-- ---- a sum with a term that is no number is none, whatever comes after
+pub none-from : (f : ℕ → Float) (k n : ℕ) → f k ≡ nan → k < n → runningSum n f ≡ nan
+unfolding addEach add
+none-from f k zero e h = absurd (not-suc-le-zero h)
+none-from f k (suc n) e h =
+    elim (decLt k n) [
+      | yes b ↦ rw (none-from f k n e b)
+      | no b ↦ let same : n ≡ k = omega arith in rw (same, e) (add-nan (runningSum k f))
+    ]
+
+pub times-none : (x : Float) → mul binary64 x nan ≡ nan
+unfolding mul
+times-none nan = refl
+times-none (inf s) = refl
+times-none (fin s m e) = refl

@@ -1,16 +1,15 @@
 -- A row of the inverse times b, term by term: where its numbers lie, one term more, and the whole row. Assumes nothing.
-use Prim.Native.Nat.{ℕ, zero, suc, _+_, _*_, _<_}
-use native.Mathlib.Nat.{not-suc-le-zero}
-use native.Mathlib.Decide.{decLt}
+use Prim.Native.Nat.{ℕ, _+_, _*_, _<_}
+use native.Mathlib.Nat.{le-refl}
 use native.Mathlib.Omega.{arith}
-use mathlib.Core.Path.{_≡_, refl, ap, _∙_}
-use mathlib.Core.List.{List, [], _∷_}
-use lib.ListN.{length, getD, set}
-use lib.Ieee.{Float, nan, inf, fin, binary64, add, mul}
+use mathlib.Core.Path.{_≡_, ap, _∙_}
+use mathlib.Core.List.{List}
+use lib.ListN.{length, getD, set, List·getD-eq-default}
+use lib.Ieee.{Float, nan, binary64, add, mul}
 use Rattle.area.specs.Area.{written}
 use Rattle.area.proofs.Start.{next-start}
-use Rattle.ieee.specs.Sums.{addEach, runningSum}
-use Rattle.ieee.proofs.Sums.{sum-turn, all-terms}
+use Rattle.ieee.specs.Sums.{runningSum}
+use Rattle.ieee.proofs.Sums.{sum-turn, all-terms, none-from, times-none}
 use Rattle.elimination.specs.Inverse.{inverseAt, timesInverse}
 
 -- term k of row i
@@ -33,40 +32,13 @@ pub whole-row : (size : ℕ) (work b : List Float) (i j : ℕ) (sum : Float) →
 unfolding timesInverse
 whole-row size work b i j sum e h = all-terms (terms size work b i) e h
 
--- no number added to a number is none
-no-number : (x : Float) → add binary64 x nan ≡ nan
-unfolding add
-no-number nan = refl
-no-number (inf s) = refl
-no-number (fin s m e) = refl
-
-times-none : (x : Float) → mul binary64 x nan ≡ nan
-unfolding mul
-times-none nan = refl
-times-none (inf s) = refl
-times-none (fin s m e) = refl
-
--- past its end a list has none
-getD-end : (xs : List Float) → getD xs (length xs) nan ≡ nan
-getD-end [] = refl
-getD-end (x ∷ xs) = getD-end xs
-
--- a sum with a term that is no number is none, whatever comes after
-pub none-from : (f : ℕ → Float) (k n : ℕ) → f k ≡ nan → k < n → runningSum n f ≡ nan
-unfolding addEach add
-none-from f k zero e h = absurd (not-suc-le-zero h)
-none-from f k (suc n) e h = elim (decLt k n) [
-      | yes b ↦ rw (none-from f k n e b)
-      | no b ↦ let same : n ≡ k = omega arith in rw (same, e) (no-number (runningSum k f))
-    ]
-
--- and so is a sum of products over a list that ends before it does
+-- a sum of products over a list that ends before it does is no number
 pub past-first : (xs ys : List Float) (n : ℕ) → length xs < n → runningSum n (λ i. mul binary64 (getD xs i nan) (getD ys i nan)) ≡ nan
 unfolding mul
-past-first xs ys n h = none-from _ (length xs) n (rw (getD-end xs)) h
+past-first xs ys n h = none-from _ (length xs) n (rw (List·getD-eq-default xs nan (le-refl (length xs)))) h
 
 pub past-second : (xs ys : List Float) (n : ℕ) → length ys < n → runningSum n (λ i. mul binary64 (getD xs i nan) (getD ys i nan)) ≡ nan
-past-second xs ys n h = none-from _ (length ys) n (rw (getD-end ys) (times-none (getD xs (length ys) nan))) h
+past-second xs ys n h = none-from _ (length ys) n (rw (List·getD-eq-default ys nan (le-refl (length ys))) (times-none (getD xs (length ys) nan))) h
 
 -- four stores more, of the next four values
 pub next-four : (k : ℕ) (f : ℕ → Float) (xs ys : List Float) (a b c d : Float) → a ≡ f k → b ≡ f (k + 1) → c ≡ f (k + 2) → d ≡ f (k + 3)
