@@ -6,7 +6,7 @@ from tools.benchmark.tables import Measured, Parts, table
 
 SIZES = [(12, 1, 25), (24, 1, 100), (24, 6, 100), (48, 1, 100), (48, 6, 100)]
 ZEROS = ("stopped", "near", "one-place")
-KINDS = ("whole", "first-row", "refused", *ZEROS)
+KINDS = ("whole", "first-row", "exact", "refused", *ZEROS)
 RUNS = {"original": "bench::kriging::original::Fit::run", "port": "bench::port::Fit::run"}
 NAMED = {"original": ["gauss_jordan_invert_uked"], "port": ["elimination::eliminate", "audit::row_met", "exact::add_products"]}
 
@@ -59,7 +59,8 @@ def small(figures):
     rows = [["one root", *(f"{at.root(side) / 1000:.0f}" for side in RUNS)],
             ["one entry of the matrix: distance, root, variogram", *(f"{at.entry(side) / 1000:.0f}" for side in RUNS)],
             ["one exact product", "", f"{product:.0f}"],
-            ["one row of an audit of 48 wells, p = 6", "", f"{of[48, 6].row():.0f}"],
+            ["one row of an audit of 48 wells that sums with rounding show, p = 6", "", f"{of[48, 6].shown_row():.0f}"],
+            ["one such row by exact sums", "", f"{of[48, 6].row():.0f}"],
             ["what is no product in it", "", f"{of[48, 6].row() - 48 * product:.0f}"]]
     for n in (12, 24, 48):
         rows.append([f"one elimination of {n + 1} rows, thousands", *(thousands(of[n, 1].elimination(side)) for side in RUNS)])

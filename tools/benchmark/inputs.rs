@@ -28,6 +28,8 @@ pub enum Kind {
     Whole,
     /// t = 0: nearly every node misses the first row of its audit, and no further row is looked at.
     FirstRow,
+    /// t = 1e-12: too little for sums with rounding to tell, so that every row is looked at by exact sums, and most are met.
+    Exact,
     /// The matrix is all zeros, so the elimination stops at its first step: assembly and nothing after it.
     Stopped,
     /// The same, with wells so close that the variogram takes its short way out: what is left of an entry is its root.
@@ -39,12 +41,13 @@ pub enum Kind {
 }
 
 impl Kind {
-    pub const ALL: [Kind; 6] = [Kind::Whole, Kind::FirstRow, Kind::Stopped, Kind::Near, Kind::OnePlace, Kind::Refused];
+    pub const ALL: [Kind; 7] = [Kind::Whole, Kind::FirstRow, Kind::Exact, Kind::Stopped, Kind::Near, Kind::OnePlace, Kind::Refused];
 
     pub fn name(self) -> &'static str {
         match self {
             Kind::Whole => "whole",
             Kind::FirstRow => "first-row",
+            Kind::Exact => "exact",
             Kind::Stopped => "stopped",
             Kind::Near => "near",
             Kind::OnePlace => "one-place",
@@ -97,7 +100,7 @@ impl Survey {
             sill: 2.0,
             range: 1.0,
             regularization: 1e-10,
-            tolerance: if kind == Kind::FirstRow { 0.0 } else { 1e-9 },
+            tolerance: match kind { Kind::FirstRow => 0.0, Kind::Exact => 1e-12, _ => 1e-9 },
         };
         if kind.is_zero() { survey.of_zeros(p) } else { survey }
     }
