@@ -31,7 +31,8 @@ module _ (z f : List Float) (fz : (i : ℕ) → T (fits binary64 (numberIn z i))
 
   dotted-value : dotted z f column width ≡ sumℤ (length z) (λ i. valueOf (numberIn z i) *ℤ valueOf (numberIn f (column + i * width)))
   unfolding dotted
-  dotted-value = sumℤ-same (length z) _ _ (λ i h. ap₂ (λ (a b : ℤ). a *ℤ b) (units-value (numberIn z i) (fz i)) (units-value (numberIn f (column + i * width)) (ff (column + i * width))))
+  dotted-value = sumℤ-same (length z) _ _ (λ i h. ap₂ (λ (a b : ℤ). a *ℤ b) (units-value (numberIn z i) (fz i)) (units-value (numberIn f
+      (column + i * width)) (ff (column + i * width))))
 
   -- t·(1 + |target|), as the whole number that it is
   allowed-value : (target t : Float) → T (fits binary64 target) → T (fits binary64 t) → valueOf t ≡ pos (multiple t)
@@ -42,12 +43,13 @@ module _ (z f : List Float) (fz : (i : ℕ) → T (fits binary64 (numberIn z i))
       ∙ pos-*ℤ-pos (multiple t) (2 ^ 1074 + multiple target)
 
   pub clear-row : (target t : Float) → T (fits binary64 target) → T (fits binary64 t)
-      → T (clearly (length z) (roundedSum (length z) (numberIn z) (λ i. numberIn f (column + i * width))) (roundedSize (length z) (numberIn z) (λ i. numberIn f (column + i * width))) target t)
+      → T (clearly (length z) (roundedSum (length z) (numberIn z) (λ i. numberIn f (column + i * width))) (roundedSize (length z) (numberIn z)
+      (λ i. numberIn f (column + i * width))) target t)
       → within t (dotted z f column width) target ≡ true
   unfolding within
   clear-row target t fg ft h =
       let w = within-clearly (length z) (numberIn z) (λ i. numberIn f (column + i * width)) fz (λ i. ff (column + i * width)) target t fg ft h in
       let left : pos (natAbs (dotted z f column width -ℤ units target *ℤ unit))
-          ≡ pos (natAbs (sumℤ (length z) (λ i. valueOf (numberIn z i) *ℤ valueOf (numberIn f (column + i * width))) -ℤ valueOf target *ℤ pos (2 ^ 1074))) =
+      ≡ pos (natAbs (sumℤ (length z) (λ i. valueOf (numberIn z i) *ℤ valueOf (numberIn f (column + i * width))) -ℤ valueOf target *ℤ pos (2 ^ 1074))) =
       ap₂ (λ (a b : ℤ). pos (natAbs (a -ℤ b *ℤ unit))) dotted-value (units-value target fg) in
       ap₂ leZ left (allowed-value target t fg ft (w .0)) ∙ is-true _ (pos-≤ℤ (w .1) .le)

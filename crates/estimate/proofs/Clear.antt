@@ -110,7 +110,12 @@ pub greater : (target : Float) → T (fits binary64 target) → Greater target (
 greater target f = go (lt oneFloat (absOf target))
   where
     go : (b : Bool) → Greater target (cond b (absOf target) oneFloat)
-    go true = record { fit = abs-fits target f; clear = abs-sign target; under = le-trans (le-of-eq (abs-multiple target)) (le-add-left (multiple target) (2 ^ 1074)) }
+    go true = record {
+      fit = abs-fits target f;
+      clear = abs-sign target;
+      under = le-trans (le-of-eq (abs-multiple target)) (le-add-left (multiple target)
+          (2 ^ 1074));
+    }
     go false = record { fit = fixed-fits .3; clear = one-sign; under = le-trans (le-of-eq one-multiple) (le-add-right (2 ^ 1074) (multiple target)) }
 
 pub like-sign : (s t : Bool) → unlike s t ≡ false → t ≡ false → s ≡ false

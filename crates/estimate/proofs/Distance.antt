@@ -10,7 +10,8 @@ far a b = natAbs (a -ℤ b)
 
 -- a - c by way of b
 through : (a b c : ℤ) → a -ℤ c ≡ (a -ℤ b) +ℤ (b -ℤ c)
-through a b c = sym (+ℤ-assoc a (negℤ b) (b -ℤ c) ∙ ap (λ (d : ℤ). a +ℤ d) (sym (+ℤ-assoc (negℤ b) b (negℤ c)) ∙ ap (λ (d : ℤ). d +ℤ negℤ c) (+ℤ-invl b) ∙ +ℤ-idl (negℤ c)))
+through a b c = sym (+ℤ-assoc a (negℤ b) (b -ℤ c) ∙ ap (λ (d : ℤ). a +ℤ d) (sym (+ℤ-assoc (negℤ b) b (negℤ c)) ∙ ap (λ (d : ℤ). d +ℤ negℤ c) (+ℤ-invl b)
+    ∙ +ℤ-idl (negℤ c)))
 
 pub far-through : (a b c : ℤ) → far a c ≤ far a b + far b c
 far-through a b c = le-trans (le-of-eq (ap natAbs (through a b c))) (natAbs-+ℤ (a -ℤ b) (b -ℤ c))

@@ -1,7 +1,8 @@
 -- How far rounding to 53 binary digits can go: a result lies within 2^-53 of itself of what was rounded, or within half of the smallest f64 above zero.
 -- Assumes nothing.
 use Prim.Native.Nat.{ℕ, zero, suc, _+_, _-_, _*_, _/_, _%_, _^_, _≤_, _<_, compare}
-use native.Mathlib.Nat.{le-trans, le-of-eq, lt-of-le-of-lt, mul-pos, mul-one, mul-assoc, mul-comm, mul-right-comm, mul-le-mul-right, mod-lt, div-add-mod', le-div-iff-mul-le, div-div-eq-div-mul}
+use native.Mathlib.Nat.{le-trans, le-of-eq, lt-of-le-of-lt, mul-pos, mul-one, mul-assoc, mul-comm, mul-right-comm, mul-le-mul-right, mod-lt, div-add-mod'}
+use native.Mathlib.Nat.{le-div-iff-mul-le, div-div-eq-div-mul}
 use native.Mathlib.Omega.{arith}
 use mathlib.Core.Path.{_≡_, refl, sym, ap, _∙_, subst}
 use lib.Pow.{pow-add, pow-pos}
@@ -26,7 +27,8 @@ kept-all n den K =
     let w = n / den in
     let deep : 52 + k < size w = omega arith in
     let a : 2 ^ 52 * 2 ^ k ≤ w = le-trans (le-of-eq (sym (pow-add 2 52 k))) (size-reaches w (52 + k) deep) in
-    le-trans (subst (λ (x : ℕ). 2 ^ 52 ≤ x) (div-div-eq-div-mul n den (2 ^ k)) (le-div-iff-mul-le (pow-pos k) .1 a)) (nearest-ge (n / u) (compare (n % u * 2) u))
+    le-trans (subst (λ (x : ℕ). 2 ^ 52 ≤ x) (div-div-eq-div-mul n den (2 ^ k)) (le-div-iff-mul-le (pow-pos k) .1 a)) (nearest-ge (n / u) (compare
+    (n % u * 2) u))
 
 -- gap is what the result is away, in units of 1 / den
 by-digits : (q w den g : ℕ) → 2 * g ≤ den * w → 2 ^ 52 ≤ q → 2 ^ 53 * g ≤ q * w * den + 2 ^ 52 * den

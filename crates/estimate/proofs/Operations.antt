@@ -158,5 +158,6 @@ multiplied x y fx fy h =
           ∙ like-apart s (multiple r * 2 ^ 1074) m;
       half =
           bound-scale (multiple r) m (2 ^ 1074) (2 ^ 1074) (pow-pos 1074)
-          (subst (λ (q : ℕ). 2 ^ 53 * gap (q * 2 ^ 2148) (m * 2 ^ 1074) ≤ q * 2 ^ 2148 + 2 ^ 52 * 2 ^ 2148) (sym is) (unit-bound (m * 2 ^ 1074) (2 ^ 2148) (pow-pos 2148)));
+          (subst (λ (q : ℕ). 2 ^ 53 * gap (q * 2 ^ 2148) (m * 2 ^ 1074) ≤ q * 2 ^ 2148 + 2 ^ 52 * 2 ^ 2148) (sym is) (unit-bound (m * 2 ^ 1074) (2 ^ 2148)
+          (pow-pos 2148)));
     }

@@ -39,10 +39,12 @@ cross x y u v k l U K L ex ey h =
     let c : y * l * k ≡ v * k * U = ap (λ (n : ℕ). n * k) ey ∙ mul-right-comm v U k in
     let d : x * (k * l) ≤ y * (k * l) =
     subst (λ (n : ℕ). n ≤ y * (k * l)) (mul-assoc x k l)
-    (subst (λ (n : ℕ). x * k * l ≤ n) (ap (λ (n : ℕ). y * n) (mul-comm l k)) (subst (λ (n : ℕ). x * k * l ≤ n) (mul-assoc y l k) (le-trans (le-of-eq b) (le-trans a (le-of-eq (sym c)))))) in
+    (subst (λ (n : ℕ). x * k * l ≤ n) (ap (λ (n : ℕ). y * n) (mul-comm l k)) (subst (λ (n : ℕ). x * k * l ≤ n) (mul-assoc y l k) (le-trans (le-of-eq b)
+    (le-trans a (le-of-eq (sym c)))))) in
     le-of-mul-le-mul-right d (mul-pos K L)
 
-pub le-multiple : (x y : Float) → T (fits binary64 x) → T (fits binary64 y) → signOf x ≡ false → T (finite x) → T (finite y) → T (le x y) → multiple x ≤ multiple y
+pub le-multiple : (x y : Float) → T (fits binary64 x) → T (fits binary64 y) → signOf x ≡ false → T (finite x) → T (finite y) → T (le x y)
+    → multiple x ≤ multiple y
 unfolding le lt eq
 le-multiple nan y fx fy s hx hy h = absurd hx
 le-multiple (inf t) y fx fy s hx hy h = absurd hx

@@ -67,7 +67,8 @@ near-to n y f h =
     (subst (λ (m : ℕ). gap (roundedTo n * 2 ^ 1074) (n * 2 ^ 1074) ≤ gap (m * 2 ^ 1074) (n * 2 ^ 1074)) (sym (c .3)) b)
   where
     plain : (r m u : ℕ) → 0 < u → gap (r * u) (n * u) ≤ gap (m * u) (n * u) → gap r n ≤ gap m n
-    plain r m u U h = le-of-mul-le-mul-right (subst (λ (x : ℕ). x ≤ gap m n * u) (gap-scale r n u) (subst (λ (x : ℕ). gap (r * u) (n * u) ≤ x) (gap-scale m n u) h)) U
+    plain r m u U h = le-of-mul-le-mul-right (subst (λ (x : ℕ). x ≤ gap m n * u) (gap-scale r n u) (subst (λ (x : ℕ). gap (r * u) (n * u) ≤ x)
+        (gap-scale m n u) h)) U
 
 -- what is not below an f64 is not rounded to below it
 pub rounded-above : (n : ℕ) (y : Float) → T (fits binary64 y) → T (finite y) → multiple y ≤ n → multiple y ≤ roundedTo n

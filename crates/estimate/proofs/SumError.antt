@@ -116,7 +116,8 @@ module _ (z x : ℕ → Float) (fz : (i : ℕ) → T (fits binary64 (z i))) (fx 
       ∙ ap (λ (q : ℕ). multiple A + q) (abs-multiple t) in
       let is : multiple A' ≡ roundedTo (multiple A + multiple t) = a .is ∙ ap roundedTo whole in
       let above-size : multiple A ≤ multiple A' =
-      subst (λ (r : ℕ). multiple A ≤ r) (sym is) (rounded-above (multiple A + multiple t) A fA (add-left A (absOf t) hA) (le-add-right (multiple A) (multiple t))) in
+      subst (λ (r : ℕ). multiple A ≤ r) (sym is) (rounded-above (multiple A + multiple t) A fA (add-left A (absOf t) hA) (le-add-right (multiple A)
+      (multiple t))) in
       let above-term : multiple t ≤ multiple A' =
       subst (λ (r : ℕ). multiple t ≤ r) (sym is) (rounded-above (multiple A + multiple t) t ft ht (le-add-left (multiple t) (multiple A))) in
       let order : natAbs v ≤ multiple A + multiple t =
@@ -127,16 +128,16 @@ module _ (z x : ℕ → Float) (fz : (i : ℕ) → T (fits binary64 (z i))) (fx 
       subst (λ (r : ℕ). 2 ^ 53 * gap r (natAbs v) ≤ r + 2 ^ 52) (sym (c .is)) (half-to (natAbs v)) in
       let path = far-through (valueOf s' *ℤ pos U) (v *ℤ pos U) (S +ℤ valueOf (z k) *ℤ valueOf (x k)) in
       let first = far-scale (valueOf s') v U ∙ ap (λ (q : ℕ). q * U) (c .away) in
-      let second : far (v *ℤ pos U) (S +ℤ valueOf (z k) *ℤ valueOf (x k)) ≤ far (valueOf s *ℤ pos U) S + gap (multiple t * U) (multiple (z k) * multiple (x k)) =
+      let second : far (v *ℤ pos U) (S +ℤ valueOf (z k) *ℤ valueOf (x k)) ≤ far (valueOf s *ℤ pos U) S + gap (multiple t * U) (multiple (z k) * multiple
+      (x k)) =
       subst (λ (q : ℕ). far (v *ℤ pos U) (S +ℤ valueOf (z k) *ℤ valueOf (x k)) ≤ far (valueOf s *ℤ pos U) S + q) (m .away)
       (subst (λ (w : ℤ). far w (S +ℤ valueOf (z k) *ℤ valueOf (x k)) ≤ far (valueOf s *ℤ pos U) S + far (valueOf t *ℤ pos U) (valueOf (z k) *ℤ valueOf (x k)))
       (sym (+ℤ-*ℤ (valueOf s) (valueOf t) (pos U)))
-      (far-sum (valueOf s *ℤ pos U) (valueOf t *ℤ pos U) S (valueOf (z k) *ℤ valueOf (x k)))) in
-      (
+      (far-sum (valueOf s *ℤ pos U) (valueOf t *ℤ pos U) S (valueOf (z k) *ℤ valueOf (x k)))) in (
         less,
         le-trans (mul-le-mul-left (2 ^ 53) (join _ _ _ (gap (multiple s') (natAbs v)) (far (valueOf s *ℤ pos U) S) _ U path first second))
-        (more k (multiple A) (multiple A') (multiple s') (multiple t) (far (valueOf s *ℤ pos U) S) (gap (multiple t * U) (multiple (z k) * multiple (x k)))
-        (gap (multiple s') (natAbs v)) U above-size less above-term sums (m .half) error),
+            (more k (multiple A) (multiple A') (multiple s') (multiple t) (far (valueOf s *ℤ pos U) S) (gap (multiple t * U) (multiple (z k) * multiple (x k)))
+            (gap (multiple s') (natAbs v)) U above-size less above-term sums (m .half) error),
       )
 
   pub bounded : (k : ℕ) → T (finite (roundedSize k z x)) → T (finite (roundedSum k z x)) → Bounded k

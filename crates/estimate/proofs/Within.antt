@@ -21,7 +21,8 @@ use Rattle.estimate.proofs.Operations.{add-left, add-right, mul-left, m
 use Rattle.estimate.proofs.Distance.{far, far-back, far-through, far-scale}
 use Rattle.estimate.proofs.SumError.{abs-multiple, abs-fits, Bounded, bounded, sum-fits, size-fits}
 use Rattle.estimate.proofs.Order.{le-multiple, above-least}
-use Rattle.estimate.proofs.Clear.{upper, lower, small-error, small-miss, together, finite-below, times-clear, share-clear, fixed-fits, Greater, greater, like-sign}
+use Rattle.estimate.proofs.Clear.{upper, lower, small-error, small-miss, together, finite-below, times-clear, share-clear, fixed-fits, Greater, greater}
+use Rattle.estimate.proofs.Clear.{like-sign}
 use Rattle.estimate.proofs.Clear.{sixteen-multiple, share-multiple, least-large, least-clear, sixteenfold, Asked, asked}
 
 -- the difference from the target, as the sum that it is
@@ -32,8 +33,7 @@ missed-is s target fs ft h =
     let r = add binary64 s (neg target) in
     let a = added s (neg target) fs (neg-fits binary64 target ft) h in
     let w = natAbs (valueOf s +ℤ valueOf (neg target)) in
-    let b : 2 ^ 53 * gap (multiple r) w ≤ multiple r + 2 ^ 52 * 1 = subst (λ (q : ℕ). 2 ^ 53 * gap q w ≤ q + 2 ^ 52) (sym (a .is)) (half-to w) in
-    (
+    let b : 2 ^ 53 * gap (multiple r) w ≤ multiple r + 2 ^ 52 * 1 = subst (λ (q : ℕ). 2 ^ 53 * gap q w ≤ q + 2 ^ 52) (sym (a .is)) (half-to w) in (
       add-left s (neg target) h,
       subst (λ (v : ℤ). natAbs (valueOf s +ℤ v) ≤ 2 * multiple r + 1) (neg-value target) (upper (multiple r) w 1 b),
     )
@@ -45,7 +45,8 @@ pub record Allowed (t target : Float) : Type 0 where
   pub margin-under : multiple (margin t target) * 2 ^ 1074 ≤ 2 * (multiple t * multiple (maxOf (absOf target) oneFloat)) + 2 ^ 1074
   pub under : multiple t * multiple (maxOf (absOf target) oneFloat) ≤ multiple t * (2 ^ 1074 + multiple target)
 
-allowed : (t target : Float) → T (fits binary64 t) → T (fits binary64 target) → T (finite (margin t target)) → T (le leastMargin (margin t target)) → Allowed t target
+allowed : (t target : Float) → T (fits binary64 t) → T (fits binary64 target) → T (finite (margin t target)) → T (le leastMargin (margin t target))
+    → Allowed t target
 unfolding margin
 allowed t target ft fg h l =
     let m = maxOf (absOf target) oneFloat in
@@ -66,7 +67,7 @@ unfolding margin
 margin-fits t target = mul-fits binary64 t (maxOf (absOf target) oneFloat)
 
 module _ (n : ℕ) (z x : ℕ → Float) (fz : (i : ℕ) → T (fits binary64 (z i))) (fx : (i : ℕ) → T (fits binary64 (x i)))
-  (target t : Float) (fg : T (fits binary64 target)) (ft : T (fits binary64 t)) where
+    (target t : Float) (fg : T (fits binary64 target)) (ft : T (fits binary64 t)) where
   pub within-clearly : T (clearly n (roundedSum n z x) (roundedSize n z x) target t)
       → (valueOf t ≡ pos (multiple t))
       × (natAbs (sumℤ n (λ i. valueOf (z i) *ℤ valueOf (x i)) -ℤ valueOf target *ℤ pos (2 ^ 1074)) ≤ multiple t * (2 ^ 1074 + multiple target))
@@ -99,8 +100,10 @@ module _ (n : ℕ) (z x : ℕ → Float) (fz : (i : ℕ) → T (fits binary64 (z
       (upper (multiple c * U) (multiple A * multiple share) U (pc .half)) c-under in
       let near = small-miss (far (valueOf s) (valueOf target)) (multiple r) (multiple q) (multiple m) U (w .1)
       (sixteenfold (multiple sixteen) (multiple r) (multiple q) U sixteen-multiple
-      (subst (λ (d : ℕ). multiple sixteen * d ≤ 2 * (multiple q * U) + U) (abs-multiple r) (upper (multiple q * U) (multiple sixteen * multiple (absOf r)) U (pq .half)))) q-under in
-      let all = together e (far (valueOf s) (valueOf target)) (multiple m) (multiple t * multiple (maxOf (absOf target) oneFloat)) U small near (a .margin-under) (a .large) in
+      (subst (λ (d : ℕ). multiple sixteen * d ≤ 2 * (multiple q * U) + U) (abs-multiple r) (upper (multiple q * U) (multiple sixteen * multiple
+      (absOf r)) U (pq .half)))) q-under in
+      let all = together e (far (valueOf s) (valueOf target)) (multiple m) (multiple t * multiple (maxOf (absOf target) oneFloat)) U small near
+      (a .margin-under) (a .large) in
       let path = far-through S (valueOf s *ℤ pos U) (valueOf target *ℤ pos U) in
       let parts : far S (valueOf s *ℤ pos U) + far (valueOf s *ℤ pos U) (valueOf target *ℤ pos U) ≡ e + far (valueOf s) (valueOf target) * U =
       ap₂ (λ (p q : ℕ). p + q) (far-back S (valueOf s *ℤ pos U)) (far-scale (valueOf s) (valueOf target) U) in

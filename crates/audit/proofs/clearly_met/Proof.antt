@@ -13,7 +13,8 @@ use Rattle.audit.proofs.clearly_met.Statement.{statement}
 use Rattle.audit.proofs.clearly_met.Tie as tie
 
 -- the margin as the code has it, and the verdict by its six tests
-by-tests : (n : ℕ) (sum size target t m d : Float) (a b c e f g : Bool) → m ≡ margin t target → d ≡ absOf (sub binary64 sum target) → leb n 1024 ≡ a → finite m ≡ b
+by-tests : (n : ℕ) (sum size target t m d : Float) (a b c e f g : Bool) → m ≡ margin t target → d ≡ absOf (sub binary64 sum target) → leb n 1024 ≡ a
+    → finite m ≡ b
     → finite size ≡ c → le leastMargin m ≡ e → le (mul binary64 sixteen d) m ≡ f → le (mul binary64 size share) m ≡ g
     → clearly n sum size target t ≡ (a && (b && (c && (e && (f && g)))))
 unfolding clearly
@@ -26,7 +27,8 @@ at-margin c = c .before
 abbrev at-first : tie.Else3 → tie.Else1
 at-first c = c .before .before .before .before
 
-margin-is : (c : tie.After-max) → mul binary64 (c .before .before .args .tolerance) (c .max .result) ≡ margin (c .before .before .args .tolerance) (c .before .before .args .target)
+margin-is : (c : tie.After-max) → mul binary64 (c .before .before .args .tolerance) (c .max .result) ≡ margin (c .before .before .args .tolerance)
+    (c .before .before .args .target)
 unfolding margin
 margin-is c =
     let a = c .before .before .args in
@@ -36,7 +38,8 @@ margin-is c =
 few : (c : tie.Else1) → leb (c .before .before .before .args .n) 1024 ≡ true
 few c = le-leb _ _ (c .if1 .left)
 
-finite-margin : (c : tie.Else2) → finite (mul binary64 (c .before .before .before .before .before .args .tolerance) (c .before .before .before .max .result)) ≡ true
+finite-margin : (c : tie.Else2) → finite (mul binary64 (c .before .before .before .before .before .args .tolerance)
+    (c .before .before .before .max .result)) ≡ true
 finite-margin c = sym (c .before .is-finite .ensures) ∙ not-false (c .before .is-finite .result) (c .if2 .left)
 
 finite-size : (c : tie.Else3) → finite (at-first c .before .before .before .args .sums .size) ≡ true
@@ -55,7 +58,8 @@ returns : tie.Need-returns
 returns c =
     let m = c .before in
     let a = m .before .before .args in
-    sym (by-tests (a .n) (a .sums .sum) (a .sums .size) (a .target) (a .tolerance) _ _ false _ _ _ _ _ (margin-is m) refl (lt-leb _ _ (c .if1 .taken)) refl refl refl refl refl)
+    sym (by-tests (a .n) (a .sums .sum) (a .sums .size) (a .target) (a .tolerance) _ _ false _ _ _ _ _ (margin-is m) refl (lt-leb _ _
+    (c .if1 .taken)) refl refl refl refl refl)
 
 -- src/lib.rt:93:9
 is-finite-requires : tie.Need-is-finite-requires
@@ -105,7 +109,8 @@ returns-5 c =
     let e = l .before in
     let m = at-margin (at-first e) in
     let a = m .before .before .args in
-    sym (by-tests (a .n) (a .sums .sum) (a .sums .size) (a .target) (a .tolerance) _ _ true true true true false _ (margin-is m) (d .abs2 .ensures) (few (at-first e))
+    sym (by-tests (a .n) (a .sums .sum) (a .sums .size) (a .target) (a .tolerance) _ _ true true true true false _ (margin-is m) (d .abs2 .ensures) (few
+    (at-first e))
     (finite-margin (e .before .before)) (finite-size e) (not-false _ (l .if4 .left)) (not-true _ (c .if5 .taken)) refl)
 
 -- src/lib.rt:86:1
@@ -117,7 +122,8 @@ returns-6 c =
     let e = l .before in
     let m = at-margin (at-first e) in
     let a = m .before .before .args in
-    sym (by-tests (a .n) (a .sums .sum) (a .sums .size) (a .target) (a .tolerance) _ _ true true true true true _ (margin-is m) (d .abs2 .ensures) (few (at-first e))
+    sym (by-tests (a .n) (a .sums .sum) (a .sums .size) (a .target) (a .tolerance) _ _ true true true true true _ (margin-is m) (d .abs2 .ensures) (few
+    (at-first e))
     (finite-margin (e .before .before)) (finite-size e) (not-false _ (l .if4 .left)) (not-false _ (q .if5 .left)) refl)
 
 pub clearly-met-spec : {M : Type 1} → statement M

@@ -84,7 +84,8 @@ loop-again c =
     let l = g .loop in
     let a = g .before .before .before .args in
     let at : l .at ≡ a .column + l .i * a .width = l .inv .2 in
-    let is : mul binary64 (getD (a .weights .now) (l .i) nan) (getD (a .numbers .now) (l .at) nan) ≡ terms (a .weights .now) (a .numbers .now) (a .column) (a .width) (l .i) =
+    let is : mul binary64 (getD (a .weights .now) (l .i) nan) (getD (a .numbers .now) (l .at) nan) ≡ terms (a .weights .now) (a .numbers .now) (a .column)
+    (a .width) (l .i) =
     ap (λ (p : ℕ). mul binary64 (getD (a .weights .now) (l .i) nan) (getD (a .numbers .now) p nan)) at in (
       omega arith,
       refl,

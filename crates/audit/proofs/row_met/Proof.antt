@@ -25,8 +25,10 @@ returns c =
     let k = c .before .before .before in
     let s = k .before .before in
     let a = s .args in
-    let shown = sym (ap₂ (λ (x y : Float). clearly (length (a .weights .now)) x y (a .target) (a .tolerance)) (r .ensures .0) (r .ensures .1)) ∙ sym (m .ensures) ∙ c .if1 .taken in
-    sym (clear-row (a .weights .now) (a .numbers .now) (k .before .shared-slice-known .given) (k .shared-slice-known2 .given) (a .column) (a .width) (a .target) (a .tolerance)
+    let shown = sym (ap₂ (λ (x y : Float). clearly (length (a .weights .now)) x y (a .target) (a .tolerance)) (r .ensures .0) (r .ensures .1))
+    ∙ sym (m .ensures) ∙ c .if1 .taken in
+    sym (clear-row (a .weights .now) (a .numbers .now) (k .before .shared-slice-known .given) (k .shared-slice-known2 .given) (a .column) (a .width)
+    (a .target) (a .tolerance)
     (holds (fits binary64 (a .target)) (s .good .1 .1 .1 .1 .0 .1)) (holds (fits binary64 (a .tolerance)) (s .good .1 .1 .1 .1 .1 .0 .1))
     (holds _ shown))
 
