@@ -10,7 +10,7 @@ use lib.ListN.{getD, set}
 use lib.Ieee.{Float, nan, binary64, sub, mul}
 use Rattle.area.specs.Area.{written}
 use Rattle.area.proofs.Turns.{getD-past}
-use Rattle.area.proofs.Places.{other-place, same-values, set-written, written-add}
+use Rattle.area.proofs.Places.{next, other-place, same-values, set-written, written-add}
 use Rattle.area.proofs.Rows.{apart, row-end}
 use Rattle.elimination.specs.Elimination.{at, reduced}
 use Rattle.elimination.specs.Parts.{lessened}
@@ -31,6 +31,16 @@ own-entry w k j f xs ys h = rw h (getD-past (k * w) j f xs (k * w + j) nan (omeg
 other-entry : (w i k j : ℕ) (f : ℕ → Float) (xs ys : List Float) → i ≢ k → j < w → ys ≡ written (k * w) j f xs → at w ys i j ≡ at w xs i j
 other-entry w i k j f xs ys n b h = rw h (other-place (k * w) j f xs (i * w + j) nan (λ a c. apart w i k j a n b (omega arith)))
 
+-- a fill, and m numbers more
+pub fill-more : (start k m : ℕ) {n : ℕ} (f g : ℕ → Float) (xs ys zs : List Float) → k + m ≡ n → ((c : ℕ) → c < m → g c ≡ f (k + c))
+    → ys ≡ written start k f xs → zs ≡ written (start + k) m g ys → zs ≡ written start n f xs
+fill-more start k m f g xs ys zs e same h i =
+    i
+    ∙ same-values (start + k) m g (λ c. f (k + c)) ys same
+    ∙ ap (λ (us : List Float). written (start + k) m (λ c. f (k + c)) us) h
+    ∙ sym (written-add start k m f xs)
+    ∙ ap (λ (n : ℕ). written start n f xs) e
+
 -- ---- a row cleared part by part
 module _ (w i k : ℕ) (factor : Float) (xs : List Float) where
   -- m numbers more: what they are made of is as it was
@@ -44,10 +54,7 @@ module _ (w i k : ℕ) (factor : Float) (xs : List Float) where
       rw (h, add-assoc (k * w) j c) (getD-past (k * w) j f xs (k * w + (j + c)) nan (omega arith)) in
       let other : (c : ℕ) → c < m → getD ys (i * w + j + c) nan ≡ at w xs i (j + c) = λ c l.
       rw (h, add-assoc (i * w) j c) (other-place (k * w) j f xs (i * w + (j + c)) nan (λ a d. apart w i k (j + c) a n (omega arith) (omega arith))) in
-      g
-      ∙ same-values (k * w + j) m _ (λ c. f (j + c)) ys (λ c l. rw (own c l, other c l))
-      ∙ ap (λ (us : List Float). written (k * w + j) m (λ c. f (j + c)) us) h
-      ∙ sym (written-add (k * w) j m f xs)
+      fill-more (k * w) j m f _ xs ys zs refl (λ c l. rw (own c l, other c l)) h g
 
   -- so many numbers by another name
   pub lessened-as : {m n : ℕ} {ys : List Float} → m ≡ n → ys ≡ lessened m (i * w) (k * w) factor xs → ys ≡ lessened n (i * w) (k * w) factor xs
@@ -77,3 +84,10 @@ pub swap-all : (w i r : ℕ) {j k : ℕ} (xs : List Float) {ys : List Float} →
     → ys ≡ written (r * w) j (at w xs i) (written (i * w) j (at w xs r) xs)
     → ys ≡ written (r * w) k (at w xs i) (written (i * w) k (at w xs r) xs)
 swap-all w i r xs e h = h ∙ ap (λ (n : ℕ). written (r * w) n (at w xs i) (written (i * w) n (at w xs r) xs)) e
+
+-- what the rows above row i hold in column i is as it was
+pub mirror-turn : (w i j : ℕ) (xs ys : List Float) → j < i → i < w → ys ≡ written (i * w) j (λ c. at w xs c i) xs
+    → set ys (i * w + j) (at w ys j i) ≡ written (i * w) (j + 1) (λ c. at w xs c i) xs
+mirror-turn w i j xs ys b l h =
+    let f : ℕ → Float = λ c. at w xs c i in
+    next (i * w) j f xs ys (at w ys j i) (rw h (other-place (i * w) j f xs (j * w + i) nan (λ a c. apart w j i i a (omega arith) l (omega arith)))) h
