@@ -8,12 +8,14 @@ use mathlib.Core.Logic.{_≢_}
 use mathlib.Core.Bool.{cond}
 use mathlib.Core.List.{List}
 use lib.Dec.{eqb}
-use lib.ListN.{set}
+use lib.ListN.{length, set}
 use lib.Seq.{set-set, set-comm}
-use lib.Ieee.{Float}
+use lib.Ieee.{Float, nan}
 use borrow.Author.Tests.{eq-eqb, ne-eqb}
-use Rattle.area.specs.Area.{written}
+use Rattle.area.specs.Area.{written, filled}
 use Rattle.area.proofs.Places.{next, same-values}
+use Rattle.area.proofs.Rows.{row-end}
+use Rattle.area.proofs.Filled.{entry}
 use Rattle.ieee.specs.Floats.{zeroFloat, oneFloat}
 use Rattle.elimination.specs.Elimination.{at}
 use Rattle.elimination.specs.Inverse.{besideIdentity}
@@ -77,3 +79,10 @@ module _ (s : ℕ) (matrix : ℕ → ℕ → Float) (i : ℕ) where
       let left : zs ≡ written row s all xs =
       fill-more row i (s - i) {n = s} all _ xs ys zs (omega arith) (λ c l. beside-left s matrix i (i + c) (omega arith) refl) first g in
       fill-more row s s {n = 2 * s} all _ xs zs ws (omega arith) (λ j l. beside-right j) left h
+
+-- where the rows before row i are filled, they hold in column i the matrix's entries
+pub laid-above : (s : ℕ) (matrix : ℕ → ℕ → Float) (xs ys : List Float) (i j : ℕ) → 2 * s * s ≤ length xs → i < s → j < i
+    → ys ≡ filled (2 * s) i (besideIdentity s matrix) xs → at (2 * s) ys j i ≡ matrix j i
+laid-above s matrix xs ys i j long b l h =
+    rw h (entry (2 * s) i (besideIdentity s matrix) xs j i nan (omega (arith, row-end (2 * s) i s b)) l (omega arith))
+    ∙ sym (beside-left s matrix j i b refl)
