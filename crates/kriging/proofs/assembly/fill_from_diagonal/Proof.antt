@@ -68,13 +68,14 @@ loop-again c =
     let h = c .before .before in
     let l = h .loop in
     let a = at-entry h .args in
+    let row = a .i * (2 * (a .n + a .p)) in
     let e = matrix (a .coords .now) (a .options) (a .drift .now) (a .n) (a .p) (a .i) in (
       omega arith,
       omega arith,
       refl,
       refl,
       simp length-set (l .inv .4),
-      next-from (a .i * (2 * (a .n + a .p))) (a .i) (l .j) e (a .work .now) (l .work) (c .matrix-entry .result) (l .inv .0) (c .matrix-entry .ensures) (l .inv .5),
+      next-from row (a .i) (l .j) e (a .work .now) (l .work) (c .matrix-entry .result) (l .inv .0) (c .matrix-entry .ensures) (l .inv .5),
     )
 
 -- fn fill_from_diagonal(
