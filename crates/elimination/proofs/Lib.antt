@@ -11,3 +11,4 @@ pub mod Laid
 pub mod Call
 pub mod Agree
 pub mod Beside
+pub mod RowParts

@@ -1,11 +1,14 @@
 // Gauss–Jordan elimination on a lent work area, which holds the matrix beside the identity: `size` rows of 2 * size numbers, row after row.
 // The Rust has it twice: the fit's skips a row whose factor is zero, the interpolator's does not. On zeros with a sign and on NaNs the two differ.
+pub mod layout; // layout.rt: a row of the matrix beside the identity
+
 ghost use mathlib.Core.Path.{_≡_};
 ghost use mathlib.Core.Bool.{true, false};
 ghost use Prim.Native.Nat.{_+_, _*_, _≤_, _<_};
 ghost use lib.ListN.{length};
 ghost use lib.Dec.{ltb};
 ghost use Rattle.elimination.specs.Elimination.{hold, swapped, divided, reduced, cleared, outcomeOf, eliminated};
+ghost use Rattle.elimination.specs.Parts.{lessened};
 
 // How an elimination ends.
 pub enum Elimination {
@@ -120,20 +123,50 @@ fn clear_others(work: &mut [f64], size: usize, i: usize, skip: bool)
         if k != i {
             let factor = work[k * width + i];
             if !skip || factor != 0.0 {
-                clear_row(work, width, i, k, factor);
+                clear_row(work, size, i, k, factor);
             }
         }
     }
 }
 
-// Row `k` less `factor` times row `i`.
-fn clear_row(work: &mut [f64], width: usize, i: usize, k: usize, factor: f64)
-    requires { ⌜ (i ≡ k → ⊥) × (i * width + width ≤ length (now work)) × (k * width + width ≤ length (now work)) ⌝ }
-    ensures { λ _. ⌜ now (work .exit) ≡ reduced width i k factor (now (work .entry)) ⌝ }
+// Row `k` less `factor` times row `i`: four numbers a turn and, where `size` is odd, the two that are left.
+fn clear_row(work: &mut [f64], size: usize, i: usize, k: usize, factor: f64)
+    requires { ⌜ (i ≡ k → ⊥) × (i * (2 * size) + 2 * size ≤ length (now work)) × (k * (2 * size) + 2 * size ≤ length (now work)) ⌝ }
+    ensures { λ _. ⌜ now (work .exit) ≡ reduced (2 * size) i k factor (now (work .entry)) ⌝ }
 {
-    let row = i * width;
-    let other = k * width;
-    for j in 0..width {
-        work[other + j] -= factor * work[row + j];
+    let row = i * (2 * size);
+    let other = k * (2 * size);
+    for turn in 0..size / 2 {
+        clear_four(work, row + 4 * turn, other + 4 * turn, factor);
     }
+    if size % 2 == 1 {
+        clear_two(work, row + 2 * (size - 1), other + 2 * (size - 1), factor);
+    }
+}
+
+// The four numbers from place `other` on, each less `factor` times the one as far from place `row`.
+// All are read before one is written: so the compiler takes two at once, and need not ask whether the rows overlap.
+fn clear_four(work: &mut [f64], row: usize, other: usize, factor: f64)
+    requires { ⌜ (row + 4 ≤ length (now work)) × (other + 4 ≤ length (now work)) ⌝ }
+    ensures { λ _. ⌜ now (work .exit) ≡ lessened 4 row other factor (now (work .entry)) ⌝ }
+{
+    let a = work[other] - factor * work[row];
+    let b = work[other + 1] - factor * work[row + 1];
+    let c = work[other + 2] - factor * work[row + 2];
+    let d = work[other + 3] - factor * work[row + 3];
+    work[other] = a;
+    work[other + 1] = b;
+    work[other + 2] = c;
+    work[other + 3] = d;
+}
+
+// The same of two numbers.
+fn clear_two(work: &mut [f64], row: usize, other: usize, factor: f64)
+    requires { ⌜ (row + 2 ≤ length (now work)) × (other + 2 ≤ length (now work)) ⌝ }
+    ensures { λ _. ⌜ now (work .exit) ≡ lessened 2 row other factor (now (work .entry)) ⌝ }
+{
+    let a = work[other] - factor * work[row];
+    let b = work[other + 1] - factor * work[row + 1];
+    work[other] = a;
+    work[other + 1] = b;
 }

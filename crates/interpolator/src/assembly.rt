@@ -2,12 +2,14 @@
 use crate::KrigingInterpolator;
 use crate::trend::trend_term;
 use elimination::Elimination;
+use elimination::layout::identity_row;
+use elimination::layout::mirror_row;
 use variogram::Variogram;
 ghost use mathlib.Core.Path.{_≡_};
 ghost use mathlib.Core.Bool.{false};
-ghost use Prim.Native.Nat.{_+_, _*_, _^_, _≤_, _<_};
-ghost use lib.ListN.{length};
-ghost use lib.Ieee.{binary64, sub};
+ghost use Prim.Native.Nat.{ℕ, _+_, _-_, _*_, _≤_, _<_};
+ghost use lib.ListN.{length, getD};
+ghost use lib.Ieee.{nan, binary64, sub};
 ghost use Rattle.area.specs.Area.{written};
 ghost use Rattle.variogram.specs.Model.{semivariance};
 ghost use Rattle.variogram.specs.Distance.{distance};
@@ -72,31 +74,8 @@ fn matrix_entry(
     0.0
 }
 
-// The entry in row i and column j of the matrix beside the identity.
-fn entry_beside(
-    interpolator: KrigingInterpolator,
-    values: &[f64],
-    points: &[f64],
-    d: usize,
-    size: usize,
-    i: usize,
-    j: usize,
-) -> f64
-    requires { ⌜ (i < size) × (2 * size < 2 ^ 64) × (size ≡ length (now values) + added (interpolator .«kriging_type»))
-        × (interpolator .«kriging_type» ≡ Universal → 2 ≤ d) × (length (now values) * d ≤ length (now points)) ⌝ }
-    ensures { λ r. ⌜ r ≡ besideIdentity size (entry (known interpolator (now (values .entry)) (now (points .entry)) d)) i j ⌝ }
-{
-    if j < size {
-        return matrix_entry(interpolator, values, points, d, i, j);
-    }
-    if j == size + i {
-        return 1.0;
-    }
-    0.0
-}
-
-// Row i of the matrix, and of the identity beside it.
-fn fill_matrix_row(
+// Row i of the matrix, from the diagonal on.
+fn fill_from_diagonal(
     interpolator: KrigingInterpolator,
     values: &[f64],
     points: &[f64],
@@ -107,14 +86,35 @@ fn fill_matrix_row(
 )
     requires { ⌜ (i < size) × (size ≡ length (now values) + added (interpolator .«kriging_type»)) × (interpolator .«kriging_type» ≡ Universal → 2 ≤ d)
         × (length (now values) * d ≤ length (now points)) × (i * (2 * size) + 2 * size ≤ length (now work)) ⌝ }
+    ensures { λ _. ⌜ now (work .exit) ≡ written (i * (2 * size) + i) (size - i)
+        (λ c. entry (known interpolator (now (values .entry)) (now (points .entry)) d) i (i + c)) (now (work .entry)) ⌝ }
+{
+    let row = i * (2 * size);
+    for j in i..size {
+        work[row + j] = matrix_entry(interpolator, values, points, d, i, j);
+    }
+}
+
+// Row i of the matrix, and of the identity beside it. The matrix is its own transpose, to the bit: before the diagonal
+// stands what the rows above, which are filled, hold in column i, so that no variogram is evaluated twice.
+fn fill_matrix_row(
+    interpolator: KrigingInterpolator,
+    values: &[f64],
+    points: &[f64],
+    d: usize,
+    size: usize,
+    i: usize,
+    work: &mut [f64],
+)
+    requires { ⌜ (i < size) × (size ≡ length (now values) + added (interpolator .«kriging_type»)) × (interpolator .«kriging_type» ≡ Universal → 2 ≤ d)
+        × (length (now values) * d ≤ length (now points)) × (i * (2 * size) + 2 * size ≤ length (now work))
+        × ((j : ℕ) → j < i → getD (now work) (j * (2 * size) + i) nan ≡ entry (known interpolator (now values) (now points) d) j i) ⌝ }
     ensures { λ _. ⌜ now (work .exit) ≡ written (i * (2 * size)) (2 * size)
         (besideIdentity size (entry (known interpolator (now (values .entry)) (now (points .entry)) d)) i) (now (work .entry)) ⌝ }
 {
-    let width = 2 * size;
-    let row = i * width;
-    for j in 0..width {
-        work[row + j] = entry_beside(interpolator, values, points, d, size, i, j);
-    }
+    mirror_row(work, size, i);
+    fill_from_diagonal(interpolator, values, points, d, size, i, work);
+    identity_row(work, size, i);
 }
 
 // The matrix beside the identity.

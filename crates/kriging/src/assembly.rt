@@ -1,7 +1,9 @@
 // The matrix of a fit beside the identity, in the lent work area.
+use elimination::layout::identity_row;
+use elimination::layout::mirror_row;
 use survey::UniversalKrigingOptions;
 ghost use mathlib.Core.Path.{_≡_};
-ghost use Prim.Native.Nat.{_+_, _*_, _^_, _≤_, _<_};
+ghost use Prim.Native.Nat.{ℕ, _+_, _-_, _*_, _≤_, _<_};
 ghost use lib.ListN.{length, getD};
 ghost use lib.Ieee.{nan};
 ghost use Rattle.area.specs.Area.{written};
@@ -25,7 +27,7 @@ fn gamma(coords: &[f64], options: UniversalKrigingOptions, i: usize, j: usize) -
     options.variogram.evaluate(h)
 }
 
-// The entry in row i and column j of the matrix, where F lies row after row in `drift`.
+// The entry in row i and column j of the matrix, on the diagonal or past it, where F lies row after row in `drift`.
 fn matrix_entry(
     coords: &[f64],
     options: UniversalKrigingOptions,
@@ -35,46 +37,20 @@ fn matrix_entry(
     i: usize,
     j: usize,
 ) -> f64
-    requires { ⌜ (i < n + p) × (j < n + p) × (2 * n ≤ length (now coords)) × (n * p ≤ length (now drift)) ⌝ }
+    requires { ⌜ (i ≤ j) × (j < n + p) × (2 * n ≤ length (now coords)) × (n * p ≤ length (now drift)) ⌝ }
     ensures { λ r. ⌜ r ≡ joined n (between options (now (coords .entry))) (λ i j. getD (now (drift .entry)) (i * p + j) nan) i j ⌝ }
 {
+    if j < n {
+        return gamma(coords, options, i, j);
+    }
     if i < n {
-        if j < n {
-            return gamma(coords, options, i, j);
-        }
         return drift[i * p + (j - n)];
     }
-    if j < n {
-        return drift[j * p + (i - n)];
-    }
     0.0
 }
 
-// The entry in row i and column j of the matrix beside the identity.
-fn entry_beside(
-    coords: &[f64],
-    options: UniversalKrigingOptions,
-    drift: &[f64],
-    n: usize,
-    p: usize,
-    i: usize,
-    j: usize,
-) -> f64
-    requires { ⌜ (i < n + p) × (2 * (n + p) < 2 ^ 64) × (2 * n ≤ length (now coords)) × (n * p ≤ length (now drift)) ⌝ }
-    ensures { λ r. ⌜ r ≡ besideIdentity (n + p) (joined n (between options (now (coords .entry))) (λ i j. getD (now (drift .entry)) (i * p + j) nan)) i j ⌝ }
-{
-    let size = n + p;
-    if j < size {
-        return matrix_entry(coords, options, drift, n, p, i, j);
-    }
-    if j == size + i {
-        return 1.0;
-    }
-    0.0
-}
-
-// Row i of the matrix, and of the identity beside it.
-fn fill_matrix_row(
+// Row i of the matrix, from the diagonal on.
+fn fill_from_diagonal(
     coords: &[f64],
     options: UniversalKrigingOptions,
     drift: &[f64],
@@ -84,15 +60,39 @@ fn fill_matrix_row(
     work: &mut [f64],
 )
     requires { ⌜ (i < n + p) × (2 * n ≤ length (now coords)) × (n * p ≤ length (now drift)) × (i * (2 * (n + p)) + 2 * (n + p) ≤ length (now work)) ⌝ }
+    ensures { λ _. ⌜ now (work .exit) ≡ written (i * (2 * (n + p)) + i) (n + p - i)
+        (λ c. joined n (between options (now (coords .entry))) (λ i j. getD (now (drift .entry)) (i * p + j) nan) i (i + c))
+        (now (work .entry)) ⌝ }
+{
+    let size = n + p;
+    let row = i * (2 * size);
+    for j in i..size {
+        work[row + j] = matrix_entry(coords, options, drift, n, p, i, j);
+    }
+}
+
+// Row i of the matrix, and of the identity beside it. The matrix is its own transpose, to the bit: before the diagonal
+// stands what the rows above, which are filled, hold in column i, so that no variogram is evaluated twice.
+fn fill_matrix_row(
+    coords: &[f64],
+    options: UniversalKrigingOptions,
+    drift: &[f64],
+    n: usize,
+    p: usize,
+    i: usize,
+    work: &mut [f64],
+)
+    requires { ⌜ (i < n + p) × (2 * n ≤ length (now coords)) × (n * p ≤ length (now drift)) × (i * (2 * (n + p)) + 2 * (n + p) ≤ length (now work))
+        × ((j : ℕ) → j < i → getD (now work) (j * (2 * (n + p)) + i) nan
+        ≡ joined n (between options (now coords)) (λ i j. getD (now drift) (i * p + j) nan) j i) ⌝ }
     ensures { λ _. ⌜ now (work .exit) ≡ written (i * (2 * (n + p))) (2 * (n + p))
         (besideIdentity (n + p) (joined n (between options (now (coords .entry))) (λ i j. getD (now (drift .entry)) (i * p + j) nan)) i)
         (now (work .entry)) ⌝ }
 {
-    let width = 2 * (n + p);
-    let row = i * width;
-    for j in 0..width {
-        work[row + j] = entry_beside(coords, options, drift, n, p, i, j);
-    }
+    let size = n + p;
+    mirror_row(work, size, i);
+    fill_from_diagonal(coords, options, drift, n, p, i, work);
+    identity_row(work, size, i);
 }
 
 // The matrix beside the identity.

@@ -8,6 +8,7 @@ use Rattle.area.specs.Area.{filled}
 use Rattle.area.proofs.Filled.{next-row}
 use Rattle.elimination.specs.Inverse.{besideIdentity, laid}
 use Rattle.elimination.proofs.Rows.{row-inside, width-inside}
+use Rattle.elimination.proofs.RowParts.{laid-above}
 use Rattle.interpolator.specs.Outcome.{known}
 use Rattle.interpolation.specs.Assembly.{entry}
 use Rattle.interpolator.proofs.assembly.build_covariance_matrix.Statement.{statement}
@@ -51,7 +52,14 @@ fill-matrix-row-requires c κs =
     let l = h .loop in
     let a = at-entry h .args in
     let p = at-entry h .pre in
-    (omega arith, p .0, p .1, p .2, row-inside (a .size) (l .i) (length (l .work)) (omega arith) (omega (arith, p .3, l .inv .1)))
+    let m = entry (known (a .interpolator) (a .values .now) (a .points .now) (a .d)) in (
+      omega arith,
+      p .0,
+      p .1,
+      p .2,
+      row-inside (a .size) (l .i) (length (l .work)) (omega arith) (omega (arith, p .3, l .inv .1)),
+      λ j b. laid-above (a .size) m (a .work .now) (l .work) (l .i) j (p .3) (omega arith) b (l .inv .2),
+    )
 
 -- for i in 0..size
 add-i : tie.Need-add-i Inv-loop μ-loop

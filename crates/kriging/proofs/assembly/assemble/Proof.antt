@@ -8,6 +8,7 @@ use Rattle.area.specs.Area.{filled}
 use Rattle.area.proofs.Filled.{next-row}
 use Rattle.elimination.specs.Inverse.{besideIdentity, laid}
 use Rattle.elimination.proofs.Rows.{row-inside, width-inside}
+use Rattle.elimination.proofs.RowParts.{laid-above}
 use Rattle.kriging.proofs.MatrixEntries.{matrix}
 use Rattle.kriging.proofs.assembly.assemble.Statement.{statement}
 use Rattle.kriging.proofs.assembly.assemble.Tie as tie
@@ -52,7 +53,14 @@ fill-matrix-row-requires c κs =
     let h = at-turn c in
     let l = h .loop in
     let a = at-entry h .args in
-    (omega arith, omega arith, omega arith, row-inside (a .n + a .p) (l .i) (length (l .work)) (omega arith) (omega arith))
+    let s = a .n + a .p in
+    let m = matrix (a .coords .now) (a .options) (a .drift .now) (a .n) (a .p) in (
+      omega arith,
+      omega arith,
+      omega arith,
+      row-inside s (l .i) (length (l .work)) (omega arith) (omega arith),
+      λ j b. laid-above s m (a .work .now) (l .work) (l .i) j (omega arith) (omega arith) b (l .inv .3),
+    )
 
 -- for i in 0..n + p
 add-i : tie.Need-add-i Inv-loop μ-loop

@@ -1,111 +1,53 @@
--- `kriging::assembly::fill_matrix_row` meets its contract: after j turns the area is what j stores write. Assumes nothing.
-use Prim.Native.Nat.{_+_, _*_, _-_, _≤_}
-use native.Mathlib.Omega.{arith}
-use mathlib.Core.Path.{_≡_, refl}
-use lib.ListN.{length, length-set}
+-- `kriging::assembly::fill_matrix_row` meets its contract: its three parts are the row, since the matrix is its own transpose. Assumes nothing.
+use Prim.Native.Nat.{_+_}
+use mathlib.Core.Path.{_∙_}
+use Rattle.elimination.proofs.RowParts.{row-parts}
+use Rattle.kriging.proofs.MatrixEntries.{matrix, matrix-back}
 use borrow.Author.Needs.{needs}
-use Rattle.area.specs.Area.{written}
-use Rattle.area.proofs.Places.{next, all-turns}
-use Rattle.elimination.specs.Inverse.{besideIdentity}
-use Rattle.kriging.proofs.MatrixEntries.{matrix}
 use Rattle.kriging.proofs.assembly.fill_matrix_row.Statement.{statement}
 use Rattle.kriging.proofs.assembly.fill_matrix_row.Tie as tie
 
-abbrev Inv-loop : tie.InvT-loop
-Inv-loop coords options drift n p i work₀ width row j₀ work j =
-    (j ≤ width) × (width ≡ 2 * (n + p)) × (row ≡ i * (2 * (n + p))) × (length work ≡ length work₀)
-    × (work ≡ written (i * (2 * (n + p))) j (besideIdentity (n + p) (matrix coords options drift n p) i) work₀)
+-- let size = n + p;
+add-size : tie.Need-add-size
+add-size c = search needs
 
-abbrev μ-loop : tie.MeasureT-loop
-μ-loop coords options drift n p i work₀ width row j₀ work j = width - j
+-- mirror_row(work, size, i);
+mirror-row-requires : tie.Need-mirror-row-requires
+mirror-row-requires c κs = search needs
 
--- The states that the needs look back to, in the order of the code: a name takes a later state back to its own.
-abbrev State : (tie.InvT-loop → tie.MeasureT-loop → Type 0) → Type 0
-State S = S Inv-loop μ-loop
+-- fill_from_diagonal(coords, options, drift, n, p, i, work);
+fill-from-diagonal-requires : tie.Need-fill-from-diagonal-requires
+fill-from-diagonal-requires c κs = search needs
 
-abbrev at-lent : State tie.At-loop → State tie.After-shared-slice-known2
-at-lent c = c .before .before
+-- identity_row(work, size, i);
+identity-row-requires : tie.Need-identity-row-requires
+identity-row-requires c κs = search needs
 
-abbrev at-entry : State tie.At-loop → State tie.Start
-at-entry c = at-lent c .before .before
-
--- The needs, grouped below the lines of src/ that they are for.
-
--- let width = 2 * (n + p);
-add-width : tie.Need-add-width Inv-loop μ-loop
-add-width c = omega arith
-
-mul-width : tie.Need-mul-width Inv-loop μ-loop
-mul-width c = omega arith
-
--- let row = i * width;
-mul-row : tie.Need-mul-row Inv-loop μ-loop
-mul-row c = omega arith
-
--- for j in 0..width
-loop-holds : tie.Need-loop-holds Inv-loop μ-loop
-loop-holds c = (omega arith, refl, refl, refl, refl)
-
--- work[row + j] = entry_beside(coords, options, drift, n, p, i, j);
-entry-beside-requires : tie.Need-entry-beside-requires Inv-loop μ-loop
-entry-beside-requires c κs = omega arith
-
-add-work : tie.Need-add-work Inv-loop μ-loop
-add-work c = omega arith
-
-mul-work : tie.Need-mul-work Inv-loop μ-loop
-mul-work c = omega arith
-
-slice-write-work : tie.Need-slice-write-work Inv-loop μ-loop
-slice-write-work c = omega arith
-
--- for j in 0..width
-add-j : tie.Need-add-j Inv-loop μ-loop
-add-j c = omega arith
-
-loop-less : tie.Need-loop-less Inv-loop μ-loop
-loop-less c = omega arith
-
-loop-again : tie.Need-loop-again Inv-loop μ-loop
-loop-again c =
-    let h = c .before .before in
-    let l = h .loop in
-    let a = at-entry h .args in
-    let e = besideIdentity (a .n + a .p) (matrix (a .coords .now) (a .options) (a .drift .now) (a .n) (a .p)) (a .i) in (
-      omega arith,
-      refl,
-      refl,
-      simp length-set (l .inv .3),
-      next (a .i * (2 * (a .n + a .p))) (l .j) e (a .work .now) (l .work) (c .entry-beside .result) (c .entry-beside .ensures) (l .inv .4),
-    )
-
--- fn fill_matrix_row(coords: &[f64], options: UniversalKrigingOptions, drift: &[f64], n: usize, p: usize, i: usize, work: &mut [f64])
-same-length : tie.Need-same-length Inv-loop μ-loop
+-- fn fill_matrix_row(
+same-length : tie.Need-same-length
 same-length c = search needs
 
-returns : tie.Need-returns Inv-loop μ-loop
+returns : tie.Need-returns
 returns c =
-    let l = c .before .loop in
-    let a = at-entry (c .before) .args in
-    let all : l .j ≡ 2 * (a .n + a .p) = omega arith in
-    all-turns _ _ _ all (l .inv .4)
+    let third = c .before .before in
+    let second = third .before .before .before .before in
+    let first = second .before .before .before .before in
+    let s = first .before .before .before .before .before in
+    let a = s .args in
+    let m = matrix (a .coords .now) (a .options) (a .drift .now) (a .n) (a .p) in
+    row-parts (a .n + a .p) m (a .i) (a .work .now) _ _ _ (s .pre .0)
+    (λ j b. s .pre .4 j b ∙ matrix-back (a .coords .now) (a .options) (a .drift .now) (a .n) (a .p) j (a .i))
+    (first .mirror-row .ensures)
+    (second .fill-from-diagonal .ensures)
+    (third .identity-row .ensures)
 
 pub fill-matrix-row-spec : {M : Type 1} → statement M
 fill-matrix-row-spec =
     tie.close
     (tie.spec
-    Inv-loop
-    μ-loop
-    add-width
-    mul-width
-    mul-row
-    loop-holds
-    entry-beside-requires
-    add-work
-    mul-work
-    slice-write-work
-    add-j
-    loop-less
-    loop-again
+    add-size
+    mirror-row-requires
+    fill-from-diagonal-requires
+    identity-row-requires
     same-length
     returns)

@@ -4,19 +4,16 @@ use native.Mathlib.Omega.{arith}
 use mathlib.Core.Path.{_∙_}
 use lib.Ieee.{Float, nan}
 use lib.ListN.{length, getD}
-use borrow.Author.Needs.{needs}
 use Rattle.area.proofs.Rows.{row-end}
 use Rattle.fit.specs.Assembly.{between}
-use Rattle.kriging.proofs.MatrixEntries.{upper-left, upper-right, lower-left, lower-right}
+use Rattle.kriging.proofs.MatrixEntries.{upper-left, upper-right, lower-right}
+use borrow.Author.Needs.{needs}
 use Rattle.kriging.proofs.assembly.matrix_entry.Statement.{statement}
 use Rattle.kriging.proofs.assembly.matrix_entry.Tie as tie
 
--- The states that the needs look back to, in the order of the code: a name takes a later state back to its own.
-abbrev above : tie.Then1 → tie.Start
-above c = c .before .before .before
-
-abbrev below : tie.Else1 → tie.Start
-below c = c .before .before .before
+-- The state that the needs look back to from past the wells' columns.
+abbrev past : tie.Else1 → tie.Start
+past c = c .before .before .before
 
 -- what stands between two wells, and F
 abbrev gamma-of : tie.Start → ℕ → ℕ → Float
@@ -34,14 +31,14 @@ gamma-requires c κs = search needs
 returns : tie.Need-returns
 returns c =
     let t = c .before in
-    let s = above (t .before) in
-    c .gamma .ensures ∙ upper-left (s .args .n) (gamma-of s) (drift-of s) (s .args .i) (s .args .j) (t .before .if1 .taken) (t .if2 .taken)
+    let s = t .before .before .before in
+    c .gamma .ensures ∙ upper-left (s .args .n) (gamma-of s) (drift-of s) (s .args .i) (s .args .j) (omega arith) (t .if1 .taken)
 
 -- the entry of F lies inside
-inside : (c : tie.Else2) → let a = above (c .before) .args in a .i * a .p + (a .j - a .n) < length (a .drift .now)
+inside : (c : tie.Then2) → let a = past (c .before) .args in a .i * a .p + (a .j - a .n) < length (a .drift .now)
 inside c =
-    let a = above (c .before) .args in
-    let e = row-end (a .p) (a .i) (a .n) (c .before .if1 .taken) in
+    let a = past (c .before) .args in
+    let e = row-end (a .p) (a .i) (a .n) (c .if2 .taken) in
     omega arith
 
 -- return drift[i * p + (j - n)];
@@ -60,40 +57,14 @@ shared-slice-read-result c = inside (c .before)
 returns-2 : tie.Need-returns-2
 returns-2 c =
     let t = c .before in
-    let s = above (t .before) in
-    upper-right (s .args .n) (gamma-of s) (drift-of s) (s .args .i) (s .args .j) (t .before .if1 .taken) (t .if2 .left)
+    let s = past (t .before) in
+    upper-right (s .args .n) (gamma-of s) (drift-of s) (s .args .i) (s .args .j) (t .if2 .taken) (t .before .if1 .left)
 
--- and that of its transpose
-inside-below : (c : tie.Then3) → let a = below (c .before) .args in a .j * a .p + (a .i - a .n) < length (a .drift .now)
-inside-below c =
-    let a = below (c .before) .args in
-    let e = row-end (a .p) (a .j) (a .n) (c .if3 .taken) in
-    omega arith
-
--- return drift[j * p + (i - n)];
-mul-result-3 : tie.Need-mul-result-3
-mul-result-3 c = omega (arith, inside-below c)
-
-add-result-2 : tie.Need-add-result-2
-add-result-2 c = omega (arith, inside-below c)
-
-mul-result-4 : tie.Need-mul-result-4
-mul-result-4 c = omega (arith, inside-below c)
-
-shared-slice-read-result-2 : tie.Need-shared-slice-read-result-2
-shared-slice-read-result-2 c = inside-below (c .before)
-
+-- fn matrix_entry(
 returns-3 : tie.Need-returns-3
 returns-3 c =
-    let t = c .before in
-    let s = below (t .before) in
-    lower-left (s .args .n) (gamma-of s) (drift-of s) (s .args .i) (s .args .j) (t .before .if1 .left) (t .if3 .taken)
-
--- 0.0
-returns-4 : tie.Need-returns-4
-returns-4 c =
-    let s = below (c .before) in
-    lower-right (s .args .n) (gamma-of s) (drift-of s) (s .args .i) (s .args .j) (c .before .if1 .left) (c .if3 .left)
+    let s = past (c .before) in
+    lower-right (s .args .n) (gamma-of s) (drift-of s) (s .args .i) (s .args .j) (c .if2 .left) (c .before .if1 .left)
 
 pub matrix-entry-spec : {M : Type 1} → statement M
 matrix-entry-spec =
@@ -106,9 +77,4 @@ matrix-entry-spec =
     mul-result-2
     shared-slice-read-result
     returns-2
-    mul-result-3
-    add-result-2
-    mul-result-4
-    shared-slice-read-result-2
-    returns-3
-    returns-4)
+    returns-3)
