@@ -114,13 +114,18 @@ class Parts:
         audit = self.audit() + self.refusals() if side == "port" else 0
         return self.whole(side) - self.assembly(side) - self.elimination(side) - audit
 
+    def entries(self, side):
+        """How many entries between two wells are worked out: the original's each way, the port's once, and then mirrored."""
+        pairs = self.n * (self.n - 1) // 2
+        return pairs if side == "port" else 2 * pairs
+
     def root(self, side):
         """One root, in ns: wells so close that the variogram takes no time, less wells in one place, whose roots are of 0."""
-        return 1000 * (self.kind("near", 0, side)[0] - self.kind("one-place", 0, side)[0]) / (self.n * (self.n - 1))
+        return 1000 * (self.kind("near", 0, side)[0] - self.kind("one-place", 0, side)[0]) / self.entries(side)
 
     def entry(self, side):
-        """One entry of the matrix between two wells, in ns: the distance with its root, and the variogram."""
-        return 1000 * self.assembly(side) / (self.n * (self.n - 1))
+        """One entry of the matrix between two wells, in ns: the distance with its root, and the variogram, and its place in the matrix."""
+        return 1000 * self.assembly(side) / self.entries(side)
 
 
 def parts(figures, shown=time):

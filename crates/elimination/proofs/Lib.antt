@@ -12,3 +12,4 @@ pub mod Call
 pub mod Agree
 pub mod Beside
 pub mod RowParts
+pub mod NoRow

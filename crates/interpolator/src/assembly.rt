@@ -107,7 +107,7 @@ fn fill_matrix_row(
     work: &mut [f64],
 )
     requires { ⌜ (i < size) × (size ≡ length (now values) + added (interpolator .«kriging_type»)) × (interpolator .«kriging_type» ≡ Universal → 2 ≤ d)
-        × (length (now values) * d ≤ length (now points)) × (i * (2 * size) + 2 * size ≤ length (now work))
+        × (length (now values) * d ≤ length (now points)) × (2 * size * size ≤ length (now work))
         × ((j : ℕ) → j < i → getD (now work) (j * (2 * size) + i) nan ≡ entry (known interpolator (now values) (now points) d) j i) ⌝ }
     ensures { λ _. ⌜ now (work .exit) ≡ written (i * (2 * size)) (2 * size)
         (besideIdentity size (entry (known interpolator (now (values .entry)) (now (points .entry)) d)) i) (now (work .entry)) ⌝ }

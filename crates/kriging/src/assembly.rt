@@ -82,7 +82,7 @@ fn fill_matrix_row(
     i: usize,
     work: &mut [f64],
 )
-    requires { ⌜ (i < n + p) × (2 * n ≤ length (now coords)) × (n * p ≤ length (now drift)) × (i * (2 * (n + p)) + 2 * (n + p) ≤ length (now work))
+    requires { ⌜ (i < n + p) × (2 * n ≤ length (now coords)) × (n * p ≤ length (now drift)) × (2 * (n + p) * (n + p) ≤ length (now work))
         × ((j : ℕ) → j < i → getD (now work) (j * (2 * (n + p)) + i) nan
         ≡ joined n (between options (now coords)) (λ i j. getD (now drift) (i * p + j) nan) j i) ⌝ }
     ensures { λ _. ⌜ now (work .exit) ≡ written (i * (2 * (n + p))) (2 * (n + p))

@@ -7,7 +7,7 @@ use borrow.Author.Needs.{needs}
 use Rattle.area.specs.Area.{filled}
 use Rattle.area.proofs.Filled.{next-row}
 use Rattle.elimination.specs.Inverse.{besideIdentity, laid}
-use Rattle.elimination.proofs.Rows.{row-inside, width-inside}
+use Rattle.elimination.proofs.Rows.{width-inside}
 use Rattle.elimination.proofs.RowParts.{laid-above}
 use Rattle.interpolator.specs.Outcome.{known}
 use Rattle.interpolation.specs.Assembly.{entry}
@@ -57,7 +57,7 @@ fill-matrix-row-requires c κs =
       p .0,
       p .1,
       p .2,
-      row-inside (a .size) (l .i) (length (l .work)) (omega arith) (omega (arith, p .3, l .inv .1)),
+      omega (arith, p .3, l .inv .1),
       λ j b. laid-above (a .size) m (a .work .now) (l .work) (l .i) j (p .3) (omega arith) b (l .inv .2),
     )
 

@@ -1,5 +1,10 @@
 -- `interpolator::assembly::fill_matrix_row` meets its contract: its three parts are the row, since the matrix is its own transpose. Assumes nothing.
-use mathlib.Core.Path.{_∙_}
+use Prim.Native.Nat.{_*_, _≤_}
+use native.Mathlib.Omega.{arith}
+use mathlib.Core.Path.{_≡_, _∙_}
+use lib.ListN.{length}
+use Rattle.elimination.proofs.Rows.{row-inside}
+use Rattle.elimination.proofs.NoRow.{has-row, mirrored-is, identified-is}
 use Rattle.elimination.proofs.RowParts.{row-parts}
 use Rattle.interpolation.specs.Assembly.{entry}
 use Rattle.interpolator.specs.Outcome.{known}
@@ -14,7 +19,11 @@ mirror-row-requires c κs = search needs
 
 -- fill_from_diagonal(coords, options, drift, n, p, i, work);
 fill-from-diagonal-requires : tie.Need-fill-from-diagonal-requires
-fill-from-diagonal-requires c κs = search needs
+fill-from-diagonal-requires c κs =
+    let f = c .before .before .before in
+    let s = f .before .before .before .before .before in
+    let p = s .pre in
+    (p .0, p .1, p .2, p .3, row-inside (s .args .size) (s .args .i) _ (p .0) (omega (arith, p .4, f .mirror-row .kept .0)))
 
 -- identity_row(work, size, i);
 identity-row-requires : tie.Need-identity-row-requires
@@ -32,11 +41,12 @@ returns c =
     let s = first .before .before .before .before .before in
     let a = s .args in
     let q = known (a .interpolator) (a .values .now) (a .points .now) (a .d) in
+    let whole : 2 * (a .size) * (a .size) ≤ length (second .fill-from-diagonal .last .1 .1 .1 .1 .1 .1 .0) = omega (arith, s .pre .4, first .mirror-row .kept .0, second .fill-from-diagonal .kept .1 .1 .1 .1 .1 .1 .0) in
     row-parts (a .size) (entry q) (a .i) (a .work .now) _ _ _ (s .pre .0)
     (λ j b. s .pre .5 j b ∙ entry-back q j (a .i))
-    (first .mirror-row .ensures)
+    (first .mirror-row .ensures ∙ mirrored-is (a .size) (a .i) (a .work .now) (has-row (length (a .work .now)) (a .size) (a .i) (s .pre .4) (s .pre .0)))
     (second .fill-from-diagonal .ensures)
-    (third .identity-row .ensures)
+    (third .identity-row .ensures ∙ identified-is (a .size) (a .i) _ (has-row _ (a .size) (a .i) whole (s .pre .0)))
 
 pub fill-matrix-row-spec : {M : Type 1} → statement M
 fill-matrix-row-spec =

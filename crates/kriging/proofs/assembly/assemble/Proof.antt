@@ -7,7 +7,7 @@ use borrow.Author.Needs.{needs}
 use Rattle.area.specs.Area.{filled}
 use Rattle.area.proofs.Filled.{next-row}
 use Rattle.elimination.specs.Inverse.{besideIdentity, laid}
-use Rattle.elimination.proofs.Rows.{row-inside, width-inside}
+use Rattle.elimination.proofs.Rows.{width-inside}
 use Rattle.elimination.proofs.RowParts.{laid-above}
 use Rattle.kriging.proofs.MatrixEntries.{matrix}
 use Rattle.kriging.proofs.assembly.assemble.Statement.{statement}
@@ -58,7 +58,7 @@ fill-matrix-row-requires c κs =
       omega arith,
       omega arith,
       omega arith,
-      row-inside s (l .i) (length (l .work)) (omega arith) (omega arith),
+      omega arith,
       λ j b. laid-above s m (a .work .now) (l .work) (l .i) j (omega arith) (omega arith) b (l .inv .3),
     )
 
