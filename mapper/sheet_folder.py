@@ -1,0 +1,151 @@
+"""Large maps: the sheets as survey files in a folder, to be run elsewhere, and the map of their listings."""
+import json
+import os
+import shutil
+from array import array
+from dataclasses import asdict
+from pathlib import Path
+
+from mapper.bar import Bar
+from mapper.listing import Damaged
+from mapper.make import Made
+from mapper.mend import named
+from mapper.model import Bin, Grid, Map, Run, Variogram, Well
+from mapper.nodes import grid_nodes, read_nodes, unanswered
+from mapper.files import quoted
+from mapper.numbers import counted, shown
+from mapper.origin import AS_ENTERED, corner
+from mapper.runs import fill, tally
+from mapper.sheets import Sheets
+from mapper.stop import Refused, Stop
+from mapper.survey import Survey
+from mapper.survey_file import NODES, columns
+from mapper.words import refusal
+
+KEPT, LIST = 'map.json', 'nodes.csv'
+VERSION = 1
+SHOWN = 5  # missing listings that are named
+
+
+def name(sheet, ending):
+    """A sheet's file: six digits at least, so that they sort as they are counted."""
+    return f'{sheet + 1:06}.{ending}'
+
+
+def write_sheets(made, folder):
+    """Writes every sheet, what is to be collected later, and nothing else. The folder gets its name when all is in it."""
+    folder = Path(folder)
+    if folder.exists() and (not folder.is_dir() or any(folder.iterdir())):
+        raise Stop(f'{folder} is there already and not empty. Name a new folder by --sheets.')
+    sheets = made.sheets(origin_of(made))
+    part = folder.with_name(f'.{folder.name}.{os.getpid()}.part')
+    try:
+        part.mkdir(parents=True)
+        with Bar('sheets', len(made.nodes), made.options.progress) as bar:
+            for sheet in range(len(sheets)):
+                (part / name(sheet, 'survey')).write_bytes(sheets[sheet])
+                first, end = sheets.span(sheet)
+                bar.step(end - first)
+        if made.grid is None:
+            (part / LIST).write_text(''.join(listed(made.nodes)), encoding='utf-8')
+        (part / KEPT).write_text(json.dumps(kept(made, sheets.origin), indent=1) + '\n', encoding='utf-8')
+        os.replace(part, folder)
+    except OSError as error:
+        raise Stop(f'{folder} cannot be written: {error.strerror}.')
+    finally:
+        shutil.rmtree(part, ignore_errors=True)
+    made.say(f'{counted(len(made.nodes), "node")} on {counted(len(sheets), "sheet")} in {folder}. Run each, then: map --collect {folder}', False)
+
+
+def listed(nodes):
+    """The nodes as a list that reads back the same."""
+    yield 'name,x,y\n' if nodes.names else 'x,y\n'
+    for i, (x, y) in enumerate(zip(nodes.x, nodes.y)):
+        yield (quoted(nodes.names[i]) + ',' if nodes.names else '') + f'{shown(x)},{shown(y)}\n'
+
+
+def origin_of(made):
+    """Where the sheets' coordinates are counted from: as asked, else by one sheet of nodes spread over the map."""
+    to = corner(made.wells)
+    if made.options.origin != 'auto' or to == AS_ENTERED:
+        return to if made.options.origin == 'moved' else AS_ENTERED
+    spread = range(0, len(made.nodes), -(-len(made.nodes) // NODES))
+    entered, moved = tried(made, AS_ENTERED, spread), None
+    if entered != len(spread):
+        moved = tried(made, to, spread)
+    which = to if moved is not None and moved > entered else AS_ENTERED
+    said = f'{max(entered, 0)} of {counted(len(spread), "node")} spread over the map pass as entered'
+    said += '' if moved is None else f', {max(moved, 0)} with the origin moved to {named(to)}'
+    made.say(f'{said}. On the sheets: {"moved" if which == to else "as entered"}.')
+    return which
+
+
+def tried(made, origin, spread):
+    """How many of a few nodes pass; -1 where a run is refused by 19, which another origin may mend. Other refusals end all."""
+    nodes = unanswered(array('d', (made.nodes.x[i] for i in spread)), array('d', (made.nodes.y[i] for i in spread)))
+    outside = array('d', (made.outside[i] for i in spread)) if made.outside else made.outside
+    try:
+        return made.through(made.sheets(origin, nodes, outside), 'trial').passed
+    except Refused as refused:
+        if refused.number != 19:
+            raise made.refused(refused.number)
+        return -1
+
+
+def kept(made, origin):
+    """All that a map is made of but the answers."""
+    survey = made.survey
+    return {
+        'version': VERSION, 'title': Path(made.options.wells).stem, 'wells': [asdict(well) for well in survey.wells],
+        'trend': survey.trend, 'external': survey.external, 'regularization': survey.regularization, 'tolerance': survey.tolerance,
+        'variogram': asdict(survey.variogram), 'bins': [asdict(each) for each in made.bins], 'grid': made.grid and asdict(made.grid),
+        'nodes': len(made.nodes), 'origin': list(origin), 'notes': made.notes,
+    }
+
+
+def collected(folder, progress=False):
+    """The map of a folder's listings."""
+    folder = Path(folder)
+    k = read_kept(folder)
+    grid = Grid(**k['grid']) if k['grid'] else None
+    nodes = grid_nodes(grid) if grid else read_nodes(folder / LIST)[0]
+    survey = Survey([Well(**well) for well in k['wells']], k['trend'], k['external'], Variogram(**k['variogram']), k['regularization'], k['tolerance'])
+    sheets = Sheets(survey, nodes, array('d'), tuple(k['origin']))
+    if len(nodes) != k['nodes']:
+        raise Stop(f'{folder / LIST} has {len(nodes)} nodes, and {KEPT} says {k["nodes"]}. Write the sheets anew.')
+    missing = [name(sheet, 'listing') for sheet in range(len(sheets)) if not (folder / name(sheet, 'listing')).is_file()]
+    if missing:
+        more = f' and {len(missing) - SHOWN:,} more' if len(missing) > SHOWN else ''
+        raise Stop(f'{counted(len(missing), "listing")} missing in {folder}: {", ".join(missing[:SHOWN])}{more}. Run their sheets, then collect again.')
+    with Bar('collect', len(nodes), progress) as bar:
+        for sheet in range(len(sheets)):
+            take(folder / name(sheet, 'listing'), sheets, sheet)
+            first, end = sheets.span(sheet)
+            bar.step(end - first)
+    return Map(k['title'], survey.wells, nodes, grid, survey.variogram, [Bin(**each) for each in k['bins']], survey.trend, survey.external,
+               survey.regularization, survey.tolerance, columns(survey.trend, survey.external), [tally(sheets)], 0, k['notes'])
+
+
+def read_kept(folder):
+    try:
+        kept = json.loads((folder / KEPT).read_text(encoding='utf-8'))
+    except OSError:
+        raise Stop(f'{folder} has no {KEPT}. It has to be a folder that --sheets wrote.')
+    except ValueError:
+        kept = None
+    if not isinstance(kept, dict) or kept.get('version') != VERSION:
+        raise Stop(f'{folder / KEPT} is not as --sheets writes it. Write the sheets anew.')
+    return kept
+
+
+def take(path, sheets, sheet):
+    """Fills in a sheet's nodes from its listing."""
+    try:
+        fill(sheets, sheet, path.read_bytes())
+    except Damaged as damaged:
+        raise Stop(f'{path} is not whole: {damaged}. Run its sheet again.')
+    except Refused as refused:
+        survey = sheets.survey
+        raise Stop(f'{path}: {refusal(refused.number, survey.wells, survey.trend, survey.external)}')
+    except OSError as error:
+        raise Stop(f'{path} cannot be read: {error.strerror}.')
