@@ -23,9 +23,9 @@ def greatest_distance(wells):
     return max((math.hypot(a.x - b.x, a.y - b.y) for a in wells for b in wells), default=0.0)
 
 
-def bins_of(wells, levels, say):
+def bins_of(wells, levels, tell):
     """The bins of these levels at the wells. Raises Refused."""
-    library(say)
+    library(tell)
     calls = str(ROOT / 'bindings' / 'python')
     if calls not in sys.path:
         sys.path.append(calls)

@@ -12,7 +12,7 @@ PROGRAM = Path('target/bin/wellmap')
 ARCHIVE, SHARED = Path('target/staticlib/libnakwemol.a'), Path('target/staticlib/libnakwemol.so')
 
 
-def program(say):
+def program(tell):
     """The program's path: what NAKWEMOL_WELLMAP names, else the repository's, which is proved and built first where it is not there."""
     named = os.environ.get('NAKWEMOL_WELLMAP')
     if named:
@@ -20,37 +20,37 @@ def program(say):
             raise Stop(f'NAKWEMOL_WELLMAP names {named}, and there is no such file.')
         return named
     if not (ROOT / PROGRAM).is_file():
-        build(say, PROGRAM, 'The program is not built yet', ['rt', 'check', 'wellmap'])
+        build(tell, PROGRAM, 'The program is not built yet', ['rt', 'check', 'wellmap'])
     return str(ROOT / PROGRAM)
 
 
-def library(say):
+def library(tell):
     """Makes the shared object that bindings/python loads, where it is not there. NAKWEMOL_LIBRARY names another."""
     if os.environ.get('NAKWEMOL_LIBRARY') or (ROOT / SHARED).is_file():
         return
     if not (ROOT / ARCHIVE).is_file():
-        build(say, ARCHIVE, 'The proved semivariogram is not built yet', ['rt', 'staticlib', 'nakwemol'])
+        build(tell, ARCHIVE, 'The proved semivariogram is not built yet', ['rt', 'staticlib', 'nakwemol'])
     if shutil.which(os.environ.get('CC', 'cc')) is None:
         raise Stop('There is no C compiler (cc) to link the proved semivariogram with. Install one, or give --nugget, --sill and --range yourself.')
-    build(say, SHARED, None, ['bindings/python/link'])
+    build(tell, SHARED, None, ['bindings/python/link'])
 
 
 def library_there():
     return bool(os.environ.get('NAKWEMOL_LIBRARY')) or (ROOT / SHARED).is_file()
 
 
-def build(say, made, why, command):
+def build(tell, made, why, command):
     """Runs a command of the repository, which leaves `made`; what it prints goes to a file in target/."""
     if shutil.which(command[0], path=os.environ.get('PATH', '') + os.pathsep + str(ROOT)) is None and not (ROOT / command[0]).is_file():
         raise Stop(f'{why}, and the Rattle toolchain (rt) that builds it is not here. Install it, or copy {made} from where it was built.')
     log = ROOT / 'target' / 'map-build.log'
     log.parent.mkdir(exist_ok=True)
     if why:
-        say(f'{why}: `{" ".join(command)}` proves and builds it now. This is done once, and takes some minutes ..')
+        tell(f'{why}: `{" ".join(command)}` proves and builds it now. This is done once, and takes some minutes ..')
     began = time.monotonic()
     with open(log, 'wb') as out:
         ended = subprocess.run(command, cwd=ROOT, stdout=out, stderr=subprocess.STDOUT, stdin=subprocess.DEVNULL)
     if ended.returncode or not (ROOT / made).is_file():
         raise Stop(f'`{" ".join(command)}` did not end well (status {ended.returncode}). What it printed is in {log}.')
     if why:
-        say(f'Built in {time.monotonic() - began:.0f} s.')
+        tell(f'Built in {time.monotonic() - began:.0f} s.')

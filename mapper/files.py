@@ -21,7 +21,7 @@ def write_all(files):
         for other, path in written:
             os.replace(other, path)
     except OSError as error:
-        raise Stop(f'{path} cannot be written: {error.strerror}. Name another folder by --out.')
+        raise Stop(f'{path} cannot be written: {error.strerror}. Name a folder that can be written to.')
     finally:
         for other, _ in written:
             if other.exists():
@@ -29,7 +29,7 @@ def write_all(files):
 
 
 def quoted(text):
-    """A field of a CSV file; the header's and the page's readers take names with separators in quotes."""
+    """A field of a CSV file: in quotes where it holds a separator, a quote or a line's end."""
     return '"' + text.replace('"', '""') + '"' if any(c in text for c in ',;\t"\r\n') else text
 
 

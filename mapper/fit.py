@@ -11,6 +11,7 @@ from typing import Optional
 COARSE = 80
 GOLDEN = (math.sqrt(5) - 1) / 2
 STEPS = 60
+ROUNDING = 1 + 1e-9  # costs that differ by less are alike
 
 
 @dataclass
@@ -100,10 +101,10 @@ def search(cost, least, most):
         return most
     ratio = (most / least) ** (1 / COARSE)
     ranges = [least * ratio ** i for i in range(COARSE)] + [most]
-    best = min(range(len(ranges)), key=lambda i: cost(ranges[i]))
-    low, high = ranges[max(best - 1, 0)], ranges[min(best + 1, COARSE)]
-    closer = golden(cost, low, high)
-    return closer if cost(closer) < cost(ranges[best]) else ranges[best]
+    costs = [cost(span) for span in ranges]
+    best = next(i for i, each in enumerate(costs) if each <= min(costs) * ROUNDING)  # the shortest of those that are alike
+    closer = golden(cost, ranges[max(best - 1, 0)], ranges[min(best + 1, COARSE)])
+    return closer if cost(closer) * ROUNDING < costs[best] else ranges[best]
 
 
 def golden(cost, low, high):

@@ -38,10 +38,11 @@ def main(arguments=None):
 def direct(found):
     """The normal way: every sheet is run, and the files are written at the end."""
     made, listing = Made(found, tell), [] if found.listing else None
+    folder = Path(found.out or Path(found.wells).parent)
     m = drawn_map(made, listing)
     for lines in listing or ():
         sys.stdout.write(lines.decode())
-    finish(found, m, Path(found.out or Path(found.wells).parent), kept_surveys(found, made, m))
+    finish(found, m, folder, kept_surveys(found, made, m))
 
 
 def kept_surveys(found, made, m):

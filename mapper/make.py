@@ -7,7 +7,6 @@ from mapper.built import program
 from mapper.fit import Given
 from mapper.model import Map
 from mapper.nodes import default_grid, grid_nodes, grid_of, read_nodes
-from mapper.origin import AS_ENTERED, corner
 from mapper.runs import run
 from mapper.sheets import Sheets
 from mapper.stop import Refused, Stop
@@ -27,13 +26,15 @@ class Made:
         self.judge(options)
         self.grid, self.nodes, self.outside = self.places(options)
         given = Given(options.nugget, options.sill, options.range)
-        variogram, self.bins = self.refusable(variogram_of, self.wells, options.trend, self.external, options.model, given, self.say)
+        variogram, self.bins, said = self.refusable(variogram_of, self.wells, options.trend, self.external, options.model, given, tell)
+        if said:
+            self.say(said)
         self.survey = Survey(self.wells, options.trend, self.external, variogram, options.regularization, options.tolerance)
 
-    def say(self, sentence, note=True):
+    def say(self, sentence):
+        """Tells a sentence, and keeps it for the page."""
         self.tell(sentence)
-        if note:
-            self.notes.append(sentence)
+        self.notes.append(sentence)
 
     def refused(self, number):
         return Stop(refusal(number, self.wells, self.options.trend, self.external))
@@ -71,7 +72,7 @@ class Made:
 
     def through(self, sheets, what, keep=None):
         """All of some sheets, with a bar. Raises Refused."""
-        path = program(lambda sentence: self.say(sentence, False))
+        path = program(self.tell)
         with Bar(what, len(sheets.nodes), self.options.progress) as bar:
             return run(path, sheets, self.options.jobs, bar.step, keep)
 

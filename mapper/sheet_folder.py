@@ -8,7 +8,6 @@ from pathlib import Path
 
 from mapper.bar import Bar
 from mapper.listing import Damaged
-from mapper.make import Made
 from mapper.mend import named
 from mapper.model import Bin, Grid, Map, Run, Variogram, Well
 from mapper.nodes import grid_nodes, read_nodes, unanswered
@@ -25,6 +24,7 @@ from mapper.words import refusal
 KEPT, LIST = 'map.json', 'nodes.csv'
 VERSION = 1
 SHOWN = 5  # missing listings that are named
+REFUSED = -1
 
 
 def name(sheet, ending):
@@ -54,7 +54,7 @@ def write_sheets(made, folder):
         raise Stop(f'{folder} cannot be written: {error.strerror}.')
     finally:
         shutil.rmtree(part, ignore_errors=True)
-    made.say(f'{counted(len(made.nodes), "node")} on {counted(len(sheets), "sheet")} in {folder}. Run each, then: map --collect {folder}', False)
+    made.tell(f'{counted(len(made.nodes), "node")} on {counted(len(sheets), "sheet")} in {folder}. Run each, then: map --collect {folder}')
 
 
 def listed(nodes):
@@ -73,6 +73,8 @@ def origin_of(made):
     entered, moved = tried(made, AS_ENTERED, spread), None
     if entered != len(spread):
         moved = tried(made, to, spread)
+    if entered == moved == REFUSED:
+        raise made.refused(19)
     which = to if moved is not None and moved > entered else AS_ENTERED
     said = f'{max(entered, 0)} of {counted(len(spread), "node")} spread over the map pass as entered'
     said += '' if moved is None else f', {max(moved, 0)} with the origin moved to {named(to)}'
@@ -81,7 +83,7 @@ def origin_of(made):
 
 
 def tried(made, origin, spread):
-    """How many of a few nodes pass; -1 where a run is refused by 19, which another origin may mend. Other refusals end all."""
+    """How many of a few nodes pass; REFUSED where the run is refused by 19, which another origin may mend. Other refusals end all."""
     nodes = unanswered(array('d', (made.nodes.x[i] for i in spread)), array('d', (made.nodes.y[i] for i in spread)))
     outside = array('d', (made.outside[i] for i in spread)) if made.outside else made.outside
     try:
@@ -89,7 +91,7 @@ def tried(made, origin, spread):
     except Refused as refused:
         if refused.number != 19:
             raise made.refused(refused.number)
-        return -1
+        return REFUSED
 
 
 def kept(made, origin):

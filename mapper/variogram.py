@@ -8,20 +8,23 @@ from mapper.trend import residuals
 
 FIGURES = 4       # of a fitted number, so that what is said is what was taken
 NO_SPREAD = 1e-9  # of the levels: residuals below this are rounding
+NOTHING_LEFT = ('The levels leave nothing to fit a model to (they are the same, or the trend goes through all of them), so a plain one was taken; '
+                'the variances have no scale then.')
+FEW_BINS = ('So few wells make too few bins to fit a model to, so a plain one was taken: the bins\' average as the sill, half the greatest distance as '
+            'the range.')
 
 
-def variogram_of(wells, trend, external, model, given, say):
-    """The variogram and its bins. `say` is told what was taken. The bins are left out where all numbers are given and the call is not built."""
+def variogram_of(wells, trend, external, model, given, tell):
+    """The variogram, its bins, and a sentence, empty where all numbers are given; the bins are then left out where the call is not built."""
     if given.whole() and not (library_there() and len(wells) > 1):
-        return Variogram(model, given.nugget, given.sill, given.range, False), []
+        return Variogram(model, given.nugget, given.sill, given.range, False), [], ''
     rest = residuals(wells, trend, external) if trend != 'constant' or external else [well.level for well in wells]
-    bins = bins_of(wells, rest, say)
+    bins = bins_of(wells, rest, tell)
     if given.whole():
-        return Variogram(model, given.nugget, given.sill, given.range, False), bins
+        return Variogram(model, given.nugget, given.sill, given.range, False), bins, ''
     numbers, how = taken(wells, bins, model, given)
     variogram = Variogram(model, *numbers, True)
-    say(f'{how} {told(variogram, given)} {source(wells, bins, trend, external)}')
-    return variogram, bins
+    return variogram, bins, f'{how} {told(variogram, given)} {source(wells, bins, trend, external)}'
 
 
 def taken(wells, bins, model, given):
@@ -30,12 +33,15 @@ def taken(wells, bins, model, given):
     high = max(abs(well.level) for well in wells)
     plain_range = significant(longest / 2, FIGURES) or 1.0
     if not max(each.semivariance for each in bins) > (NO_SPREAD * high) ** 2:
-        return filled(given, 0.0, 1.0, plain_range), 'The levels leave nothing to fit a model to (they are the same, or the trend goes through all of them), so a plain one was taken; the variances have no scale then.'
+        return filled(given, 0.0, 1.0, plain_range), NOTHING_LEFT
     if len(used) < LEAST_FITTED:
         mean = sum(each.semivariance * each.pairs for each in bins) / sum(each.pairs for each in bins)
-        return filled(given, 0.0, significant(mean, FIGURES), plain_range), 'So few wells make too few bins to fit a model to, so a plain one was taken: their average as the sill, half the greatest distance as the range.'
-    numbers = (significant(each, FIGURES) for each in fit(used, model, given, longest))
-    return filled(given, *usable(model, *numbers)), 'The model was fitted to the semivariogram.'
+        return filled(given, 0.0, significant(mean, FIGURES), plain_range), FEW_BINS
+    nugget, sill, span = (significant(each, FIGURES) for each in fit(used, model, given, longest))
+    said = 'The model was fitted to the semivariogram.'
+    if given.range is None and span >= significant(longest, FIGURES):
+        said += ' The bins do not level off as far as the wells reach, so the range is that reach; a trend may be missing.'
+    return filled(given, *usable(model, nugget, sill), span), said
 
 
 def filled(given, nugget, sill, span):
@@ -45,12 +51,10 @@ def filled(given, nugget, sill, span):
     return nugget, sill if given.sill is None else given.sill, span if given.range is None else given.range
 
 
-def usable(model, nugget, sill, span):
-    """A sill above the nugget, and above nothing: a thousandth is left to the distance where the bins show none of it."""
-    least = nugget * 1e-3 or 1e-9
-    if model == 'linear':
-        return nugget, max(sill, least), span
-    return nugget, max(sill, nugget + least), span
+def usable(model, nugget, sill):
+    """A sill above the nugget, and above nothing: a hundredth is left to the distance where the bins show none of it."""
+    least = nugget / 100 or 1e-9
+    return nugget, max(sill, significant(least if model == 'linear' else nugget + least, FIGURES))
 
 
 def told(variogram, given):
