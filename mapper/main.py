@@ -1,5 +1,4 @@
 """The command: `./map wells.csv`."""
-import os
 import sys
 from pathlib import Path
 
@@ -7,6 +6,7 @@ from mapper.files import table, write_all
 from mapper.make import Made
 from mapper.mend import drawn_map
 from mapper.options import options
+from mapper.page import page
 from mapper.sheet_folder import collected, write_sheets
 from mapper.sheets import Sheets
 from mapper.stop import Stop
@@ -21,7 +21,8 @@ def main(arguments=None):
     found = options(arguments)
     try:
         if found.collect is not None:
-            finish(found, collected(found.collect, found.progress), Path(found.out or found.collect))
+            m = collected(found.collect, found.progress)
+            finish(m, *named(found.out or found.collect, m.title))
         elif found.sheets is not None:
             write_sheets(Made(found, tell), found.sheets)
         else:
@@ -37,12 +38,23 @@ def main(arguments=None):
 
 def direct(found):
     """The normal way: every sheet is run, and the files are written at the end."""
+    wells = Path(found.wells)
+    files = named(found.out or wells.parent, wells.stem)
+    if wells.resolve() in [file.resolve() for file in files]:
+        raise Stop(f'{wells} would be written over by the map. Give the list another ending, such as .csv, or name a folder by --out.')
     made, listing = Made(found, tell), [] if found.listing else None
-    folder = Path(found.out or Path(found.wells).parent)
     m = drawn_map(made, listing)
     for lines in listing or ():
         sys.stdout.write(lines.decode())
-    finish(found, m, folder, kept_surveys(found, made, m))
+    finish(m, *files, kept_surveys(found, made, m))
+
+
+def named(folder, title):
+    """The page and the table of a map in a folder, which has to be there."""
+    folder = Path(folder)
+    if not folder.is_dir():
+        raise Stop(f'There is no folder {folder} to write the map to. Make it, or name another by --out.')
+    return folder / f'{title}.html', folder / f'{title}.map.csv'
 
 
 def kept_surveys(found, made, m):
@@ -55,12 +67,8 @@ def kept_surveys(found, made, m):
     return [(path.with_name(f'{path.stem}.{sheet + 1:06}{path.suffix}'), [sheets[sheet]]) for sheet in range(len(sheets))]
 
 
-def finish(found, m, folder, more=()):
+def finish(m, html, lines, more=()):
     """Writes the page and the table, and says so in one line."""
-    from mapper.page import page
-    html, lines = folder / f'{m.title}.html', folder / f'{m.title}.map.csv'
-    if not folder.is_dir():
-        raise Stop(f'There is no folder {folder} to write the map to.')
     write_all([*more, (html, [page(m).encode()]), (lines, table(m))])
     run = m.runs[m.drawn]
     tell(f'{run.passed:,} of {len(m.nodes):,} nodes passed, {run.failed:,} did not: {html} and {lines}')

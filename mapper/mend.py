@@ -13,12 +13,16 @@ def named(origin):
     return f'({shown(origin[0])}, {shown(origin[1])})'
 
 
+def as_asked(origin):
+    return f'The origin is moved to {named(origin)}, as asked.'
+
+
 def drawn_map(made, listing):
     """The map, with as many runs as `--origin` asks for, and the drawn run's listings where `listing` is not None."""
     wanted, to = made.options.origin, corner(made.wells)
     if wanted == 'moved':
         run = made.refusable(made.through, made.sheets(to), 'moved', keeper(listing))
-        made.say(f'The origin is moved to {named(to)}, as asked.')
+        made.say(as_asked(to))
         return made.map(made.nodes, [run], 0)
     kept = None if listing is None else []
     entered = first_run(made, wanted == 'auto' and to != AS_ENTERED, keeper(kept))

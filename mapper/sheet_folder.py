@@ -8,7 +8,7 @@ from pathlib import Path
 
 from mapper.bar import Bar
 from mapper.listing import Damaged
-from mapper.mend import named
+from mapper.mend import as_asked, named
 from mapper.model import Bin, Grid, Map, Run, Variogram, Well
 from mapper.nodes import grid_nodes, read_nodes, unanswered
 from mapper.files import quoted
@@ -67,18 +67,20 @@ def listed(nodes):
 def origin_of(made):
     """Where the sheets' coordinates are counted from: as asked, else by one sheet of nodes spread over the map."""
     to = corner(made.wells)
-    if made.options.origin != 'auto' or to == AS_ENTERED:
-        return to if made.options.origin == 'moved' else AS_ENTERED
+    if made.options.origin == 'as-entered':
+        return AS_ENTERED
+    if made.options.origin == 'moved':
+        made.say(as_asked(to))
+        return to
     spread = range(0, len(made.nodes), -(-len(made.nodes) // NODES))
-    entered, moved = tried(made, AS_ENTERED, spread), None
-    if entered != len(spread):
-        moved = tried(made, to, spread)
-    if entered == moved == REFUSED:
+    entered = tried(made, AS_ENTERED, spread)
+    moved = tried(made, to, spread) if entered != len(spread) and to != AS_ENTERED else None
+    if max(entered, REFUSED if moved is None else moved) == REFUSED:
         raise made.refused(19)
     which = to if moved is not None and moved > entered else AS_ENTERED
     said = f'{max(entered, 0)} of {counted(len(spread), "node")} spread over the map pass as entered'
     said += '' if moved is None else f', {max(moved, 0)} with the origin moved to {named(to)}'
-    made.say(f'{said}. On the sheets: {"moved" if which == to else "as entered"}.')
+    (made.tell if moved is None else made.say)(f'{said}. On the sheets: {"as entered" if which == AS_ENTERED else "moved"}.')
     return which
 
 
