@@ -21,7 +21,7 @@ class Made:
     """A map on its way: the survey, its nodes, and the sentences said on the way."""
 
     def __init__(self, options, tell):
-        self.options, self.tell, self.notes = options, tell, []
+        self.options, self.tell, self.notes, self.turned_away = options, tell, [], []
         self.wells, self.external = read_wells(options.wells, options.external)
         self.judge(options)
         self.grid, self.nodes, self.outside = self.places(options)
@@ -79,4 +79,4 @@ class Made:
     def map(self, nodes, runs, drawn):
         survey = self.survey
         return Map(Path(self.options.wells).stem, self.wells, nodes, self.grid, survey.variogram, self.bins, survey.trend, self.external,
-                   survey.regularization, survey.tolerance, columns(survey.trend, self.external), runs, drawn, self.notes)
+                   survey.regularization, survey.tolerance, columns(survey.trend, self.external), runs, drawn, self.notes, self.turned_away)

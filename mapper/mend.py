@@ -1,6 +1,4 @@
 """Lost digits, mended: as entered first, and where nodes fail, once more from a round corner near the wells."""
-from dataclasses import replace
-
 from mapper.model import Run
 from mapper.nodes import unanswered
 from mapper.numbers import counted, shown
@@ -52,7 +50,8 @@ def raised(refused):
 def ended(made, entered, to, listing, kept):
     """The map of the run as entered, which is the only one."""
     if entered.failed:
-        why = 'the wells are near the origin already, so that moving it would not help' if to == AS_ENTERED else '--origin as-entered keeps the origin where it is'
+        near = 'the wells are near the origin already, so that moving it would not help'
+        why = near if to == AS_ENTERED else '--origin as-entered keeps the origin where it is'
         made.say(f'{counted(entered.failed, "node")} did not pass, and {why}; a simpler --trend or fewer wells close together may.')
     if listing is not None:
         listing += kept
@@ -69,7 +68,9 @@ def again(made, entered, to, listing, kept):
         if entered.refused:
             made.refusable(raised, refused)
         moved = Run(to, {}, refused.number)
-        made.say(f'With the origin moved to {named(to)} the map is refused: {refusal(refused.number, made.wells, made.options.trend, made.external)}')
+        why = refusal(refused.number, made.wells, made.options.trend, made.external)
+        made.turned_away.append(f'With the origin moved to {named(to)} the map is turned away. {why}')
+        made.tell(made.turned_away[-1])
     drawn = 1 if moved.passed > entered.passed or entered.refused else 0
     made.say(told(entered, moved, drawn, len(nodes)))
     if listing is not None:

@@ -75,7 +75,8 @@ def options(arguments):
     if found.collect is not None:
         others = [name for name in ('wells', 'nodes', 'grid', 'external', 'survey', 'sheets') if getattr(found, name) is not None]
         if others:
-            use.error('--collect DIR takes all of the map from DIR; leave out ' + ', '.join('--' + name if name != 'wells' else 'the list of wells' for name in others))
+            left = ', '.join('the list of wells' if name == 'wells' else '--' + name for name in others)
+            use.error(f'--collect DIR takes all of the map from DIR; leave out {left}')
     elif found.wells is None:
         use.error('name the list of wells, such as samples/valley.csv')
     if found.nodes is not None and found.grid is not None:

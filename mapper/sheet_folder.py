@@ -9,7 +9,7 @@ from pathlib import Path
 from mapper.bar import Bar
 from mapper.listing import Damaged
 from mapper.mend import as_asked, named
-from mapper.model import Bin, Grid, Map, Run, Variogram, Well
+from mapper.model import Bin, Grid, Map, Variogram, Well
 from mapper.nodes import grid_nodes, read_nodes, unanswered
 from mapper.files import quoted
 from mapper.numbers import counted, shown

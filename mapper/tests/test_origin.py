@@ -112,5 +112,5 @@ class WhichIsDrawn(Folder):
     def test_refused_only_moved(self):
         status, out, _ = self.drawn((1, 1), (None, 19))
         self.assertEqual(status, 0)
-        self.assertIn('With the origin moved to (1000, 1000) the map is refused: Refused (19)', out)
+        self.assertIn('With the origin moved to (1000, 1000) the map is turned away. Refused (19)', out)
         self.assertIn('0 of 2 nodes passed, 2 did not', out)
