@@ -26,6 +26,12 @@ def bits(pattern):
     return struct.unpack('>d', bytes.fromhex(pattern))[0]
 
 
+def section(number):
+    """The text of a section of docs/REFERENCE.md."""
+    text = (ROOT / 'docs' / 'REFERENCE.md').read_text(encoding='utf-8')
+    return text.split(f'\n## {number}. ')[1].split('\n## ')[0]
+
+
 class Folder(unittest.TestCase):
     """A test with a folder of its own."""
 

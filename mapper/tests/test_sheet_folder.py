@@ -1,10 +1,12 @@
 """Large maps: sheets in a folder, run by another, and collected: the same page and the same table as the direct way."""
 import json
+import os
+import re
 import subprocess
 from unittest import mock
 
 from mapper.built import program
-from mapper.tests.support import FOUR, NUMBERS, SAMPLES, Folder, nakwemol
+from mapper.tests.support import FOUR, NUMBERS, SAMPLES, Folder, nakwemol, section
 
 GRID = (*NUMBERS, '--grid', '15x15')
 FAR = 'x,y,level\n7000,7000,10\n7100,7000,11\n7000,7100,12.5\n7090,7080,12\n'
@@ -17,9 +19,10 @@ class SheetFolder(Folder):
         return self.folder / 'sheets', said
 
     def run_all(self, folder):
-        """Every sheet by a process of its own, as docs/REFERENCE.md has it for a shell."""
-        script = 'for sheet in *.survey; do "$0" < "$sheet" > "${sheet%.survey}.listing"; done'
-        subprocess.run(['sh', '-c', script, program(print)], cwd=folder, check=True)
+        """Every sheet, by the array job of docs/REFERENCE.md: its first task."""
+        (job,) = re.findall('```sh\n(.*?)```', section(15), re.S)
+        script = job.replace('target/bin/wellmap', program(print)).replace('DIR', str(folder))
+        subprocess.run(['sh', '-eu', '-c', script], env={**os.environ, 'SLURM_ARRAY_TASK_ID': '0'}, check=True)
 
     def same_both_ways(self, wells, *words):
         self.made(wells, *words)

@@ -4,13 +4,8 @@ import unittest
 
 from mapper.model import Well
 from mapper.survey_file import columns
-from mapper.tests.support import ROOT
+from mapper.tests.support import section
 from mapper.words import REFUSALS, refusal, verdict
-
-
-def section(number):
-    text = (ROOT / 'docs' / 'REFERENCE.md').read_text()
-    return text.split(f'\n## {number}. ')[1].split('\n## ')[0]
 
 
 def some(count):
