@@ -2,6 +2,7 @@
 import os
 import shutil
 import subprocess
+import sys
 import time
 from pathlib import Path
 
@@ -41,16 +42,29 @@ def library_there():
 
 def build(tell, made, why, command):
     """Runs a command of the repository, which leaves `made`; what it prints goes to a file in target/."""
-    if shutil.which(command[0], path=os.environ.get('PATH', '') + os.pathsep + str(ROOT)) is None and not (ROOT / command[0]).is_file():
+    if shutil.which(command[0]) is None and not (ROOT / command[0]).is_file():
         raise Stop(f'{why}, and the Rattle toolchain (rt) that builds it is not here. Install it, or copy {made} from where it was built.')
     log = ROOT / 'target' / 'map-build.log'
     log.parent.mkdir(exist_ok=True)
     if why:
         tell(f'{why}: `{" ".join(command)}` proves and builds it now. This is done once, and takes some minutes ..')
     began = time.monotonic()
-    with open(log, 'wb') as out:
-        ended = subprocess.run(command, cwd=ROOT, stdout=out, stderr=subprocess.STDOUT, stdin=subprocess.DEVNULL)
-    if ended.returncode or not (ROOT / made).is_file():
-        raise Stop(f'`{" ".join(command)}` did not end well (status {ended.returncode}). What it printed is in {log}.')
+    code = logged(command, log)
+    if code or not (ROOT / made).is_file():
+        raise Stop(f'`{" ".join(command)}` did not end well (status {code}). What it printed is in {log}.')
     if why:
         tell(f'Built in {time.monotonic() - began:.0f} s.')
+
+
+def logged(command, log):
+    """The status of a command, whose lines go to a file; on a terminal those that say which crate is proved are shown in turn."""
+    shown = sys.stderr.isatty()
+    with open(log, 'wb') as out, subprocess.Popen(command, cwd=ROOT, stdin=subprocess.DEVNULL, stdout=subprocess.PIPE, stderr=subprocess.STDOUT) as running:
+        for line in running.stdout:
+            out.write(line)
+            if shown and line.startswith(b'rt: '):
+                sys.stderr.write(f'\r{line[4:70].decode(errors="replace").strip():<66}')
+                sys.stderr.flush()
+    if shown:
+        sys.stderr.write('\r' + ' ' * 66 + '\r')
+    return running.returncode

@@ -1,5 +1,4 @@
 """Which column of a list is which, and the numbers in it."""
-import math
 import re
 
 from mapper.lines import bad_line, rows
@@ -13,6 +12,7 @@ CALLED = {
     'level': ('level', 'head', 'water_level', 'waterlevel', 'water_table', 'hydraulic_head', 'groundwater_level', 'gw_level'),
 }
 DEGREES = {'lat', 'latitude', 'lon', 'long', 'longitude'}
+LARGEST = 1e15  # far past any place or level, and small enough for squares of squares
 NUMBER = re.compile(r'[+-]?([0-9]+\.?[0-9]*|\.[0-9]+)([eE][+-]?[0-9]+)?')
 DECIMAL_COMMA = re.compile(r'[+-]?[0-9]*,[0-9]+([eE][+-]?[0-9]+)?')
 
@@ -30,8 +30,8 @@ def number(cell, header):
     """The number in a field; BadCell where there is none."""
     if NUMBER.fullmatch(cell):
         value = float(cell)
-        if math.isinf(value):
-            raise BadCell(f'{header} is too large: {cell}')
+        if abs(value) > LARGEST:
+            raise BadCell(f'{header} is too large: {cell}; places and levels are in metres')
         return value
     if not cell:
         raise BadCell(f'{header} is missing; fill it in, or take the line out')

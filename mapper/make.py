@@ -47,7 +47,7 @@ class Made:
             raise self.refused(refused.number)
 
     def judge(self, options):
-        """Turns away at once what the program would, in its order, so that nobody waits for it."""
+        """Turns away at once what the program would turn away after the bins are made and fitted."""
         rows = len(columns(options.trend, self.external))
         if len(self.wells) < rows:
             raise self.refused(7)

@@ -8,6 +8,7 @@ from mapper.stop import Stop
 
 LONGER = 40      # columns of a grid in the wells' longer direction, about
 MOST = 10_000_000
+SPOT = 1e-9      # metres: wells that reach less far stand at one spot
 ROUND = (1, 1.25, 1.5, 2, 2.5, 3, 4, 5, 6, 8, 10)
 
 
@@ -48,7 +49,7 @@ def longer_side(wells):
     """How far the wells reach in their longer direction; a grid needs more than a spot."""
     west, east, south, north = bounds(wells)
     side = max(east - west, north - south)
-    if not side > 0 or math.isinf(side):
+    if side < SPOT:
         raise Stop('The wells stand at one spot, so there is nothing to lay a grid over. Name the nodes by --nodes nodes.csv.')
     return side
 

@@ -25,14 +25,14 @@ def size(text):
 
 
 def above(least, what):
-    """A finite number above, or at least, another."""
+    """A number above, or at least, another; past 1e30 its square's square would not be finite, and it means nothing in metres."""
     def number(text):
         try:
             value = float(text)
         except ValueError:
             value = float('nan')
-        if not (least <= value < float('inf')) or (what == 'above' and value == least):
-            raise argparse.ArgumentTypeError(f'{text} is not a number {what} {least:g}')
+        if not least <= value <= 1e30 or (what == 'above' and value == least):
+            raise argparse.ArgumentTypeError(f'{text} is not a number {what} {least:g}{"; it is too large" if value > least else ""}')
         return value
     return number
 

@@ -1,7 +1,7 @@
 """A round corner near the wells, to which the origin is moved so that coordinates keep few figures."""
 import math
 
-from mapper.nodes import bounds
+from mapper.nodes import SPOT, bounds
 
 AS_ENTERED = (0.0, 0.0)
 
@@ -13,5 +13,11 @@ def corner(wells):
     """
     west, east, south, north = bounds(wells)
     extent = max(east - west, north - south)
-    power = 10.0 ** math.floor(math.log10(extent)) if 0 < extent < math.inf else 1.0
-    return math.floor(west / power) * power, math.floor(south / power) * power
+    digits = math.floor(math.log10(extent)) if extent >= SPOT else 0
+    return floor_to(west, digits), floor_to(south, digits)
+
+
+def floor_to(x, digits):
+    """The multiple of 10^digits at or below x. A power below one is divided by, so that the multiple has no more figures than it should."""
+    power = 10.0 ** abs(digits)
+    return float(math.floor(x / power) * power if digits >= 0 else math.floor(x * power) / power)

@@ -78,7 +78,8 @@ class WrongLists(Folder):
     def test_missing_and_too_large(self):
         self.says('name,x,y,level\nA,1,2,\n', 'line 2', 'level is missing')
         self.says('name,x,y,level\nA,1\n', 'line 2', 'y is missing')
-        self.says('name,x,y,level\nA,1,2,1e999\n', 'line 2', 'level is too large')
+        for cell in ('1e999', '-1e16'):
+            self.says(f'name,x,y,level\nA,1,2,{cell}\n', 'line 2', f'level is too large: {cell}')
 
     def test_line_number_after_a_name_of_two_lines(self):
         self.says('name,x,y,level\n"A\nB",1,2,3\nC,x,2,3\n', 'line 4:', '    C,x,2,3')

@@ -1,11 +1,13 @@
 """Every option, by what it leaves in the survey file, as the proved reader reads it, or in the files."""
 import os
 import subprocess
+import unittest
 from unittest import mock
 
 from mapper import bar
 from mapper.built import program
-from mapper.tests.support import FOUR, NUMBERS, ROOT, Folder, nakwemol
+from mapper.options import parser
+from mapper.tests.support import FOUR, NUMBERS, ROOT, Folder, nakwemol, section
 
 SIX = FOUR + 'E,40,130,12.2\nF,130,60,11.1\n'
 GROUND = 'name,x,y,level,Ground\nA,0,0,10,20\nB,100,0,11,22\nC,0,100,12.5,21\nD,90,80,12,25\n'
@@ -122,6 +124,14 @@ class Options(Folder):
         self.assertEqual((ended.returncode, ended.stdout), (0, b'9 of 9 nodes passed, 0 did not: wells.html and wells.map.csv\n'))
 
 
+class Told(unittest.TestCase):
+    def test_every_option_is_in_the_reference(self):
+        told = section(15)
+        for action in parser()._actions:
+            for word in action.option_strings:
+                self.assertTrue(word in ('-h', '--help') or f'`{word}' in told, word)
+
+
 class WrongUse(Folder):
     """Status 2, a sentence, and no file."""
 
@@ -138,6 +148,7 @@ class WrongUse(Folder):
             ((wells, '--sill', '0'), 'not a number above 0'),
             ((wells, '--range', 'far'), 'not a number above 0'),
             ((wells, '--range', 'nan'), 'not a number above 0'),
+            ((wells, '--sill', '1e300'), 'it is too large'),
             ((wells, '--jobs', '0'), 'say 1 or more'),
             ((wells, '--origin', 'here'), 'invalid choice'),
             ((wells, '--nodes', wells, '--grid', '2x2'), 'leave one out'),

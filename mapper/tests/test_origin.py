@@ -28,6 +28,7 @@ class Corner(unittest.TestCase):
         self.assertEqual(of((-4512310, 10), (-4512110, 20)), (-4512400, 0))
         self.assertEqual(of((0.5, 0.25), (3.5, 0.75)), (0, 0))
         self.assertEqual(of((2000.5, 2000.5), (2000.75, 2000.75)), (2000.5, 2000.5))
+        self.assertEqual(of((45.37, 45.37), (45.68, 45.68)), (45.3, 45.3))
 
 
 class SevenFigures(Folder):
