@@ -1,4 +1,5 @@
 """Lost digits, mended: 20 wells within 200 m in coordinates of seven figures, the disease of samples/seven_figures.survey."""
+import sys
 import unittest
 
 from mapper.model import Well
@@ -61,6 +62,7 @@ class SevenFigures(Folder):
         self.assertNotIn('as entered', said)
         self.assertIn('100 of 100', said)
 
+    @unittest.skipIf(sys.version_info < (3, 10), 'tools/reading asks for Python 3.10')
     def test_moved_figures_are_those_of_another_reading(self):
         """tools/reading, which shares no code with this or with the program, given coordinates less the corner."""
         places = [(4512320.0, 5403120.0), (4512400.0, 5403160.0), (4512455.5, 5403250.25)]
