@@ -9,7 +9,7 @@ from pathlib import Path
 from mapper.stop import Stop
 
 ROOT = Path(__file__).resolve().parents[1]
-PROGRAM = Path('target/bin/wellmap')
+PROGRAM, STAMP = Path('target/bin/wellmap'), Path('target/stamp/wellmap')
 ARCHIVE, SHARED = Path('target/staticlib/libnakwemol.a'), Path('target/staticlib/libnakwemol.so')
 
 
@@ -21,6 +21,8 @@ def program(tell):
             raise Stop(f'NAKWEMOL_WELLMAP names {named}, and there is no such file.')
         return named
     if not (ROOT / PROGRAM).is_file():
+        if (ROOT / STAMP).is_file():
+            (ROOT / STAMP).unlink()  # `rt check` would not link again what it has proved before
         build(tell, PROGRAM, 'The program is not built yet', ['rt', 'check', 'wellmap'])
     return str(ROOT / PROGRAM)
 

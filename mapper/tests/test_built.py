@@ -32,6 +32,13 @@ class Built(Folder):
         self.assertIn('The program is not built yet: `rt check wellmap` proves and builds it now.', self.said[0])
         self.assertIn('Built in', self.said[1])
 
+    def test_program_that_was_removed_is_built_again(self):
+        """The real `rt check` leaves a crate alone that it has a stamp for, whether its program is there or not."""
+        self.tool('[ -f target/stamp/wellmap ] || { mkdir -p target/bin target/stamp; touch target/bin/wellmap target/stamp/wellmap; }')
+        for _ in range(2):
+            path = built.program(self.said.append)
+            os.unlink(path)
+
     def test_library_is_built_and_linked(self):
         self.tool('echo "$*" >> asked; mkdir -p target/staticlib; touch target/staticlib/libnakwemol.a')
         self.tool('touch target/staticlib/libnakwemol.so', 'bindings/python/link')
