@@ -2,12 +2,13 @@
 import sys
 from pathlib import Path
 
+from mapper.collect import collected
 from mapper.files import table, write_all
 from mapper.make import Made
 from mapper.mend import drawn_map
 from mapper.options import options
 from mapper.page import page
-from mapper.sheet_folder import collected, write_sheets
+from mapper.sheet_folder import write_sheets
 from mapper.sheets import Sheets
 from mapper.stop import Stop
 
@@ -42,10 +43,10 @@ def direct(found):
     files = named(found.out or wells.parent, wells.stem)
     if wells.resolve() in [file.resolve() for file in files]:
         raise Stop(f'{wells} would be written over by the map. Give the list another ending, such as .csv, or name a folder by --out.')
-    made, listing = Made(found, tell), [] if found.listing else None
-    m = drawn_map(made, listing)
-    for lines in listing or ():
-        sys.stdout.write(lines.decode())
+    made = Made(found, tell)
+    m, listings = drawn_map(made)
+    for listing in listings:
+        sys.stdout.write(listing.decode())
     finish(m, *files, kept_surveys(found, made, m))
 
 

@@ -1,10 +1,23 @@
 """Lost digits, mended: as entered first, and where nodes fail, once more from a round corner near the wells."""
-from mapper.model import Run
+from dataclasses import dataclass
+from typing import List
+
+from mapper.model import Nodes, Run
 from mapper.nodes import unanswered
 from mapper.numbers import counted, shown
 from mapper.origin import AS_ENTERED, corner
 from mapper.stop import Refused
 from mapper.words import refusal
+
+SIMPLER = 'a simpler --trend may help, or one well in place of several close together'
+
+
+@dataclass
+class Attempt:
+    """One way through the nodes: its run, the nodes as it answered them, and the program's listings where they are asked for."""
+    run: Run
+    nodes: Nodes
+    listings: List[bytes]
 
 
 def named(origin):
@@ -15,71 +28,62 @@ def as_asked(origin):
     return f'The origin is moved to {named(origin)}, as asked.'
 
 
-def drawn_map(made, listing):
-    """The map, with as many runs as `--origin` asks for, and the drawn run's listings where `listing` is not None."""
+def drawn_map(made):
+    """The map of the better attempt, as entered where they are alike, and its listings."""
+    attempts = attempts_of(made)
+    drawn = max(range(len(attempts)), key=lambda i: (not attempts[i].run.refused, attempts[i].run.passed))
+    for sentence in made.turned_away:
+        made.tell(sentence)
+    for sentence in told([each.run for each in attempts], drawn, made.options.origin):
+        made.say(sentence)
+    return made.map(attempts[drawn].nodes, [each.run for each in attempts], drawn), attempts[drawn].listings
+
+
+def attempts_of(made):
+    """The attempt that `--origin` names; else the one as entered, and where that leaves something to mend the moved one."""
     wanted, to = made.options.origin, corner(made.wells)
     if wanted == 'moved':
-        run = made.refusable(made.through, made.sheets(to), 'moved', keeper(listing))
-        made.say(as_asked(to))
-        return made.map(made.nodes, [run], 0)
-    kept = None if listing is None else []
-    entered = first_run(made, wanted == 'auto' and to != AS_ENTERED, keeper(kept))
-    if entered.failed == 0 and not entered.refused or wanted == 'as-entered' or to == AS_ENTERED:
-        return ended(made, entered, to, listing, kept)
-    return again(made, entered, to, listing, kept)
+        return [attempt(made, to, 'moved', False)]
+    mendable = wanted == 'auto' and to != AS_ENTERED
+    entered = attempt(made, AS_ENTERED, 'as entered', mendable)
+    if not mendable or not (entered.run.failed or entered.run.refused):
+        return [entered]
+    return [entered, attempt(made, to, 'moved', not entered.run.refused)]
 
 
-def keeper(listing):
-    return None if listing is None else listing.append
-
-
-def first_run(made, may_mend, keep):
-    """The run as entered. Where another can follow, a refusal by 19 waits for that: digits may be all that is missing."""
+def attempt(made, origin, what, may_be_refused):
+    """One way through the nodes. A refusal by 19 is an attempt too where there is another one: digits may be all that is missing in one of them."""
+    nodes, listings = unanswered(made.nodes.x, made.nodes.y, made.nodes.names), []
     try:
-        return made.through(made.sheets(AS_ENTERED), 'as entered', keep)
+        run = made.through(made.sheets(origin, nodes), what, listings.append if made.options.listing else None)
     except Refused as refused:
-        if refused.number != 19 or not may_mend:
-            return made.refusable(raised, refused)
-        return Run(AS_ENTERED, {}, 19)
+        if refused.number != 19 or not may_be_refused:
+            raise made.refused(refused.number)
+        run = Run(origin, {}, refused.number)
+        made.turned_away.append(turned_away(made, origin, refused.number))
+    return Attempt(run, nodes, listings)
 
 
-def raised(refused):
-    raise refused
+def turned_away(made, origin, number):
+    where = 'As entered' if origin == AS_ENTERED else f'With the origin moved to {named(origin)}'
+    return f'{where} the map is turned away. {refusal(number, made.wells, made.options.trend, made.external)}'
 
 
-def ended(made, entered, to, listing, kept):
-    """The map of the run as entered, which is the only one."""
-    if entered.failed:
-        near = 'the wells are near the origin already, so that moving it would not help'
-        why = near if to == AS_ENTERED else '--origin as-entered keeps the origin where it is'
-        made.say(f'{counted(entered.failed, "node")} did not pass, and {why}; a simpler --trend or fewer wells close together may.')
-    if listing is not None:
-        listing += kept
-    return made.map(made.nodes, [entered], 0)
+def told(runs, drawn, wanted):
+    """What there is to say of the runs: where the origin is moved both counts in one sentence; and what to do about nodes that fail still."""
+    if wanted == 'moved':
+        yield as_asked(runs[0].origin)
+    elif len(runs) == 2:
+        yield both(*runs, drawn)
+    failed = runs[drawn].failed
+    if failed:
+        tried = ', and moving the origin does not mend it' if len(runs) == 2 else ', with the origin near the wells already'
+        yield f'{counted(failed, "node")} did not pass{tried if wanted == "auto" else ""}; {SIMPLER}.'
 
 
-def again(made, entered, to, listing, kept):
-    """The run with the origin moved, and the better of the two drawn."""
-    nodes = unanswered(made.nodes.x, made.nodes.y, made.nodes.names)
-    lines = None if listing is None else []
-    try:
-        moved = made.through(made.sheets(to, nodes), 'moved', keeper(lines))
-    except Refused as refused:
-        if entered.refused:
-            made.refusable(raised, refused)
-        moved = Run(to, {}, refused.number)
-        why = refusal(refused.number, made.wells, made.options.trend, made.external)
-        made.turned_away.append(f'With the origin moved to {named(to)} the map is turned away. {why}')
-        made.tell(made.turned_away[-1])
-    drawn = 1 if moved.passed > entered.passed or entered.refused else 0
-    made.say(told(entered, moved, drawn, len(nodes)))
-    if listing is not None:
-        listing += lines if drawn else kept
-    return made.map(nodes if drawn else made.nodes, [entered, moved], drawn)
-
-
-def told(entered, moved, drawn, total):
-    """Both counts, and which is drawn, in one sentence."""
-    first = 'the map is refused by 19' if entered.refused else f'{entered.passed:,} of {counted(total, "node")} pass'
-    second = f'it is refused by {moved.refused}' if moved.refused else f'{moved.passed:,} do'
-    return f'With coordinates as entered {first}; with the origin moved to {named(moved.origin)} {second}. Drawn: {"moved" if drawn else "as entered"}.'
+def both(entered, moved, drawn):
+    total = counted(sum((moved if entered.refused else entered).verdicts.values()), 'node')
+    first = f'the map is refused by {entered.refused}' if entered.refused else f'{entered.passed:,} of {total} pass'
+    second = f'it is refused by {moved.refused}' if moved.refused else f'{moved.passed:,} {"of " + total + " pass" if entered.refused else "do"}'
+    which = 'with the origin moved' if drawn else 'as entered'
+    return f'With coordinates as entered {first}; with the origin moved to {named(moved.origin)} {second}; the map is drawn {which}.'

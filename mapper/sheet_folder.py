@@ -1,4 +1,4 @@
-"""Large maps: the sheets as survey files in a folder, to be run elsewhere, and the map of their listings."""
+"""Large maps: the sheets as survey files in a folder, to be run elsewhere; mapper/collect.py makes the map of their listings."""
 import json
 import os
 import shutil
@@ -7,23 +7,16 @@ from dataclasses import asdict
 from pathlib import Path
 
 from mapper.bar import Bar
-from mapper.listing import Damaged
-from mapper.mend import as_asked, named
-from mapper.model import Bin, Grid, Map, Variogram, Well
-from mapper.nodes import grid_nodes, read_nodes, unanswered
 from mapper.files import quoted
+from mapper.mend import as_asked, named
+from mapper.nodes import unanswered
 from mapper.numbers import counted, shown
 from mapper.origin import AS_ENTERED, corner
-from mapper.runs import fill, tally
-from mapper.sheets import Sheets
 from mapper.stop import Refused, Stop
-from mapper.survey import Survey
-from mapper.survey_file import NODES, columns
-from mapper.words import refusal
+from mapper.survey_file import NODES
 
 KEPT, LIST = 'map.json', 'nodes.csv'
 VERSION = 1
-SHOWN = 5  # missing listings that are named
 REFUSED = -1
 
 
@@ -105,51 +98,3 @@ def kept(made, origin):
         'variogram': asdict(survey.variogram), 'bins': [asdict(each) for each in made.bins], 'grid': made.grid and asdict(made.grid),
         'nodes': len(made.nodes), 'origin': list(origin), 'notes': made.notes,
     }
-
-
-def collected(folder, progress=False):
-    """The map of a folder's listings."""
-    folder = Path(folder)
-    k = read_kept(folder)
-    grid = Grid(**k['grid']) if k['grid'] else None
-    nodes = grid_nodes(grid) if grid else read_nodes(folder / LIST)[0]
-    survey = Survey([Well(**well) for well in k['wells']], k['trend'], k['external'], Variogram(**k['variogram']), k['regularization'], k['tolerance'])
-    sheets = Sheets(survey, nodes, array('d'), tuple(k['origin']))
-    if len(nodes) != k['nodes']:
-        raise Stop(f'{folder / LIST} has {len(nodes)} nodes, and {KEPT} says {k["nodes"]}. Write the sheets anew.')
-    missing = [name(sheet, 'listing') for sheet in range(len(sheets)) if not (folder / name(sheet, 'listing')).is_file()]
-    if missing:
-        more = f' and {len(missing) - SHOWN:,} more' if len(missing) > SHOWN else ''
-        raise Stop(f'{counted(len(missing), "listing")} missing in {folder}: {", ".join(missing[:SHOWN])}{more}. Run their sheets, then collect again.')
-    with Bar('collect', len(nodes), progress) as bar:
-        for sheet in range(len(sheets)):
-            take(folder / name(sheet, 'listing'), sheets, sheet)
-            first, end = sheets.span(sheet)
-            bar.step(end - first)
-    return Map(k['title'], survey.wells, nodes, grid, survey.variogram, [Bin(**each) for each in k['bins']], survey.trend, survey.external,
-               survey.regularization, survey.tolerance, columns(survey.trend, survey.external), [tally(sheets)], 0, k['notes'])
-
-
-def read_kept(folder):
-    try:
-        kept = json.loads((folder / KEPT).read_text(encoding='utf-8'))
-    except OSError:
-        raise Stop(f'{folder} has no {KEPT}. It has to be a folder that --sheets wrote.')
-    except ValueError:
-        kept = None
-    if not isinstance(kept, dict) or kept.get('version') != VERSION:
-        raise Stop(f'{folder / KEPT} is not as --sheets writes it. Write the sheets anew.')
-    return kept
-
-
-def take(path, sheets, sheet):
-    """Fills in a sheet's nodes from its listing."""
-    try:
-        fill(sheets, sheet, path.read_bytes())
-    except Damaged as damaged:
-        raise Stop(f'{path} is not whole: {damaged}. Run its sheet again.')
-    except Refused as refused:
-        survey = sheets.survey
-        raise Stop(f'{path}: {refusal(refused.number, survey.wells, survey.trend, survey.external)}')
-    except OSError as error:
-        raise Stop(f'{path} cannot be read: {error.strerror}.')

@@ -33,10 +33,10 @@ def taken(wells, bins, model, given):
     high = max(abs(well.level) for well in wells)
     plain_range = significant(longest / 2, FIGURES) or 1.0
     if not max(each.semivariance for each in bins) > (NO_SPREAD * high) ** 2:
-        return filled(given, 0.0, 1.0, plain_range), NOTHING_LEFT
+        return plain(given, model, 1.0, plain_range), NOTHING_LEFT
     if len(used) < LEAST_FITTED:
         mean = sum(each.semivariance * each.pairs for each in bins) / sum(each.pairs for each in bins)
-        return filled(given, 0.0, significant(mean, FIGURES), plain_range), FEW_BINS
+        return plain(given, model, significant(mean, FIGURES), plain_range), FEW_BINS
     nugget, sill, span = (significant(each, FIGURES) for each in fit(used, model, given, longest))
     said = 'The model was fitted to the semivariogram.'
     if given.range is None and span >= significant(longest, FIGURES):
@@ -45,10 +45,14 @@ def taken(wells, bins, model, given):
 
 
 def filled(given, nugget, sill, span):
-    """What is given goes before what was worked out; a sill is never left below a nugget that was given."""
-    nugget = nugget if given.nugget is None else given.nugget
-    sill = max(sill, 2 * nugget) if given.sill is None and sill < nugget else sill
-    return nugget, sill if given.sill is None else given.sill, span if given.range is None else given.range
+    """What is given goes before what was worked out."""
+    return nugget if given.nugget is None else given.nugget, sill if given.sill is None else given.sill, span if given.range is None else given.range
+
+
+def plain(given, model, sill, span):
+    """A model for what cannot be fitted: no nugget, or the one given, and a sill above it."""
+    nugget = given.nugget or 0.0
+    return filled(given, nugget, sill if model == 'linear' or sill > nugget else 2 * nugget, span)
 
 
 def usable(model, nugget, sill):

@@ -40,7 +40,7 @@ class SevenFigures(Folder):
 
     def test_as_entered_none_passes_and_moved_all(self):
         said = self.made(self.wells, *MODEL, '--grid', '10x10')
-        self.assertIn('With coordinates as entered 0 of 100 nodes pass; with the origin moved to (4512300, 5403100) 100 do. Drawn: moved.', said)
+        self.assertIn('With coordinates as entered 0 of 100 nodes pass; with the origin moved to (4512300, 5403100) 100 do; the map is drawn with the origin moved.', said)
         self.assertIn('100 of 100 nodes passed, 0 did not: ', said.splitlines()[-1])
         self.assertEqual({row[5] for row in self.rows()}, {'0'})
 
@@ -78,8 +78,8 @@ class SevenFigures(Folder):
         """Wells that start at (0, 0) have it as their corner; a tolerance of 0 is missed there all the same."""
         text = 'x,y,level\n' + ''.join(f'{37 * i % 100},{61 * i % 97},{i % 7}\n' for i in range(12))
         said = self.made(self.file(text), '--trend', 'quadratic', '--tolerance', '0', '--grid', '5x5')
-        self.assertIn('the wells are near the origin already', said)
-        self.assertNotIn('Drawn', said)
+        self.assertIn('with the origin near the wells already', said)
+        self.assertNotIn('is drawn', said)
 
 
 class WhichIsDrawn(Folder):
@@ -94,17 +94,17 @@ class WhichIsDrawn(Folder):
         return self.command(wells, '--nodes', nodes, '--nugget', '0', '--sill', '1', '--range', '9')
 
     def test_the_better_one(self):
-        self.assertIn('1 of 2 nodes pass; with the origin moved to (1000, 1000) 2 do. Drawn: moved.', self.drawn((0, 1), (0, 0))[1])
+        self.assertIn('1 of 2 nodes pass; with the origin moved to (1000, 1000) 2 do; the map is drawn with the origin moved.', self.drawn((0, 1), (0, 0))[1])
         self.assertEqual([row[5] for row in self.rows()], ['0', '0'])
 
     def test_as_entered_where_moving_did_not_help(self):
-        self.assertIn('moved to (1000, 1000) 1 do. Drawn: as entered.', self.drawn((0, 1), (2, 0))[1])
+        self.assertIn('moved to (1000, 1000) 1 do; the map is drawn as entered.', self.drawn((0, 1), (2, 0))[1])
         self.assertEqual([row[5] for row in self.rows()], ['0', '1'])
 
     def test_refused_as_entered_and_mended(self):
         status, out, _ = self.drawn((None, 19), (0, 0))
         self.assertEqual(status, 0)
-        self.assertIn('With coordinates as entered the map is refused by 19; with the origin moved to (1000, 1000) 2 do. Drawn: moved.', out)
+        self.assertIn('With coordinates as entered the map is refused by 19; with the origin moved to (1000, 1000) 2 of 2 nodes pass; the map is drawn with the origin moved.', out)
 
     def test_refused_both_ways(self):
         status, _, err = self.drawn((None, 19), (None, 19))

@@ -102,6 +102,15 @@ class Taken(unittest.TestCase):
         self.assertEqual((found.sill, found.range, found.fitted), (3, 40, True))
         self.assertIn('(sill and range as given)', said)
 
+    def test_sill_of_the_linear_model_may_be_below_the_nugget(self):
+        """Bins that rise slowly from 5: the model tops at nugget + sill."""
+        row = wells(*((37 * i % 100, 53 * i % 100, i % 5) for i in range(20)))
+        self.assertLess(self.taken(row, model='linear', nugget=1.5)[0].sill, 1.5)
+
+    def test_plain_sill_is_above_a_nugget_that_is_given(self):
+        self.assertEqual(self.taken(wells((0, 0, 2), (2, 0, 6)), nugget=9.0)[0].sill, 18)
+        self.assertEqual(self.taken(wells((0, 0, 2), (2, 0, 6)), nugget=9.0, model='linear')[0].sill, 8)
+
     def test_what_is_said_is_what_is_taken(self):
         row = wells(*((37 * i % 100, 53 * i % 100, i % 5) for i in range(20)))
         found, _, said = self.taken(row, trend='quadratic')
