@@ -77,8 +77,14 @@ def told(runs, drawn, wanted):
         yield both(*runs, drawn)
     failed = runs[drawn].failed
     if failed:
-        tried = ', and moving the origin does not mend it' if len(runs) == 2 else ', with the origin near the wells already'
-        yield f'{counted(failed, "node")} did not pass{tried if wanted == "auto" else ""}; {SIMPLER}.'
+        yield f'{counted(failed, "node")} did not pass, {tried(len(runs), wanted)}; {SIMPLER}.'
+
+
+def tried(runs, wanted):
+    """What was done about the origin of nodes that fail."""
+    if wanted == 'auto':
+        return 'and moving the origin does not mend it' if runs == 2 else 'with the origin near the wells already'
+    return 'with coordinates as entered (without --origin the origin is moved where that helps)' if wanted == 'as-entered' else 'with the origin moved'
 
 
 def both(entered, moved, drawn):

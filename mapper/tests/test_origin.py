@@ -50,7 +50,8 @@ class SevenFigures(Folder):
 
     def test_as_entered_is_kept(self):
         said = self.made(self.wells, *MODEL, '--grid', '10x10', '--origin', 'as-entered')
-        self.assertNotIn('moved', said)
+        self.assertNotIn('with the origin moved', said)
+        self.assertIn('100 nodes did not pass, with coordinates as entered (without --origin', said)
         self.assertIn('0 of 100 nodes passed, 100 did not', said)
         for row in self.rows():
             self.assertEqual((row[3], row[4], row[5]), ('', '', '1'))
