@@ -22,6 +22,7 @@ class Lists(Folder):
     def test_marks_and_line_ends(self):
         text = 'name,x,y,level\r\nA,4512300.5,5403200,31.25\r\nB,4512400,5403300,30'
         self.assertEqual(self.wells(codecs.BOM_UTF8 + text.encode()), TWO)
+        self.assertEqual(read_wells(self.file(codecs.BOM_UTF8 + b'ground,x,y,level\n1,2,3,4\n'), 'ground')[1], 'ground')
         self.assertEqual(self.wells(codecs.BOM_UTF16_LE + text.encode('utf-16-le')), TWO)
         self.assertEqual(self.wells(text.replace('\r\n', '\r')), TWO)
 

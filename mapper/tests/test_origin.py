@@ -113,6 +113,11 @@ class WhichIsDrawn(Folder):
         self.assertIn('Refused (19)', err)
         self.assertFalse((self.folder / 'wells.html').exists())
 
+    def test_only_19_may_be_a_matter_of_digits(self):
+        status, _, err = self.drawn((None, 11), (0, 0))
+        self.assertEqual(status, 1)
+        self.assertIn('Refused (11)', err)
+
     def test_refused_only_moved(self):
         status, out, _ = self.drawn((1, 1), (None, 19))
         self.assertEqual(status, 0)

@@ -41,7 +41,7 @@ class SheetFolder(Folder):
         self.same_both_ways(wells, '--trend', 'quadratic', '--origin', 'moved')
 
     def test_list_of_nodes(self):
-        text = 'name,x,y\n' + ''.join(f'"N; {i}",{i % 10 * 9.1},{i // 10 * 0.1}\n' for i in range(130))
+        text = 'name,x,y\n' + ''.join(f'"N, ""{i}"";",{i % 10 * 9.1},{i // 10 * 0.1}\n' for i in range(130))
         self.same_both_ways(self.file(FOUR), *NUMBERS, '--nodes', self.file(text, 'nodes.csv'), '--origin', 'as-entered')
 
     def test_external(self):
@@ -107,6 +107,14 @@ class SheetFolder(Folder):
         self.assertIn('has no map.json', self.refused('--collect', self.folder))
         self.file('{"version": 7}', 'map.json')
         self.assertIn('not as --sheets writes it', self.refused('--collect', self.folder))
+
+    def test_map_of_another_version(self):
+        folder, _ = self.sheets(*GRID)
+        self.run_all(folder)
+        kept = json.loads((folder / 'map.json').read_text())
+        for wrong in ({**kept, 'version': 2}, {**kept, 'grid': {}}, {**kept, 'wells': 7}, [kept]):
+            (folder / 'map.json').write_text(json.dumps(wrong))
+            self.assertIn('not as --sheets writes it', self.refused('--collect', folder))
 
     def test_nothing_is_left_of_a_refusal(self):
         for wells in (self.file(FOUR), self.file(FAR, 'far.csv')):

@@ -1,11 +1,12 @@
 """The survey's bytes, held to the proved reader and to samples/, whose bytes and listings another reading made."""
 from array import array
+from unittest import mock
 
 from mapper.built import program
 from mapper.listing import Damaged, parsed
 from mapper.model import Variogram, Well
 from mapper.nodes import unanswered
-from mapper.runs import answer
+from mapper.runs import answer, run
 from mapper.sheets import Sheets
 from mapper.stop import Refused
 from mapper.survey import Survey
@@ -56,6 +57,25 @@ class Bytes(Folder):
         self.assertEqual(moved.coords, [z - (4512300.0, 5403100.0)[i % 2] for i, z in enumerate(s.coords)])
         self.assertEqual(moved.nodes[:4], [20.0, 20.0, 60.0, 20.0])
         self.assertEqual((moved.values, moved.variogram, moved.bases), (s.values, s.variogram, s.bases))
+
+
+class Bounded(Folder):
+    def test_few_sheets_are_under_way(self):
+        """Of 300 sheets at most four for each of two processes are made and not yet taken."""
+        nodes = unanswered(*(array('d', bytes(8 * 30000)) for _ in 'xy'))
+        made, taken, most = [], [], []
+
+        class Counted(Sheets):
+            def __getitem__(self, sheet):
+                made.append(sheet)
+                most.append(len(made) - len(taken))
+                return b''
+        listing = b'nodes 100\n' + b''.join(b'%d 4010000000000000 3ff8000000000000 0\n' % (i + 1) for i in range(100)) + b'coef 3fe0000000000000\n'
+        with mock.patch('mapper.runs.answer', lambda program, survey: listing):
+            found = run('none', Counted(read('plain')[1], nodes, array('d'), (0.0, 0.0)), 2, taken.append)
+        self.assertEqual((found.verdicts, len(made), sum(taken)), ({0: 30000}, 300, 30000))
+        self.assertLessEqual(max(most), 8)
+        self.assertEqual((set(nodes.level), set(nodes.variance)), ({4.0}, {1.5}))
 
 
 class Listings(Folder):

@@ -34,6 +34,10 @@ class Residuals(unittest.TestCase):
     def test_seven_figures(self):
         self.close(residuals(wells((4512300, 5403200, 0), (4512301, 5403200, 1), (4512302, 5403200, 5)), 'linear', None), [0.5, -1, 0.5])
 
+    def test_wells_on_one_line(self):
+        """As before on a line that is none of the axes, once with a well more: 4 levels 0, 1, 5, 2 have slope 1 from 1/2."""
+        self.close(residuals(wells((0.1, 0.3, 0), (1.1, 0.6, 1), (2.1, 0.9, 5), (3.1, 1.2, 2)), 'linear', None), [-0.5, -0.5, 2.5, -1.5])
+
     def test_quadratic_goes_through_six(self):
         rows = [(0, 0, 3), (10, 0, 1), (0, 10, 4), (10, 10, 1), (20, 10, 5), (10, 20, 9)]
         self.close(residuals(wells(*rows), 'quadratic', None), [0] * 6)
