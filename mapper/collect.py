@@ -45,7 +45,8 @@ def read_kept(folder):
         if k['version'] != VERSION:
             raise ValueError
         k['survey'] = Survey([Well(**well) for well in k['wells']], k['trend'], k['external'], Variogram(**k['variogram']), k['regularization'], k['tolerance'])
-        k['grid'], k['bins'], k['origin'] = k['grid'] and Grid(**k['grid']), [Bin(**each) for each in k['bins']], tuple(k['origin'])
+        k['grid'] = None if k['grid'] is None else Grid(**k['grid'])
+        k['bins'], k['origin'] = [Bin(**each) for each in k['bins']], tuple(k['origin'])
         return {each: k[each] for each in ('title', 'survey', 'grid', 'bins', 'origin', 'nodes', 'notes')}
     except OSError:
         raise Stop(f'{folder} has no {KEPT}. It has to be a folder that --sheets wrote.')
