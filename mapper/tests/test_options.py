@@ -89,7 +89,8 @@ class Options(Folder):
 
     def test_listing(self):
         said = self.made(self.file(FOUR), *NUMBERS, '--grid', '11x10', '--listing', '--survey', self.folder / 'kept.survey')
-        printed = b''.join(subprocess.run([program(print)], input=path.read_bytes(), stdout=subprocess.PIPE).stdout for path in sorted(self.folder.glob('kept*')))
+        kept = [path.read_bytes() for path in sorted(self.folder.glob('kept*'))]
+        printed = b''.join(subprocess.run([program(print)], input=survey, stdout=subprocess.PIPE).stdout for survey in kept)
         self.assertEqual(printed.count(b'\n'), 114)
         self.assertTrue(said.startswith(printed.decode()), said[:200])
 

@@ -40,7 +40,8 @@ class SevenFigures(Folder):
 
     def test_as_entered_none_passes_and_moved_all(self):
         said = self.made(self.wells, *MODEL, '--grid', '10x10')
-        self.assertIn('With coordinates as entered 0 of 100 nodes pass; with the origin moved to (4512300, 5403100) 100 do; the map is drawn with the origin moved.', said)
+        self.assertIn('With coordinates as entered 0 of 100 nodes pass; with the origin moved to (4512300, 5403100) 100 do; '
+                      'the map is drawn with the origin moved.\n', said)
         self.assertIn('100 of 100 nodes passed, 0 did not: ', said.splitlines()[-1])
         self.assertEqual({row[5] for row in self.rows()}, {'0'})
 
@@ -105,7 +106,9 @@ class WhichIsDrawn(Folder):
     def test_refused_as_entered_and_mended(self):
         status, out, _ = self.drawn((None, 19), (0, 0))
         self.assertEqual(status, 0)
-        self.assertIn('With coordinates as entered the map is refused by 19; with the origin moved to (1000, 1000) 2 of 2 nodes pass; the map is drawn with the origin moved.', out)
+        self.assertIn('As entered the map is turned away. Refused (19)', out)
+        self.assertIn('With coordinates as entered the map is refused by 19; with the origin moved to (1000, 1000) 2 of 2 nodes pass; '
+                      'the map is drawn with the origin moved.\n', out)
 
     def test_refused_both_ways(self):
         status, _, err = self.drawn((None, 19), (None, 19))

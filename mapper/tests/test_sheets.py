@@ -102,7 +102,8 @@ class Listings(Folder):
         whole = (SAMPLES / 'plain.listing').read_bytes()
         cut, lines = whole[:len(whole) // 2], whole.split(b'\n')
         swapped = b'\n'.join([lines[0], lines[2], lines[1], *lines[3:]])
-        for listing in (b'', cut, whole[:-1], whole[:-30], swapped, whole.replace(b' 0\n', b' \n', 1), whole.replace(b'40', b'4G', 1), b'refused\n', b'refused 19'):
+        replaced = whole.replace(b' 0\n', b' \n', 1), whole.replace(b'40', b'4G', 1)
+        for listing in (b'', cut, whole[:-1], whole[:-30], swapped, *replaced, b'refused\n', b'refused 19'):
             with self.assertRaises(Damaged):
                 parsed(listing, 25)
         with self.assertRaises(Damaged):
