@@ -8,6 +8,7 @@ from mapper.stop import Stop
 
 SEPARATORS = '\t;,'
 SHOWN = 200  # characters of a bad line
+WORKBOOKS = b'PK\x03\x04', b'\xd0\xcf\x11\xe0'  # how .xlsx, .ods and .xls begin
 
 
 def text_of(path):
@@ -16,6 +17,8 @@ def text_of(path):
         data = Path(path).read_bytes()
     except OSError as error:
         raise Stop(f'{path} cannot be read: {error.strerror}.')
+    if data.startswith(WORKBOOKS):
+        raise Stop(f'{path} is a workbook and not a list. Save its sheet as CSV in the spreadsheet, and take that file.')
     if data.startswith((codecs.BOM_UTF16_LE, codecs.BOM_UTF16_BE)):
         return data.decode('utf-16', 'replace')
     try:
@@ -54,7 +57,7 @@ def separator(text):
 
 def bad_line(path, number, text, what):
     """The end of a run at a line: the file, the line's number, what is wrong, and the line itself."""
-    shown = text if len(text) <= SHOWN else text[:SHOWN] + ' …'
+    shown = ''.join(c if c.isprintable() or c in '\t\n' else '?' for c in text[:SHOWN]) + (' …' if len(text) > SHOWN else '')
     return Stop(f'{path}, line {number}: {what}.\n    {shown}')
 
 

@@ -98,6 +98,13 @@ class WrongLists(Folder):
         self.says('name,lat,lon,level\nA,1,2,3\n', 'line 1', 'not degrees')
         self.says('name,x,X,y,level\nA,1,2,3,4\n', 'line 1', 'two columns are called x')
 
+    def test_workbook(self):
+        self.says(b'PK\x03\x04\x14\0\x06\0', 'is a workbook', 'Save its sheet as CSV')
+        self.says(b'\xd0\xcf\x11\xe0\xa1\xb1', 'is a workbook')
+
+    def test_what_cannot_be_shown(self):
+        self.says('x,y,level\n1,\x1b[2J,' + '7' * 300 + '\n', 'line 2', '    1,?[2J,777', '7 …')
+
     def test_external_column(self):
         self.says('x,y,level,Ground\n1,2,3,4\n', 'no column depth', 'further columns: Ground', external='depth')
         self.says('x,y,level\n1,2,3\n', 'further columns: none', external='depth')
