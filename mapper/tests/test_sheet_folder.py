@@ -48,6 +48,17 @@ class SheetFolder(Folder):
         wells = self.file((SAMPLES / 'valley.csv').read_bytes(), 'valley.csv')
         self.same_both_ways(wells, '--external', 'ground', '--nodes', SAMPLES / 'valley_nodes.csv', '--origin', 'as-entered')
 
+    def test_parallel_as_the_reference_has_it(self):
+        """Its line, with a script that puts `{}` and `{.}` in place as GNU parallel does."""
+        (line,) = re.findall(r"^    (find DIR .*)$", section(15), re.M)
+        script = '#!/bin/sh\nwhile read -r f; do sh -c "$(printf "%s" "$1" | sed "s|{}|$f|; s|{\\.}|${f%.*}|")" || exit; done\n'
+        (self.folder / 'parallel').write_text(script)
+        (self.folder / 'parallel').chmod(0o755)
+        folder, _ = self.sheets(*GRID)
+        line = line.replace('target/bin/wellmap', program(print)).replace('DIR', str(folder))
+        subprocess.run(['sh', '-eu', '-c', line], env={**os.environ, 'PATH': f'{self.folder}:{os.environ["PATH"]}'}, check=True)
+        self.assertIn('225 of 225 nodes passed', self.made('--collect', folder))
+
     def test_what_is_in_the_folder(self):
         folder, said = self.sheets(*GRID)
         self.assertEqual(sorted(path.name for path in folder.iterdir()), ['000001.survey', '000002.survey', '000003.survey', 'map.json'])
