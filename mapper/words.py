@@ -52,8 +52,9 @@ def unsettled(wells, trend, external):
         causes.append(f'all wells on one {"line or curve" if trend == "quadratic" else "line"}')
     if external:
         causes.append(f'a column {external} that is the same at every well, or goes with the trend')
-    why = f'look for {" or ".join(causes)}, and choose a simpler trend' if causes else 'look at --sill and --nugget, which may be too small to tell wells apart'
-    return f'No two wells share a spot; {why}, or raise --regularization.'
+    if causes:
+        return f'No two wells share a spot; look for {" or ".join(causes)}, and choose a simpler trend.'
+    return 'No two wells share a spot; look at --sill and --nugget, which may be too small to tell wells apart, or raise --regularization.'
 
 
 def verdict(number, columns):
@@ -64,11 +65,7 @@ def verdict(number, columns):
         return 'no number came out; do not use the figure'
     if number == len(columns) + 1:
         return 'the level is not the weighted sum of the wells, within the tolerance; do not use the figure'
-    if number <= len(columns):
-        return f'the weights do not carry {carried(columns[number - 1])} to the node, within the tolerance; do not use the figure'
-    return 'not known; do not use the figure'
-
-
-def carried(column):
-    """A column of the trend as it is spoken of: the first is the weights' own sum."""
-    return 'a level ground (their sum is not one)' if column == '1' else f'the trend\'s {column}'
+    if number > len(columns):
+        return 'not known; do not use the figure'
+    missed = 'add up to one' if columns[number - 1] == '1' else f'carry {columns[number - 1]} to the node'
+    return f'the weights do not {missed}, within the tolerance; do not use the figure'

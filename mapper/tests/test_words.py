@@ -48,9 +48,9 @@ class Words(unittest.TestCase):
         rows = columns('quadratic', 'ground')
         self.assertEqual(rows, ['1', 'x', 'y', 'x²', 'xy', 'y²', 'ground'])
         self.assertEqual(verdict(0, rows), 'passes the audit')
-        self.assertIn('their sum is not one', verdict(1, rows))
-        self.assertIn("the trend's xy", verdict(5, rows))
-        self.assertIn('ground', verdict(7, rows))
+        self.assertIn('do not add up to one', verdict(1, rows))
+        self.assertIn('do not carry xy to the node', verdict(5, rows))
+        self.assertIn('do not carry ground to the node', verdict(7, rows))
         self.assertIn('weighted sum', verdict(8, rows))
         self.assertIn('no number came out', verdict(255, rows))
         for number in (*range(1, 9), 255):
