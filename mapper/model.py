@@ -1,0 +1,103 @@
+"""What a map is made of: what was entered, what the proved program answered, and what the page shows."""
+from array import array
+from dataclasses import dataclass, field
+from typing import Dict, List, Optional, Tuple
+
+
+@dataclass
+class Well:
+    """A measured well, as it stands in the list."""
+    name: str
+    x: float
+    y: float
+    level: float
+    more: Dict[str, float] = field(default_factory=dict)  # further columns, by their header
+
+
+@dataclass
+class Grid:
+    """Nodes on a regular grid, row after row from the south-west corner: node r * columns + c is at (x0 + c * dx, y0 + r * dy)."""
+    x0: float
+    y0: float
+    dx: float
+    dy: float
+    columns: int
+    rows: int
+
+
+@dataclass
+class Nodes:
+    """The nodes, in coordinates as entered, and what each got. `level` means something only where `verdict` is 0."""
+    x: array
+    y: array
+    level: array
+    variance: array
+    verdict: bytearray
+    names: Optional[List[str]] = None  # of a list of nodes that names them
+
+    def __len__(self):
+        return len(self.x)
+
+
+@dataclass
+class Variogram:
+    """The model and its numbers, and whether they were fitted to the bins or given."""
+    model: str  # 'spherical' or 'linear'
+    nugget: float
+    sill: float
+    range: float
+    fitted: bool
+
+    def at(self, h):
+        """The model at the distance h, for the curve that is drawn."""
+        if self.model == 'linear':
+            return self.nugget + self.sill / self.range * min(h, self.range)
+        if h >= self.range:
+            return self.sill
+        q = h / self.range
+        return self.nugget + (self.sill - self.nugget) * (1.5 * q - 0.5 * q ** 3)
+
+
+@dataclass
+class Bin:
+    """One bin of the semivariogram: its centre, the average of its pairs, and how many they are."""
+    distance: float
+    semivariance: float
+    pairs: int
+    used: bool = True  # False where the model was not fitted to it, since its pairs are far apart
+
+
+@dataclass
+class Run:
+    """One way through all the nodes: with the origin moved by (east, north), or (0, 0) as entered. How many nodes got each verdict."""
+    origin: Tuple[float, float]
+    verdicts: Dict[int, int]
+    refused: int = 0  # the number by which the whole run was turned away; it has no verdicts then
+
+    @property
+    def passed(self):
+        return self.verdicts.get(0, 0)
+
+    @property
+    def failed(self):
+        return sum(self.verdicts.values()) - self.passed
+
+
+@dataclass
+class Map:
+    """Everything that the page and the table are made from."""
+    title: str                       # the name of the list of wells, without its folder and ending
+    wells: List[Well]
+    nodes: Nodes
+    grid: Optional[Grid]             # None where the nodes came as a list
+    variogram: Variogram
+    bins: List[Bin]
+    trend: str                       # 'constant', 'linear' or 'quadratic'
+    external: Optional[str]          # the header of the column, if any
+    regularization: float
+    tolerance: float
+    columns: List[str]               # what the audit's rows 1 to p are, in words: '1', 'x', 'y', 'x²', 'xy', 'y²', or the external column's header
+    runs: List[Run]                  # in the order they were made
+    drawn: int                       # which of the runs the nodes and the page show
+    notes: List[str]                 # sentences for the reader: what was moved, fitted, left out
+    refused: List[str] = field(default_factory=list)  # sentences: what was turned away, and why

@@ -1,0 +1,17 @@
+"""Numbers as they are shown."""
+
+
+def shown(x):
+    """The shortest text that reads back as the same number; a whole number without its point."""
+    text = repr(x)
+    return text[:-2] if text.endswith('.0') else text
+
+
+def significant(x, figures):
+    """A number rounded to so many significant figures."""
+    return float(f'{x:.{figures - 1}e}')
+
+
+def counted(count, one, many=None):
+    """'1 node', '2 nodes'."""
+    return f'{count:,} {one if count == 1 else many or one + "s"}'

@@ -1,0 +1,86 @@
+"""What the command line says."""
+import argparse
+import os
+import re
+
+from mapper.nodes import MOST
+from mapper.survey_file import CODES, MODELS
+
+USE = '''map wells.csv [options]
+       map wells.csv --sheets DIR [options]
+       map --collect DIR'''
+ABOUT = '''Makes a water-table map, wells.html and wells.map.csv, from a list of wells: name, x, y, level and any further column, with a header, separated by
+commas, semicolons or tabs. docs/REFERENCE.md, section 15, has it all.'''
+
+
+def size(text):
+    """A grid's columns and rows."""
+    found = re.fullmatch(r'([1-9][0-9]*)[xX×]([1-9][0-9]*)', text)
+    if not found:
+        raise argparse.ArgumentTypeError(f'{text} is no grid; say columns and rows, such as 40x30')
+    columns, rows = int(found.group(1)), int(found.group(2))
+    if columns * rows > MOST:
+        raise argparse.ArgumentTypeError(f'{text} has more than {MOST:,} nodes; make several maps')
+    return columns, rows
+
+
+def above(least, what):
+    """A number above, or at least, another; past 1e30 its square's square would not be finite, and it means nothing in metres."""
+    def number(text):
+        try:
+            value = float(text)
+        except ValueError:
+            value = float('nan')
+        if not least <= value <= 1e30 or (what == 'above' and value == least):
+            raise argparse.ArgumentTypeError(f'{text} is not a number {what} {least:g}{"; it is too large" if value > least else ""}')
+        return value
+    return number
+
+
+def count(text):
+    if not re.fullmatch('[1-9][0-9]{0,3}', text):
+        raise argparse.ArgumentTypeError(f'{text} is not a number of processes; say 1 or more')
+    return int(text)
+
+
+def parser():
+    found = argparse.ArgumentParser(prog='map', usage=USE, description=ABOUT, allow_abbrev=False)
+    add = found.add_argument
+    add('wells', nargs='?', metavar='wells.csv', help='the list of wells')
+    add('--nodes', metavar='nodes.csv', help='a list of nodes, in place of a grid over the wells')
+    add('--grid', type=size, metavar='40x30', help='how many columns and rows the grid has')
+    add('--trend', choices=list(CODES), default='constant', help='the trend of the water table (constant)')
+    add('--external', metavar='COLUMN', help='a further column as trend, such as the ground height; needs --nodes with that column')
+    add('--model', choices=list(MODELS), default='spherical', help='the variogram model (spherical)')
+    add('--nugget', type=above(0, 'at or above'), help='the model at no distance; fitted where it is not given')
+    add('--sill', type=above(0, 'above'), help='what the model rises to; fitted where it is not given')
+    add('--range', type=above(0, 'above'), help='the distance at which it is there; fitted where it is not given')
+    add('--regularization', type=float, default=1e-10, help='what is added on the diagonal (1e-10)')
+    add('--tolerance', type=float, default=1e-9, help='what the audit allows (1e-9)')
+    add('--origin', choices=('auto', 'as-entered', 'moved'), default='auto', help='where coordinates are counted from; auto moves the origin where nodes fail')
+    add('--survey', metavar='FILE', help='keeps the survey file; over 100 nodes a file for each sheet, numbered before its ending')
+    add('--listing', action='store_true', help="prints the program's own lines")
+    add('--jobs', type=count, default=os.cpu_count() or 1, help='how many sheets run side by side (all cores)')
+    add('--progress', action='store_true', help='shows the bar where standard error is no terminal, too')
+    add('--out', metavar='DIR', help='the folder for the files, in place of that of the list')
+    add('--sheets', metavar='DIR', help='writes the sheets as survey files and runs nothing: for GNU parallel or a cluster')
+    add('--collect', metavar='DIR', help='makes the page from the listings of such sheets')
+    return found
+
+
+def options(arguments):
+    """The options; a wrong use ends with status 2 and a sentence."""
+    use = parser()
+    found = use.parse_args(arguments)
+    if found.collect is not None:
+        others = [name for name in ('wells', 'nodes', 'grid', 'external', 'survey', 'sheets') if getattr(found, name) is not None]
+        if others:
+            left = ', '.join('the list of wells' if name == 'wells' else '--' + name for name in others)
+            use.error(f'--collect DIR takes all of the map from DIR; leave out {left}')
+    elif found.wells is None:
+        use.error('name the list of wells, such as samples/valley.csv')
+    if found.nodes is not None and found.grid is not None:
+        use.error('--nodes and --grid both say where the nodes are; leave one out')
+    if found.sheets is not None and (found.survey is not None or found.listing):
+        use.error('--sheets DIR keeps every survey file and runs none; leave out --survey and --listing')
+    return found

@@ -1,0 +1,110 @@
+"""The survey's bytes, held to the proved reader and to samples/, whose bytes and listings another reading made."""
+from array import array
+from unittest import mock
+
+from mapper.built import program
+from mapper.listing import Damaged, parsed
+from mapper.model import Variogram, Well
+from mapper.nodes import unanswered
+from mapper.runs import answer, run
+from mapper.sheets import Sheets
+from mapper.stop import Refused
+from mapper.survey import Survey
+from mapper.survey_file import MODELS
+from mapper.tests.support import SAMPLES, Folder, bits, nakwemol
+
+TRENDS = {1: 'constant', 2: 'linear', 3: 'quadratic'}
+
+
+def read(name):
+    """A sample as the proved reader gives it, and as sheets without a note."""
+    s = nakwemol.read_survey((SAMPLES / f'{name}.survey').read_bytes())
+    column = 'ground' if 4 in s.bases else None
+    more = [{column: value} if column else {} for value in (s.external or s.values)]
+    wells = [Well(str(i), *s.coords[2 * i:2 * i + 2], level, more[i]) for i, level in enumerate(s.values)]
+    model = {code: word for word, code in MODELS.items()}[s.variogram.model]
+    survey = Survey(wells, TRENDS[s.bases[0]], column, Variogram(model, *s.variogram[1:], False), s.regularization, s.tolerance)
+    return s, survey, unanswered(array('d', s.nodes[::2]), array('d', s.nodes[1::2])), array('d', s.node_external)
+
+
+class Bytes(Folder):
+    def test_samples_are_written_as_they_are_stored(self):
+        for name in ('two_wells', 'plain', 'seven_figures', 'same_spot', 'singular'):
+            _, survey, nodes, outside = read(name)
+            self.assertEqual(Sheets(survey, nodes, outside, (0.0, 0.0))[0], (SAMPLES / f'{name}.survey').read_bytes(), name)
+
+    def test_external_column(self):
+        """The stored file has a note in front, which S counts; ours has none."""
+        stored, sheet = (SAMPLES / 'valley.survey').read_bytes(), Sheets(*read('valley')[1:], (0.0, 0.0))[0]
+        note = stored.index(b'\n') + 1
+        self.assertEqual(sheet[:-14], stored[note:-14])
+        self.assertEqual(sheet[-14:], bytes(4) + stored[-10:])
+
+    def test_sheets_of_a_hundred(self):
+        s, survey, _, _ = read('valley')
+        x, y, ground = (array('d', (start + i for i in range(250))) for start in (0, 1000, 2000))
+        sheets = Sheets(survey, unanswered(x, y), ground, (0.0, 0.0))
+        found = [nakwemol.read_survey(sheets[k]) for k in range(len(sheets))]
+        self.assertEqual([len(each.nodes) // 2 for each in found], [100, 100, 50])
+        self.assertEqual([z for each in found for z in each.nodes[::2]], list(x))
+        self.assertEqual([z for each in found for z in each.nodes[1::2]], list(y))
+        self.assertEqual([z for each in found for z in each.node_external], list(ground))
+        self.assertTrue(all(each.values == s.values and each.coords == s.coords and each.external == s.external for each in found))
+
+    def test_moved(self):
+        s, survey, nodes, outside = read('seven_figures')
+        moved = nakwemol.read_survey(Sheets(survey, nodes, outside, (4512300.0, 5403100.0))[0])
+        self.assertEqual(moved.coords, [z - (4512300.0, 5403100.0)[i % 2] for i, z in enumerate(s.coords)])
+        self.assertEqual(moved.nodes[:4], [20.0, 20.0, 60.0, 20.0])
+        self.assertEqual((moved.values, moved.variogram, moved.bases), (s.values, s.variogram, s.bases))
+
+
+class Bounded(Folder):
+    def test_few_sheets_are_under_way(self):
+        """Of 300 sheets at most four for each of two processes are made and not yet taken."""
+        nodes = unanswered(*(array('d', bytes(8 * 30000)) for _ in 'xy'))
+        made, taken, most = [], [], []
+
+        class Counted(Sheets):
+            def __getitem__(self, sheet):
+                made.append(sheet)
+                most.append(len(made) - len(taken))
+                return b''
+        listing = b'nodes 100\n' + b''.join(b'%d 4010000000000000 3ff8000000000000 0\n' % (i + 1) for i in range(100)) + b'coef 3fe0000000000000\n'
+        with mock.patch('mapper.runs.answer', lambda program, survey: listing):
+            found = run('none', Counted(read('plain')[1], nodes, array('d'), (0.0, 0.0)), 2, taken.append)
+        self.assertEqual((found.verdicts, len(made), sum(taken)), ({0: 30000}, 300, 30000))
+        self.assertLessEqual(max(most), 8)
+        self.assertEqual((set(nodes.level), set(nodes.variance)), ({4.0}, {1.5}))
+
+
+class Listings(Folder):
+    def test_what_the_reference_shows(self):
+        self.assertEqual(parsed(b'nodes 1\n1 4010000000000000 3ff8000000000000 0\ncoef 3fe0000000000000\n', 1), ((4.0,), (1.5,), b'\0'))
+
+    def test_a_sample(self):
+        levels, variances, verdicts = parsed((SAMPLES / 'plain.listing').read_bytes(), 25)
+        self.assertEqual((levels[1], variances[1]), (bits('4047ad1b9da6fb2f'), bits('3fd1c3668bfd78d9')))
+        self.assertEqual(verdicts, bytes(25))
+        self.assertEqual(set(parsed((SAMPLES / 'seven_figures.listing').read_bytes(), 25)[2]), {1})
+
+    def test_program_prints_what_is_stored(self):
+        for name in ('plain', 'valley', 'seven_figures', 'singular'):
+            sheet = Sheets(*read(name)[1:], (0.0, 0.0))[0]
+            self.assertEqual(answer(program(print), sheet), (SAMPLES / f'{name}.listing').read_bytes(), name)
+
+    def test_refusal(self):
+        with self.assertRaises(Refused) as refused:
+            parsed((SAMPLES / 'singular.listing').read_bytes(), 1)
+        self.assertEqual(refused.exception.number, 19)
+
+    def test_damaged(self):
+        whole = (SAMPLES / 'plain.listing').read_bytes()
+        cut, lines = whole[:len(whole) // 2], whole.split(b'\n')
+        swapped = b'\n'.join([lines[0], lines[2], lines[1], *lines[3:]])
+        replaced = whole.replace(b' 0\n', b' \n', 1), whole.replace(b'40', b'4G', 1)
+        for listing in (b'', cut, whole[:-1], whole[:-30], swapped, *replaced, b'refused\n', b'refused 19'):
+            with self.assertRaises(Damaged):
+                parsed(listing, 25)
+        with self.assertRaises(Damaged):
+            parsed(whole, 24)
