@@ -98,3 +98,4 @@ class Map:
     runs: List[Run]                  # in the order they were made
     drawn: int                       # which of the runs the nodes and the page show
     notes: List[str]                 # sentences for the reader: what was moved, fitted, left out
+    refused: List[str] = field(default_factory=list)  # sentences: what was turned away, and why

@@ -1,0 +1,1 @@
+"""From a list of wells to a map: the driller's tool around the proved program."""
