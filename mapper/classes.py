@@ -48,7 +48,7 @@ class Classes:
         return '%s to %s' % (self.bound_words(self.bounds[k - 1]), self.bound_words(self.bounds[k]))
 
 
-def classes(low, high, palette, most=10):
+def classes(low, high, palette, most=11):
     """Classes between round numbers for figures from `low` to `high`; a single one where they differ by rounding alone."""
     span = high - low
     if not span > 1e-9 * max(abs(low), abs(high)):

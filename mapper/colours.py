@@ -4,9 +4,9 @@ The order of the classes can be read from lightness alone: in grey print, and by
 """
 
 # Control points, red, green and blue from 0 to 255, at even distances. Low levels are dark blue, as valleys are, high ones light yellow.
-LEVELS = ((36, 46, 104), (38, 92, 150), (46, 142, 176), (112, 190, 178), (186, 222, 170), (252, 246, 200))
+LEVELS = ((36, 44, 100), (38, 88, 148), (44, 130, 166), (88, 170, 166), (164, 208, 154), (253, 247, 205))
 # A small deviation is light, a great one dark: what is dark is to be doubted.
-DEVIATIONS = ((255, 246, 230), (253, 208, 152), (240, 150, 96), (205, 86, 72), (146, 36, 66), (78, 14, 58))
+DEVIATIONS = ((255, 246, 230), (252, 198, 140), (240, 150, 96), (205, 86, 72), (146, 36, 66), (78, 14, 58))
 
 
 def between(palette, place):

@@ -2,11 +2,13 @@
 from dataclasses import dataclass
 from html import escape
 
-from .labels import Box, line_labels, short_name, text_width, well_labels
-from .scales import decimals, fixed, length_words, plain, round_step, ticks
+from .ground import dot_radius
+from .labels import Box, line_labels, short_name, square, text_width, well_labels
+from .scales import alike, decimals, fixed, length_words, round_step, ticks
 
 FONT = 12.0
 RADIUS = 3.6  # of a well
+NARROW = 420  # a map less broad has no room for many levels
 
 
 @dataclass
@@ -17,7 +19,7 @@ class Size:
     high: float
 
 
-SIZES = (Size('wide', 900, 800), Size('middle', 560, 640), Size('narrow', 368, 520))
+SIZES = (Size('wide', 900, 800), Size('middle', 560, 640), Size('narrow', 368, 520), Size('paper', 700, 560))
 
 
 class Sheet:
@@ -39,6 +41,12 @@ class Sheet:
 
 def text(x, y, words, more=''):
     return '<text x="%.1f" y="%.1f"%s>%s</text>' % (x, y, more, escape(words))
+
+
+def fitted(x, y, words, room):
+    """Words in smaller letters where there is no room for them."""
+    size = min(FONT, FONT * room / text_width(words, FONT))
+    return text(x, y, words, ' style="font-size:%.1fpx"' % size if size < FONT else '')
 
 
 def haloed(x, y, words, more=''):
@@ -96,20 +104,32 @@ def north_arrow(sheet):
     return arrow + text(x - 11, y + 16, 'N', ' text-anchor="end" class="strong"')
 
 
-def well_texts(number, well):
+def well_texts(number, well, level):
     """What may stand beside a well: name and level, the name, or its number in the table."""
     name = short_name(well.name)
-    return ['%s %s' % (name, plain(well.level, 6)), name, '#%d' % number]
+    return ['%s %s' % (name, level), name, '#%d' % number]
+
+
+def dots(m, ground, sheet):
+    """Boxes around the dots of a list of nodes, which labels keep free; none where they are too many to keep free."""
+    if m.grid or len(m.nodes) > 400:
+        return []
+    half = dot_radius(len(m.nodes)) * sheet.scale
+    return [square(*sheet.place(ground.x(x), ground.y(y)), half) for x, y in zip(m.nodes.x, m.nodes.y)]
 
 
 def wells(m, ground, sheet):
     """Wells and their labels as SVG, the boxes they take, and whether some are marked by their number."""
     places = [sheet.place(ground.x(w.x), ground.y(w.y)) for w in m.wells]
-    texts = [well_texts(k, w) for k, w in enumerate(m.wells, 1)]
-    labels, taken = well_labels(places, texts, FONT, RADIUS + 1, sheet.frame)
+    levels = alike([w.level for w in m.wells], 6)
+    texts = [well_texts(k, w, level) for k, (w, level) in enumerate(zip(m.wells, levels), 1)]
+    placed = lambda some: well_labels(places, some, FONT, RADIUS + 1, sheet.frame, dots(m, ground, sheet))
+    labels, taken = placed(texts)
+    if sheet.width < NARROW and any(one is None or one.text != words[0] for one, words in zip(labels, texts)):
+        labels, taken = placed([words[1:] for words in texts])  # crowded and narrow: names alone, their levels are in the table
     parts = ['<circle cx="%.1f" cy="%.1f" r="%.1f" class="well"/>' % (x, y, RADIUS) for x, y in places]
     parts += [haloed(one.x, one.y, one.text) for one in labels if one]
-    numbered = any(one is None or one.text == texts[k][2] for k, one in enumerate(labels))
+    numbered = any(one is None or one.text == words[-1] for one, words in zip(labels, texts))
     return ''.join(parts), taken, numbered
 
 
@@ -148,5 +168,5 @@ def drawing(m, ground, size, contours, classes, drawn, words):
         '<rect x="%.1f" y="%.1f" width="%.1f" height="%.1f" class="frame"/>' % (f.left, f.top, sheet.width, sheet.height),
         frame_numbers(ground, sheet), '<g class="of-level">%s</g>' % labels, well_marks,
         scale_bar(ground, sheet), north_arrow(sheet),
-        text(sheet.left, f.bottom + FONT * 5.3, 'Drawn: ' + drawn),
+        fitted(sheet.left, f.bottom + FONT * 5.3, 'Drawn: ' + drawn, f.right - f.left),
         '<circle r="6" class="mark" visibility="hidden"/></svg>')), numbered

@@ -6,7 +6,7 @@ from dataclasses import dataclass
 
 SIDE = 1000.0
 BROADEST, TALLEST = 2.6, 1.5  # of the shape: a line of nodes still gets a map around it
-MARGIN = 0.03                 # around all wells and nodes, so that none lies on the frame
+MARGIN = 0.045                # around all wells and nodes, so that none lies on the frame
 
 
 @dataclass

@@ -72,27 +72,36 @@ def beside(x, y, gap, width, height, way):
     return Box(left, top, left + width, top + height)
 
 
-def free_place(x, y, text, size, gap, frame, taken):
-    """The first label around a well that stays in the frame and meets nothing that is there."""
+def free_place(x, y, text, size, gap, frame, taken, better):
+    """A label around a well that stays in the frame and meets nothing that is there: the first that meets nothing of `better` either,
+    else the first."""
     width, height = text_width(text, size) + 2, size * 1.15
-    for way in AROUND:
-        box = beside(x, y, gap, width, height, way)
-        if box.within(frame) and not any(box.meets(other) for other in taken):
-            return Label(text, box, box.left + 1, box.bottom - size * 0.3)
-    return None
+    boxes = [beside(x, y, gap, width, height, way) for way in AROUND]
+    free = [box for box in boxes if box.within(frame) and not any(box.meets(other) for other in taken)]
+    if not free:
+        return None
+    box = next((box for box in free if not any(box.meets(other) for other in better)), free[0])
+    return Label(text, box, box.left + 1, box.bottom - size * 0.3)
 
 
-def well_labels(places, texts, size, radius, frame) -> Tuple[List[Optional[Label]], List[Box]]:
+def square(x, y, half):
+    return Box(x - half, y - half, x + half, y + half)
+
+
+def well_labels(places, texts, size, radius, frame, better=()) -> Tuple[List[Optional[Label]], List[Box]]:
     """A label or None for each well, and every box that is taken now, the wells' own included.
 
-    `texts` has for each well what may be written, the most wanted first. All wells try their first text before any tries its second.
+    `texts` has for each well what may be written, the most wanted first. All wells try their first text before any tries its second. A label
+    keeps away from other wells, so that it is not taken for theirs, and from the boxes `better` left free, if it can.
     """
-    taken = [Box(x - radius, y - radius, x + radius, y + radius) for x, y in places]
+    taken = [square(x, y, radius) for x, y in places]
+    wide = [square(x, y, radius + size * 0.5) for x, y in places]
     labels = [None] * len(places)
     for attempt in range(max(map(len, texts), default=0)):
         for at, (x, y) in enumerate(places):
             if labels[at] is None and attempt < len(texts[at]):
-                labels[at] = free_place(x, y, texts[at][attempt], size, radius + 2, frame, taken)
+                others = wide[:at] + wide[at + 1:] + list(better)
+                labels[at] = free_place(x, y, texts[at][attempt], size, radius + 2, frame, taken, others)
                 if labels[at]:
                     taken.append(labels[at].box)
     return labels, taken

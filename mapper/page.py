@@ -6,13 +6,13 @@ from .chart import chart, model_words
 from .colours import hexadecimal
 from .drawing import SIZES, drawing
 from .hover import script_data
+from .paper import MOST_WELLS, map_height
 from .scales import counted, grouped
 from .scene import definitions, scene
 from .tables import number_list, origin_words, run_table, verdict_table, well_table
 from .thinning import MOST_NODES
 
 HERE = os.path.dirname(os.path.abspath(__file__))
-MOST_PRINTED_WELLS = 75  # a sheet has room for so many
 
 
 def beside(name):
@@ -92,8 +92,9 @@ def figure(m, made):
         if by_number:
             numbered.append('<p class="thin %s">Where there is no room for a name, a well is marked by its number under Wells.</p>' % size.name)
     shown = 1 in made.good
-    return '<figure>%s<div class="drawing">%s%s<div class="told" hidden></div></div><figcaption>%s%s%s%s%s</figcaption></figure>' % (
-        SWITCH, definitions(made), ''.join(sheets),
+    height = map_height(m, len(made.level_classes.colours) + 2)
+    return '<figure style="--map-height:%.0fmm">%s<div class="drawing">%s%s<div class="told" hidden></div></div><figcaption><div>%s%s</div><div>%s%s%s</div></figcaption></figure>' % (
+        height, SWITCH, definitions(made), ''.join(sheets),
         legend('level', 'Level', made.level_classes, shown, m), legend('deviation', 'Standard deviation', made.deviation_classes, shown, m),
         run_table(m), thin_words(m), ''.join(numbered))
 
@@ -112,7 +113,7 @@ def refused(m):
 def page(m):
     """The whole page of a map, as HTML text."""
     made = scene(m)
-    wells_name = 'wells-part' if len(m.wells) <= MOST_PRINTED_WELLS else 'wells-part screen'
+    wells_name = 'wells-part' if len(m.wells) <= MOST_WELLS else 'wells-part screen'
     title = escape(m.title)
     return '\n'.join((
         '<!DOCTYPE html>', '<html lang="en">', '<head>', '<meta charset="utf-8">',

@@ -86,13 +86,22 @@ def plain(value, figures=7):
     return text.rstrip('0').rstrip('.') if '.' in text else text
 
 
+def alike(values, figures=10):
+    """Numbers of a column with as many figures after the point as the one that needs most."""
+    texts = [plain(v, figures) for v in values]
+    if any('e' in t or not math.isfinite(v) for t, v in zip(texts, values)):
+        return texts
+    places = max((len(t.partition('.')[2]) for t in texts), default=0)
+    return [fixed(v, places) for v in values]
+
+
 def counted(number, word, words=None):
     """'1 node', '1 200 nodes'."""
     return '%s%s%s' % (grouped(str(number)), '\u00a0', word if number == 1 else words or word + 's')
 
 
-def length_words(metres):
+def length_words(metres, figures=7):
     """A length in m, or in km from 1000 m up."""
     if metres >= 1000:
-        return plain(metres / 1000) + '\u00a0km'
-    return plain(metres) + '\u00a0m'
+        return plain(metres / 1000, figures) + '\u00a0km'
+    return plain(metres, figures) + '\u00a0m'

@@ -113,6 +113,6 @@ def definitions(made):
     """The shared parts, in an SVG that takes no room itself."""
     groups = ''.join('<g id="ground-%s">%s</g>' % (name, made.parts.get(name, '')) for name in ('level', 'deviation'))
     lines = '<g id="ground-lines" class="lines">%s</g>' % made.parts.get('lines', '')
-    failed = '<path id="ground-failed" class="failed" d="%s"/>' % made.parts['failed']
+    failed = '<path id="ground-failed"%s d="%s"/>' % ('' if made.thin else ' class="failed-dots"', made.parts['failed'])
     return ('<svg xmlns="http://www.w3.org/2000/svg" class="shared" width="0" height="0" aria-hidden="true"><defs>%s%s%s</defs></svg>'
             % (groups, lines, failed))

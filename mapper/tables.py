@@ -4,7 +4,7 @@ from html import escape
 
 from .chart import model_words
 from .frame import ends
-from .scales import counted, grouped, length_words, plain
+from .scales import alike, counted, grouped, length_words, plain
 from .verdicts import verdict_advice, verdict_words
 
 
@@ -47,8 +47,9 @@ def sentence(words):
 
 
 def well_rows(m):
+    columns = [alike([of(w) for w in m.wells]) for of in (lambda w: w.x, lambda w: w.y, lambda w: w.level)]
     return ['<tr><td class="n">#%d</td><td class="name">%s</td><td class="n">%s</td><td class="n">%s</td><td class="n">%s</td></tr>'
-            % (k, escape(w.name), plain(w.x, 10), plain(w.y, 10), plain(w.level, 9)) for k, w in enumerate(m.wells, 1)]
+            % (k, escape(w.name), x, y, level) for k, (w, x, y, level) in enumerate(zip(m.wells, *columns), 1)]
 
 
 WELL_HEAD = ('<thead><tr><th class="n">No.</th><th class="name">Well</th><th class="n">x</th><th class="n">y</th>'
@@ -61,7 +62,7 @@ def well_table(m):
     In up to three pieces, which stand side by side where there is room.
     """
     rows = well_rows(m)
-    length = max(8, -(-len(rows) // 3))
+    length = -(-max(1, len(rows)) // min(3, -(-max(1, len(rows)) // 8)))
     pieces = [''.join(rows[k:k + length]) for k in range(0, len(rows), length)]
     return '<div class="wells">%s</div>' % ''.join('<table>%s<tbody>%s</tbody></table>' % (WELL_HEAD, piece) for piece in pieces)
 
@@ -70,7 +71,7 @@ def level_range(values):
     """'45.1 to 49.3', one number where they agree, a dash where there is none."""
     if not values:
         return '–'
-    low, high = map(lambda v: plain(v, 6), ends(values))
+    low, high = map(lambda v: plain(v, 5), ends(values))
     return low if low == high else '%s to %s' % (low, high)
 
 
@@ -79,7 +80,7 @@ def node_words(m):
         return counted(len(m.nodes), 'node') + ', from a list'
     return '%s: %s columns, %s rows, %s by %s apart' % (
         counted(len(m.nodes), 'node'), grouped(str(m.grid.columns)), grouped(str(m.grid.rows)),
-        length_words(abs(m.grid.dx)), length_words(abs(m.grid.dy)))
+        length_words(abs(m.grid.dx), 4), length_words(abs(m.grid.dy), 4))
 
 
 def area_words(m):
@@ -90,7 +91,7 @@ def area_words(m):
     broad, high = x1 - x0, y1 - y0
     square = broad * high
     size = '%s km²' % plain(square / 1e6, 4) if square >= 1e5 else '%s m²' % plain(square, 4)
-    return '%s by %s, %s' % (length_words(round(broad, 2)), length_words(round(high, 2)), size)
+    return '%s by %s, %s' % (length_words(broad, 4), length_words(high, 4), size)
 
 
 def numbers(m, made):

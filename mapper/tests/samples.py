@@ -100,4 +100,22 @@ def large_map(**more):
     return grid_map(400, 250, failed=some_failed, **more)
 
 
-SAMPLES = {'plain': grid_map, 'two_runs': two_runs, 'list': list_map, 'none': none_passed, 'large': large_map}
+def crowded(**more):
+    """As many wells as a survey has, with names as spreadsheets have them, and an external column."""
+    wells = made_wells(48, seed=11)
+    for k, name in ((3, 'Brunnen <Süd> & "Nord" am alten Wasserwerk'), (9, '深井十二号'), (20, "O'Neill's")):
+        wells[k].name = name
+    m = grid_map(60, 50, failed=some_failed, **more)
+    m.wells, m.title, m.external, m.columns = wells, 'Röst & Co <Lower meadows> 2024', 'surface "DEM"', ['1', 'x', 'y', 'surface "DEM"']
+    m.notes = two_runs().notes
+    m.runs.append(m.runs[0])
+    m.refused = ['Line 51: the coordinates are those of line 12, and two wells at one place cannot both be used.']
+    return m
+
+
+def tall_map(**more):
+    """A valley from south to north, three wells."""
+    return grid_map(8, 40, wells=3, width=300.0, height=1500.0, **more)
+
+
+SAMPLES = {'crowded': crowded, 'tall': tall_map, 'plain': grid_map, 'two_runs': two_runs, 'list': list_map, 'none': none_passed, 'large': large_map}
