@@ -19,7 +19,7 @@ class Size:
     high: float
 
 
-SIZES = (Size('wide', 900, 800), Size('middle', 560, 640), Size('narrow', 368, 520), Size('paper', 700, 560))
+SIZES = (Size('wide', 900, 800), Size('middle', 560, 640), Size('narrow', 368, 520), Size('paper', 620, 640))
 
 
 class Sheet:
@@ -157,7 +157,7 @@ def drawing(m, ground, size, contours, classes, drawn, words):
     return ''.join((
         '<svg xmlns="http://www.w3.org/2000/svg" class="map %s" viewBox="0 0 %.1f %.1f" style="max-width:%dpx" '
         % (size.name, sheet.broad, sheet.high, round(sheet.broad * 1.2)),
-        'role="img" aria-labelledby="t-%s d-%s" tabindex="0">' % (size.name, size.name),
+        'role="img" preserveAspectRatio="xMinYMin" aria-labelledby="t-%s d-%s" tabindex="0">' % (size.name, size.name),
         '<title id="t-%s">%s</title><desc id="d-%s">%s</desc>' % (size.name, escape(m.title), size.name, escape(words)),
         '<defs>%s<clipPath id="clip-%s"><rect width="%.1f" height="%.1f"/></clipPath></defs>'
         % (hatching(size.name, sheet.scale), size.name, ground.width, ground.height),

@@ -6,10 +6,10 @@ from .chart import chart, model_words
 from .colours import hexadecimal
 from .drawing import SIZES, drawing
 from .hover import script_data
-from .paper import MOST_WELLS, map_height
+from .paper import map_height, well_form
 from .scales import counted, grouped
 from .scene import definitions, scene
-from .tables import number_list, origin_words, run_table, verdict_table, well_table
+from .tables import number_list, origin_words, run_table, verdict_table, well_list, well_table
 from .thinning import MOST_NODES
 
 HERE = os.path.dirname(os.path.abspath(__file__))
@@ -92,7 +92,7 @@ def figure(m, made):
         if by_number:
             numbered.append('<p class="thin %s">Where there is no room for a name, a well is marked by its number under Wells.</p>' % size.name)
     shown = 1 in made.good
-    height = map_height(m, len(made.level_classes.colours) + 2)
+    height = map_height(m)
     return '<figure style="--map-height:%.0fmm">%s<div class="drawing">%s%s<div class="told" hidden></div></div><figcaption><div>%s%s</div><div>%s%s%s</div></figcaption></figure>' % (
         height, SWITCH, definitions(made), ''.join(sheets),
         legend('level', 'Level', made.level_classes, shown, m), legend('deviation', 'Standard deviation', made.deviation_classes, shown, m),
@@ -110,10 +110,15 @@ def refused(m):
     return section('refused', 'What failed or was refused', body or '<p>Nothing: every node passed, and nothing was refused.</p>')
 
 
+def wells(m):
+    """The wells: a table on the screen, and on paper what there is room for."""
+    form = well_form(m)
+    return section('wells-part on-paper-' + form, 'Wells', well_table(m) + (well_list(m) if form == 'list' else ''))
+
+
 def page(m):
     """The whole page of a map, as HTML text."""
     made = scene(m)
-    wells_name = 'wells-part' if len(m.wells) <= MOST_WELLS else 'wells-part screen'
     title = escape(m.title)
     return '\n'.join((
         '<!DOCTYPE html>', '<html lang="en">', '<head>', '<meta charset="utf-8">',
@@ -123,6 +128,6 @@ def page(m):
         '<main>', figure(m, made), '<div class="side">',
         section('semivariogram', 'Semivariogram', chart(m) + '<p>%s</p>' % escape(model_words(m.variogram))),
         section('numbers', 'The survey in numbers', number_list(m, made)), '</div>',
-        refused(m), section(wells_name, 'Wells', well_table(m)), '</main>',
+        refused(m), wells(m), '</main>',
         '<script type="application/json" id="told">%s</script>' % script_data(m, made),
         '<script>', beside('page.js'), '</script>', '</body>', '</html>', ''))

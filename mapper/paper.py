@@ -3,15 +3,20 @@ import math
 
 from .verdicts import verdict_advice, verdict_words
 
-SHEET = 276.0        # mm of A4 between the margins
-LEAST, MOST = 60.0, 165.0
-LINE = 3.75          # mm, a line of text or a row of a table
-MOST_WELLS = 75      # a list of more wells is not printed: the map is what the sheet is for
+SHEET = 274.0                # mm of A4 between the margins
+LEAST, MOST = 60.0, 160.0
+LINE = 3.75                  # mm, a line of text or a row of a table
+TABLE, LIST = 24, 120        # up to so many wells are printed as a table with their places, as a list of names and levels
 
 
 def lines(text, letters):
     """How many lines a text takes where a line has room for so many letters."""
     return max(1, math.ceil(len(text) / letters))
+
+
+def well_form(m):
+    """How wells are printed: 'table', 'list', or 'none' where even the list would leave the map no room."""
+    return 'table' if len(m.wells) <= TABLE else 'list' if len(m.wells) <= LIST else 'none'
 
 
 def verdict_lines(m):
@@ -21,18 +26,20 @@ def verdict_lines(m):
 
 
 def well_lines(m):
-    """Lines of the table of wells, in three pieces; a long name takes more than one."""
-    if len(m.wells) > MOST_WELLS:
+    """Lines of the wells, in three tables or five columns of a list; a long name takes more than one."""
+    form = well_form(m)
+    if form == 'none':
         return 0
-    rows = [lines(w.name, 14) for w in m.wells]
-    length = math.ceil(len(rows) / 3) or 1
-    return 2 + max((sum(rows[k:k + length]) for k in range(0, len(rows), length)), default=0)
+    columns, letters = (3, 14) if form == 'table' else (5, 16)
+    rows = [lines(w.name, letters) for w in m.wells]
+    length = math.ceil(len(rows) / columns) or 1
+    longest = max((sum(rows[k:k + length]) for k in range(0, len(rows), length)), default=0)
+    return longest + (2 if form == 'table' else 1)
 
 
-def map_height(m, legend_items):
+def map_height(m):
     """In mm."""
-    head = 19 + LINE * sum(lines(note, 125) for note in m.notes)
-    caption = 3 + LINE * max(1 + math.ceil(legend_items / 5), len(m.runs) + 1)
+    head = 20 + LINE * sum(lines(note, 120) for note in m.notes)
     numbers = 54
-    rest = 6 + LINE * (verdict_lines(m) + sum(lines(s, 125) for s in m.refused) + well_lines(m)) + 2 * LINE
-    return max(LEAST, min(MOST, SHEET - head - caption - numbers - rest))
+    rest = 6 + LINE * (verdict_lines(m) + sum(lines(s, 120) for s in m.refused) + well_lines(m) + 1)
+    return max(LEAST, min(MOST, SHEET - head - numbers - rest))

@@ -67,11 +67,18 @@ def well_table(m):
     return '<div class="wells">%s</div>' % ''.join('<table>%s<tbody>%s</tbody></table>' % (WELL_HEAD, piece) for piece in pieces)
 
 
+def well_list(m):
+    """Wells for paper, where there are too many for the table: number, name and level, in narrow columns."""
+    levels = alike([w.level for w in m.wells])
+    return '<ul class="well-list">%s</ul>' % ''.join(
+        '<li><span>#%d</span> %s <b>%s</b></li>' % (k, escape(w.name), level) for k, (w, level) in enumerate(zip(m.wells, levels), 1))
+
+
 def level_range(values):
     """'45.1 to 49.3', one number where they agree, a dash where there is none."""
     if not values:
         return '–'
-    low, high = map(lambda v: plain(v, 5), ends(values))
+    low, high = alike(ends(values), 5)
     return low if low == high else '%s to %s' % (low, high)
 
 
