@@ -94,25 +94,51 @@ def without_repeats(line):
 
 
 def areas(field, bound):
-    """Rings around everything at or above a bound (None: all whole squares), squares that are wholly above joined along their row."""
-    rings = []
-    run = None  # the first column, the row and the column past the end of squares wholly above
+    """Rings around everything at or above a bound (None: around all whole squares).
+
+    Every square gives its own ring, all in one direction. A side that two of them share runs once each way and is left out, so that
+    only the outline stays: a screen would show every shared side as a faint seam.
+    """
+    sides = {}
     for c, r in field.whole_squares():
         corners = field.corners(c, r)
         if bound is None or min(corners) >= bound:
-            if run and run[1] == r and run[2] == c:
-                run = (run[0], r, c + 1)
-                continue
-            rings += [rectangle(run)] if run else []
-            run = (c, r, c + 1)
+            add_ring(sides, [(c, r), (c + 1, r), (c + 1, r + 1), (c, r + 1)])
         elif max(corners) >= bound:
-            rings += square_rings(field, c, r, corners, bound)
-    return rings + ([rectangle(run)] if run else [])
+            for ring in square_rings(field, c, r, corners, bound):
+                add_ring(sides, ring)
+    return linked(sides)
 
 
-def rectangle(run):
-    first, row, past = run
-    return [(first, row), (past, row), (past, row + 1), (first, row + 1)]
+def add_ring(sides, ring):
+    """Puts a ring's sides among the others, and takes out those that the others have the other way round."""
+    for a, b in zip(ring, ring[1:] + ring[:1]):
+        if (b, a) in sides:
+            del sides[b, a]
+        elif a != b:
+            sides[a, b] = True
+
+
+def linked(sides):
+    """Rings made of the sides."""
+    after = {}
+    for a, b in sides:
+        after.setdefault(a, []).append(b)
+    rings = []
+    for start in after:
+        while after[start]:
+            ring = [start]
+            while after.get(ring[-1]):
+                ring.append(after[ring[-1]].pop())
+            rings.append(without_middles(ring))
+    return rings
+
+
+def without_middles(ring):
+    """A closed ring without its end, which is its start, and without places between two others on one row or column."""
+    ring = ring[:-1]
+    around = zip(ring[-1:] + ring[:-1], ring, ring[1:] + ring[:1])
+    return [b for a, b, c in around if not (a[0] == b[0] == c[0] or a[1] == b[1] == c[1])]
 
 
 def square_rings(field, c, r, corners, bound):

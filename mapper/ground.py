@@ -26,12 +26,13 @@ def dot_path(x, y, radius):
     return 'M%s %s%s%s 0%s%s 0Z' % (number(x - radius), number(y), around, number(2 * radius), around, number(-2 * radius))
 
 
-def filled(path, colour):
-    """A path in one colour. The thin line of the same colour closes the seams that a screen leaves between neighbours."""
+def filled(path, colour, seams=False):
+    """A path in one colour; with `seams` a thin line of the same colour closes the gap that a screen leaves between neighbours."""
     if not path:
         return ''
     colour = hexadecimal(colour)
-    return '<path d="%s" fill="%s" stroke="%s" stroke-width="0.8" vector-effect="non-scaling-stroke"/>' % (path, colour, colour)
+    line = ' stroke="%s" stroke-width="0.8" vector-effect="non-scaling-stroke"' % colour if seams else ''
+    return '<path d="%s" fill="%s"%s/>' % (path, colour, line)
 
 
 class Lattice:
@@ -90,7 +91,7 @@ def cell_ground(lattice, figures, good, whole, classes):
                 if good[node]:
                     west, south = c + 0.5 * (column - c), r + 0.5 * (row - r)
                     paths[classes.of(figures[node])] += lattice.box(west, south, west + 0.5, south + 0.5)
-    return ''.join(filled(path, colour) for path, colour in zip(paths, classes.colours))
+    return ''.join(filled(path, colour, True) for path, colour in zip(paths, classes.colours))
 
 
 def failed_cells(lattice, good):

@@ -19,6 +19,11 @@ class Box(NamedTuple):
     def meets(self, other):
         return self.left < other.right and other.left < self.right and self.top < other.bottom and other.top < self.bottom
 
+    def shared(self, other):
+        """How much of the other it covers."""
+        broad, high = min(self.right, other.right) - max(self.left, other.left), min(self.bottom, other.bottom) - max(self.top, other.top)
+        return broad * high if broad > 0 and high > 0 else 0.0
+
     def within(self, other):
         return self.left >= other.left and self.right <= other.right and self.top >= other.top and self.bottom <= other.bottom
 
@@ -73,14 +78,13 @@ def beside(x, y, gap, width, height, way):
 
 
 def free_place(x, y, text, size, gap, frame, taken, better):
-    """A label around a well that stays in the frame and meets nothing that is there: the first that meets nothing of `better` either,
-    else the first."""
+    """A label around a well that stays in the frame and meets nothing that is there: the first of those that cover least of `better`."""
     width, height = text_width(text, size) + 2, size * 1.15
     boxes = [beside(x, y, gap, width, height, way) for way in AROUND]
     free = [box for box in boxes if box.within(frame) and not any(box.meets(other) for other in taken)]
     if not free:
         return None
-    box = next((box for box in free if not any(box.meets(other) for other in better)), free[0])
+    box = min(free, key=lambda box: sum(box.shared(other) for other in better))
     return Label(text, box, box.left + 1, box.bottom - size * 0.3)
 
 

@@ -32,14 +32,15 @@ def well_lines(m):
         return 0
     columns, letters = (3, 14) if form == 'table' else (5, 16)
     rows = [lines(w.name, letters) for w in m.wells]
+    if form == 'list':
+        return 2 + math.ceil(sum(rows) / columns) + max(rows) - 1  # a browser makes the columns about as long as each other
     length = math.ceil(len(rows) / columns) or 1
-    longest = max((sum(rows[k:k + length]) for k in range(0, len(rows), length)), default=0)
-    return longest + (2 if form == 'table' else 1)
+    return 2 + max((sum(rows[k:k + length]) for k in range(0, len(rows), length)), default=0)
 
 
 def map_height(m):
     """In mm."""
     head = 20 + LINE * sum(lines(note, 120) for note in m.notes)
-    numbers = 54
+    numbers = 50
     rest = 6 + LINE * (verdict_lines(m) + sum(lines(s, 120) for s in m.refused) + well_lines(m) + 1)
     return max(LEAST, min(MOST, SHEET - head - numbers - rest))
