@@ -36,14 +36,14 @@ def ends(numbers):
     return min(numbers), max(numbers)
 
 
-def spacing(step, other):
-    """A grid's step, or the other axis's where there is but one row or column."""
-    return abs(step) or abs(other) or 1.0
-
-
 def cell_size(grid):
-    """How broad and how high the cell around a node is."""
-    return spacing(grid.dx, grid.dy), spacing(grid.dy, grid.dx)
+    """How broad and how high the cell around a node is. In a single row or column it is broad enough to be seen."""
+    across, up = abs(grid.dx) or abs(grid.dy) or 1.0, abs(grid.dy) or abs(grid.dx) or 1.0
+    if grid.rows == 1:
+        up = across * max(1.0, grid.columns / 60)
+    elif grid.columns == 1:
+        across = up * max(1.0, grid.rows / 60)
+    return across, up
 
 
 def covered(m):

@@ -7,7 +7,7 @@ from typing import Dict, List, Optional
 from . import ground as paint
 from .classes import Classes, classes
 from .colours import DEVIATIONS, LEVELS
-from .frame import Ground, ground
+from .frame import Ground, cell_size, ground
 from .raster import dot_picture, grid_picture
 from .thinning import MOST_NODES, Thinned, deviations, thinned, whole_squares
 
@@ -46,8 +46,9 @@ def image(address, box, smooth=False):
 
 def picture_box(g, grid):
     """Where a grid's picture lies on the ground: half a cell past the outermost nodes."""
-    west, east = g.x(grid.x0 - grid.dx / 2), g.x(grid.x0 + (grid.columns - 0.5) * grid.dx)
-    south, north = g.y(grid.y0 - grid.dy / 2), g.y(grid.y0 + (grid.rows - 0.5) * grid.dy)
+    across, up = cell_size(grid)
+    west, east = g.x(grid.x0 - across / 2), g.x(grid.x0 + (grid.columns - 0.5) * across)
+    south, north = g.y(grid.y0 - up / 2), g.y(grid.y0 + (grid.rows - 0.5) * up)
     return west, north, east - west, south - north
 
 
@@ -59,7 +60,7 @@ def scene(m):
     made = Scene(ground(m), None, deviation, good, classes_of(m.nodes.level, good, LEVELS), classes_of(deviation, sure, DEVIATIONS), [], {})
     if m.grid is None:
         list_parts(m, made, sure)
-    elif made.large and min(m.grid.columns, m.grid.rows) > 1:
+    elif made.large:
         large_parts(m, made, sure)
     else:
         grid_parts(m, made, sure)
