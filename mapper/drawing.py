@@ -2,6 +2,7 @@
 from dataclasses import dataclass
 from html import escape
 
+from .frame import field_grid
 from .ground import dot_radius
 from .labels import Box, line_labels, short_name, square, text_width, well_labels
 from .scales import alike, decimals, fixed, length_words, round_step, ticks
@@ -61,7 +62,7 @@ def tick_step(low, high, length):
         step = round_step(high - low, most)
         found = ticks(low, high, step)
         broadest = max((text_width(fixed(t, decimals(step)), FONT) for t in found), default=0)
-        if most <= 1 or broadest * 1.3 < length * step / (high - low):
+        if most <= 1 or broadest * 1.5 < length * step / (high - low):
             return step, found
         most -= 1
 
@@ -112,7 +113,7 @@ def well_texts(number, well, level):
 
 def dots(m, ground, sheet):
     """Boxes around the dots of a list of nodes, which labels keep free; none where they are too many to keep free."""
-    if m.grid or len(m.nodes) > 400:
+    if field_grid(m) or len(m.nodes) > 400:
         return []
     half = dot_radius(len(m.nodes)) * sheet.scale
     return [square(*sheet.place(ground.x(x), ground.y(y)), half) for x, y in zip(m.nodes.x, m.nodes.y)]

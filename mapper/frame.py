@@ -36,26 +36,17 @@ def ends(numbers):
     return min(numbers), max(numbers)
 
 
-def cell_size(grid):
-    """How broad and how high the cell around a node is. In a single row or column it is broad enough to be seen."""
-    across, up = abs(grid.dx) or abs(grid.dy) or 1.0, abs(grid.dy) or abs(grid.dx) or 1.0
-    if grid.rows == 1:
-        up = across * max(1.0, grid.columns / 60)
-    elif grid.columns == 1:
-        across = up * max(1.0, grid.rows / 60)
-    return across, up
+def field_grid(m):
+    """The grid, if it has squares that can be coloured; None for a list, and for a single row or column, whose nodes are drawn as dots too."""
+    return m.grid if m.grid and min(m.grid.columns, m.grid.rows) > 1 else None
 
 
 def covered(m):
-    """The least rectangle that holds every well, every node, and the cells of a grid."""
+    """The least rectangle that holds every well and every node."""
     if len(m.nodes):
         xs, ys = ends(m.nodes.x), ends(m.nodes.y)
     else:
         xs, ys = ends([w.x for w in m.wells]), ends([w.y for w in m.wells])
-    if m.grid:
-        across, up = cell_size(m.grid)
-        xs = xs[0] - across / 2, xs[1] + across / 2
-        ys = ys[0] - up / 2, ys[1] + up / 2
     xs = ends([*xs, *(w.x for w in m.wells)])
     ys = ends([*ys, *(w.y for w in m.wells)])
     return xs, ys

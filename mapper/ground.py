@@ -4,7 +4,6 @@ It is written once, in units of frame.Ground, and shown by every size of the map
 """
 from .colours import hexadecimal, line_colour
 from .contours import Field, areas, lines
-from .frame import cell_size
 
 
 def number(value):
@@ -48,17 +47,13 @@ class Lattice:
 
     def box(self, west, south, east, north):
         """The path of a rectangle of cells, from the corner of one to the corner of another, in columns and rows with parts."""
-        across, up = cell_size(self.grid)
-        x, y = self.ground.x, self.ground.y
-        return box_path(x(self.grid.x0 + west * across), y(self.grid.y0 + north * up),
-                        x(self.grid.x0 + east * across), y(self.grid.y0 + south * up))
+        (left, low), (right, high) = self.place((west, south)), self.place((east, north))
+        return box_path(left, high, right, low)
 
 
 def between(kept, at):
     """The column or row, with its part, that lies `at` kept ones from the first."""
-    first = min(int(at), len(kept) - 2) if len(kept) > 1 else 0
-    if len(kept) == 1:
-        return kept[0]
+    first = min(int(at), len(kept) - 2)
     return kept[first] + (at - first) * (kept[first + 1] - kept[first])
 
 
@@ -72,17 +67,9 @@ def band_ground(lattice, field, classes):
 
 
 def cell_ground(lattice, figures, good, whole, classes):
-    """Quarters of cells in squares that are not whole, in the colour of the node that they belong to, if it has a figure.
-
-    A grid of one row or one column has no squares; there it is whole cells.
-    """
-    columns, rows = len(lattice.thin.columns), len(lattice.thin.rows)
+    """Quarters of squares that are not whole, in the colour of the node at their corner, if it has a figure."""
+    columns = len(lattice.thin.columns)
     paths = [''] * len(classes.colours)
-    if columns == 1 or rows == 1:
-        for at in range(columns * rows):
-            if good[at]:
-                r, c = divmod(at, columns)
-                paths[classes.of(figures[at])] += lattice.box(c - 0.5, r - 0.5, c + 0.5, r + 0.5)
     for at, is_whole in enumerate(whole):
         if not is_whole:
             r, c = divmod(at, columns - 1)
@@ -97,7 +84,6 @@ def cell_ground(lattice, figures, good, whole, classes):
 def failed_cells(lattice, good):
     """The path around the cells of nodes without a figure, joined along a row, and cut off at the outermost nodes as the bands are."""
     columns, rows = len(lattice.thin.columns), len(lattice.thin.rows)
-    slim = columns == 1 or rows == 1
     path = []
     for r in range(rows):
         c = 0
@@ -106,10 +92,7 @@ def failed_cells(lattice, good):
             while c < columns and not good[r * columns + c]:
                 c += 1
             if c > first:
-                box = first - 0.5, r - 0.5, c - 0.5, r + 0.5
-                if not slim:
-                    box = max(box[0], 0), max(box[1], 0), min(box[2], columns - 1), min(box[3], rows - 1)
-                path.append(lattice.box(*box))
+                path.append(lattice.box(max(first - 0.5, 0), max(r - 0.5, 0), min(c - 0.5, columns - 1), min(r + 0.5, rows - 1)))
             c = max(c, first + 1)
     return ''.join(path)
 

@@ -39,10 +39,10 @@ def list_table(m, made):
 def table(m, made):
     """All that the page's script needs to tell a node or a well."""
     g = made.ground
-    xs, ys, numbers, verdicts, thin = (grid_table if m.grid else list_table)(m, made)
+    xs, ys, numbers, verdicts, thin = (grid_table if made.thin else list_table)(m, made)
     names = m.nodes.names
     return {
-        'list': m.grid is None, 'thin': thin,
+        'list': made.thin is None, 'thin': thin,
         'x': [share(g.x(x), g.width) for x in xs], 'y': [share(g.y(y), g.height) for y in ys],
         'east': [coordinate(x) for x in xs], 'north': [coordinate(y) for y in ys],
         'names': [names[n] for n in numbers] if names else None,

@@ -5,6 +5,7 @@ from html import escape
 from .chart import chart, model_words
 from .colours import hexadecimal
 from .drawing import SIZES, drawing
+from .frame import field_grid
 from .hover import script_data
 from .paper import map_height, well_form
 from .scales import counted, grouped
@@ -72,7 +73,7 @@ def thin_words(m):
     """What a reader of a large map has to know."""
     if len(m.nodes) <= MOST_NODES:
         return ''
-    lines = 'Contour lines and hovering are' if m.grid else 'Hovering is'
+    lines = 'Contour lines and hovering are' if field_grid(m) else 'Hovering is'
     return '<p class="thin">%s from a part of the %s; the table file has every node.</p>' % (lines, counted(len(m.nodes), 'node'))
 
 
@@ -107,7 +108,7 @@ def refused(m):
     """What failed, and what was turned away, with reasons."""
     sentences = ''.join('<li>%s</li>' % escape(s) for s in m.refused)
     body = verdict_table(m) + ('<ul>%s</ul>' % sentences if sentences else '')
-    return section('refused', 'What failed or was refused', body or '<p>Nothing: every node passed, and nothing was refused.</p>')
+    return section('refused', 'What failed or was refused', body or '<p>Every node passed the audit.</p>')
 
 
 def wells(m):

@@ -7,7 +7,7 @@ from typing import Dict, List, Optional
 from . import ground as paint
 from .classes import Classes, classes
 from .colours import DEVIATIONS, LEVELS
-from .frame import Ground, cell_size, ground
+from .frame import Ground, field_grid, ground
 from .raster import dot_picture, grid_picture
 from .thinning import MOST_NODES, Thinned, deviations, thinned, whole_squares
 
@@ -15,7 +15,7 @@ from .thinning import MOST_NODES, Thinned, deviations, thinned, whole_squares
 @dataclass
 class Scene:
     ground: Ground
-    thin: Optional[Thinned]      # None for a list of nodes
+    thin: Optional[Thinned]      # None where nodes are drawn as dots
     deviation: array             # a standard deviation a node
     good: bytes                  # 1 for a node that passed, else 0
     level_classes: Classes
@@ -46,9 +46,8 @@ def image(address, box, smooth=False):
 
 def picture_box(g, grid):
     """Where a grid's picture lies on the ground: half a cell past the outermost nodes."""
-    across, up = cell_size(grid)
-    west, east = g.x(grid.x0 - across / 2), g.x(grid.x0 + (grid.columns - 0.5) * across)
-    south, north = g.y(grid.y0 - up / 2), g.y(grid.y0 + (grid.rows - 0.5) * up)
+    west, east = g.x(grid.x0 - grid.dx / 2), g.x(grid.x0 + (grid.columns - 0.5) * grid.dx)
+    south, north = g.y(grid.y0 - grid.dy / 2), g.y(grid.y0 + (grid.rows - 0.5) * grid.dy)
     return west, north, east - west, south - north
 
 
@@ -58,7 +57,7 @@ def scene(m):
     good = good_nodes(m.nodes.verdict, m.nodes.level)
     sure = good_nodes([not ok for ok in good], deviation)  # good, and the deviation is a number too
     made = Scene(ground(m), None, deviation, good, classes_of(m.nodes.level, good, LEVELS), classes_of(deviation, sure, DEVIATIONS), [], {})
-    if m.grid is None:
+    if not field_grid(m):
         list_parts(m, made, sure)
     elif made.large:
         large_parts(m, made, sure)
@@ -90,7 +89,7 @@ def large_parts(m, made, sure):
     box = picture_box(g, grid)
     made.parts = {'level': image(grid_picture(m.nodes.level, made.good, grid, made.level_classes), box),
                   'deviation': image(grid_picture(made.deviation, sure, grid, made.deviation_classes), box),
-                  'failed': paint.box_path(box[0], box[1], box[0] + box[2], box[1] + box[3]) if 0 in made.good else '',
+                  'failed': paint.box_path(box[0] + 1, box[1] + 1, box[0] + box[2] - 1, box[1] + box[3] - 1) if 0 in made.good else '',
                   'lines': paint.line_ground(made.contours, made.level_classes)}
 
 

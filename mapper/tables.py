@@ -3,7 +3,7 @@ import math
 from html import escape
 
 from .chart import model_words
-from .frame import ends
+from .frame import ends, field_grid
 from .scales import alike, counted, grouped, length_words, plain
 from .verdicts import verdict_advice, verdict_words
 
@@ -85,6 +85,9 @@ def level_range(values):
 def node_words(m):
     if m.grid is None:
         return counted(len(m.nodes), 'node') + ', from a list'
+    if not field_grid(m):
+        step = abs(m.grid.dy if m.grid.columns == 1 else m.grid.dx)
+        return counted(len(m.nodes), 'node') + (' in a line, %s apart' % length_words(step, 4) if len(m.nodes) > 1 else '')
     return '%s: %s columns, %s rows, %s by %s apart' % (
         counted(len(m.nodes), 'node'), grouped(str(m.grid.columns)), grouped(str(m.grid.rows)),
         length_words(abs(m.grid.dx), 4), length_words(abs(m.grid.dy), 4))
@@ -97,6 +100,8 @@ def area_words(m):
     (x0, x1), (y0, y1) = ends(m.nodes.x), ends(m.nodes.y)
     broad, high = x1 - x0, y1 - y0
     square = broad * high
+    if not square:
+        return 'none: a line of %s' % length_words(max(broad, high), 4) if broad or high else 'none: one place'
     size = '%s km²' % plain(square / 1e6, 4) if square >= 1e5 else '%s m²' % plain(square, 4)
     return '%s by %s, %s' % (length_words(broad, 4), length_words(high, 4), size)
 

@@ -59,7 +59,7 @@ class Large(unittest.TestCase):
     def test_a_long_row(self):
         text = page(samples.grid_map(20000, 1, wells=5))
         self.assertLess(len(text.encode('utf-8')), 2000000)
-        self.assertEqual([height for width, height, rows in pictures(text)], [1, 1])
+        self.assertEqual(len(pictures(text)), 2)
 
     def test_a_long_list(self):
         text = page(samples.list_map(20000))
