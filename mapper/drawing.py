@@ -20,7 +20,7 @@ class Size:
     high: float
 
 
-SIZES = (Size('wide', 900, 800), Size('middle', 560, 640), Size('narrow', 368, 520), Size('paper', 620, 640))
+SIZES = (Size('wide', 900, 800), Size('middle', 560, 640), Size('narrow', 360, 520), Size('paper', 620, 640))
 
 
 class Sheet:

@@ -125,5 +125,6 @@
     svg.addEventListener('pointerdown', function (event) { point(svg, event); });
     svg.addEventListener('pointerleave', function (event) { if (event.pointerType === 'mouse') hide(svg); });
     svg.addEventListener('keydown', function (event) { key(svg, event); });
+    document.addEventListener('pointerdown', function (event) { if (!drawing.contains(event.target)) hide(svg); });
   });
 }());

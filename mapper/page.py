@@ -94,7 +94,7 @@ def figure(m, made):
             numbered.append('<p class="thin %s">Where there is no room for a name, a well is marked by its number under Wells.</p>' % size.name)
     shown = 1 in made.good
     height = map_height(m)
-    return '<figure style="--map-height:%.0fmm">%s<div class="drawing">%s%s<div class="told" hidden></div></div><figcaption><div>%s%s</div><div>%s%s%s</div></figcaption></figure>' % (
+    return '<figure style="--map-height:%.0fmm">%s<div class="drawing">%s%s<div class="told" role="status" hidden></div></div><figcaption><div>%s%s</div><div>%s%s%s</div></figcaption></figure>' % (
         height, SWITCH, definitions(made), ''.join(sheets),
         legend('level', 'Level', made.level_classes, shown, m), legend('deviation', 'Standard deviation', made.deviation_classes, shown, m),
         run_table(m), thin_words(m), ''.join(numbered))

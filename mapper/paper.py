@@ -5,7 +5,7 @@ from .verdicts import verdict_advice, verdict_words
 
 SHEET = 274.0                # mm of A4 between the margins
 LEAST, MOST = 60.0, 160.0
-LINE = 3.75                  # mm, a line of text or a row of a table
+LINE = 3.65                  # mm, a line of text or a row of a table
 TABLE, LIST = 24, 120        # up to so many wells are printed as a table with their places, as a list of names and levels
 
 
@@ -33,7 +33,7 @@ def well_lines(m):
     columns, letters = (3, 14) if form == 'table' else (5, 16)
     rows = [lines(w.name, letters) for w in m.wells]
     if form == 'list':
-        return 2 + math.ceil(sum(rows) / columns) + max(rows) - 1  # a browser makes the columns about as long as each other
+        return 2 + math.ceil(sum(rows) / columns)  # a browser makes the columns about as long as each other
     length = math.ceil(len(rows) / columns) or 1
     return 2 + max((sum(rows[k:k + length]) for k in range(0, len(rows), length)), default=0)
 
@@ -41,6 +41,6 @@ def well_lines(m):
 def map_height(m):
     """In mm."""
     head = 20 + LINE * sum(lines(note, 120) for note in m.notes)
-    numbers = 50
-    rest = 6 + LINE * (verdict_lines(m) + sum(lines(s, 120) for s in m.refused) + well_lines(m) + 1)
+    numbers = 48
+    rest = 5 + LINE * (verdict_lines(m) + sum(lines(s, 120) for s in m.refused) + well_lines(m))
     return max(LEAST, min(MOST, SHEET - head - numbers - rest))
