@@ -23,8 +23,8 @@ def finite_bins(bins):
 
 
 def curve_points(variogram, far):
-    """The curve from just beside 0, where the nugget shows, to the farthest distance drawn."""
-    found = ((far * k / 120, model_at(variogram, far * max(k, 0.01) / 120)) for k in range(121))
+    """The curve from 0, where the nugget shows, to the farthest distance drawn."""
+    found = ((far * k / 120, model_at(variogram, far * k / 120)) for k in range(121))
     return [(h, value) for h, value in found if value is not None]
 
 

@@ -8,7 +8,7 @@ from .drawing import SIZES, drawing
 from .frame import field_grid
 from .hover import script_data
 from .paper import map_height, well_form
-from .scales import counted, grouped
+from .scales import counted, grouped, plain
 from .scene import definitions, scene
 from .tables import number_list, origin_words, run_table, verdict_table, well_list, well_table
 from .thinning import MOST_NODES
@@ -56,9 +56,11 @@ HATCHED = ('<path d="M0.5 0.5h25v15h-25z" fill="#fff" stroke="#555"/><path d="M1
            'stroke-width="2"/>')
 
 
-def legend(kind, heading, classes, shown, m):
+def legend(kind, heading, classes, shown, m, lined=False):
     """The classes of one picture, the highest first as it stands on a hill; and the signs."""
     items = [patch(classes.colours[k]) + escape(classes.words(k)) for k in reversed(range(len(classes.colours)))] if shown else []
+    if kind == 'level' and lined:
+        items.append(swatch('<path d="M1 12C8 12 14 4 25 4" class="contour"/>') + 'contour line, every %s' % escape(plain(classes.step)))
     if m.runs[m.drawn].failed:
         items.append(swatch(HATCHED) + 'did not pass: no level')
     items.append(swatch('<circle cx="13" cy="8" r="3.6" class="well"/>') + 'well')
@@ -96,7 +98,7 @@ def figure(m, made):
     height = map_height(m)
     return '<figure style="--map-height:%.0fmm">%s<div class="drawing">%s%s<div class="told" role="status" hidden></div></div><figcaption><div>%s%s</div><div>%s%s%s</div></figcaption></figure>' % (
         height, SWITCH, definitions(made), ''.join(sheets),
-        legend('level', 'Level', made.level_classes, shown, m), legend('deviation', 'Standard deviation', made.deviation_classes, shown, m),
+        legend('level', 'Level', made.level_classes, shown, m, any(made.contours)), legend('deviation', 'Standard deviation', made.deviation_classes, shown, m),
         run_table(m), thin_words(m), ''.join(numbered))
 
 

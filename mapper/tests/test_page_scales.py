@@ -5,8 +5,9 @@ import unittest
 from mapper.chart import axis, chart, curve_points
 from mapper.classes import classes
 from mapper.colours import LEVELS
-from mapper.model import Variogram
+from mapper.model import Run, Variogram
 from mapper.scales import alike, counted, decimals, fixed, length_words, plain, round_step, ticks
+from mapper.tables import area_words, level_range, node_words, origin_words
 from mapper.tests import samples
 from mapper.verdicts import verdict_advice, verdict_words
 
@@ -62,6 +63,25 @@ class Numbers(unittest.TestCase):
         self.assertEqual(counted(100000, 'node'), '100\u202f000\u00a0nodes')
         self.assertEqual([length_words(v) for v in (500, 1000, 2500)], ['500\u00a0m', '1\u00a0km', '2.5\u00a0km'])
         self.assertEqual([decimals(v) for v in (1, 0.5, 0.1, 0.05, 20)], [0, 1, 1, 2, 0])
+
+
+class Tables(unittest.TestCase):
+    def test_ranges(self):
+        self.assertEqual(level_range([45.1, 49.25, 47.0]), '45.10 to 49.25')
+        self.assertEqual(level_range([45.1, 45.1]), '45.1')
+        self.assertEqual(level_range([]), '–')
+
+    def test_origins(self):
+        self.assertEqual(origin_words(Run((0.0, 0.0), {})), 'coordinates as entered')
+        self.assertEqual(origin_words(Run((3425000.0, 5812000.0), {})), 'origin moved to (3\u202f425\u202f000, 5\u202f812\u202f000)')
+        self.assertEqual(origin_words(Run((0.0, 5812000.0), {})), 'origin moved to (0, 5\u202f812\u202f000)')
+
+    def test_nodes_and_area_in_words(self):
+        self.assertIn('40 columns, 30 rows, 51.28\u00a0m by 51.72\u00a0m apart', node_words(samples.grid_map()))
+        self.assertIn('12\u00a0nodes in a line, 181.8\u00a0m apart', node_words(samples.grid_map(12, 1)))
+        self.assertEqual(node_words(samples.grid_map(1, 1)), '1\u00a0node')
+        self.assertEqual(area_words(samples.grid_map()), '2\u00a0km by 1.5\u00a0km, 3 km²')
+        self.assertEqual(area_words(samples.grid_map(12, 1)), 'none: a line of 2\u00a0km')
 
 
 class Classed(unittest.TestCase):
