@@ -2,8 +2,8 @@
 import math
 from html import escape
 
-from .labels import text_width
-from .scales import counted, decimals, fixed, plain, round_step, ticks
+from mapper.labels import text_width
+from mapper.scales import counted, decimals, fixed, plain, round_step, ticks
 
 BROAD, HIGH, FONT = 380.0, 250.0, 12.0
 LEFT, RIGHT, TOP, BELOW = 56.0, 368.0, 30.0, 206.0  # the frame
@@ -80,14 +80,20 @@ def chart(m):
     x_of = lambda h: LEFT + (RIGHT - LEFT) * (h / across[1][-1])
     y_of = lambda v: BELOW - (BELOW - TOP) * (max(v, 0.0) / up[1][-1])
     most = max((b.pairs for b in bins), default=1)
-    dots = ''.join('<circle cx="%.1f" cy="%.1f" r="%.1f" class="bin"><title>%s</title></circle>' % (
-        x_of(b.distance), y_of(b.semivariance), 2 + 3.5 * (b.pairs / most) ** 0.5,
+    dots = ''.join('<circle cx="%.1f" cy="%.1f" r="%.1f" class="%s"><title>%s</title></circle>' % (
+        x_of(b.distance), y_of(b.semivariance), 2 + 3.5 * (b.pairs / most) ** 0.5, 'bin' if b.used else 'bin unused',
         escape('%s around %s m: %s' % (counted(b.pairs, 'pair'), plain(b.distance, 4), plain(b.semivariance, 4)))) for b in bins)
     line = 'M' + 'L'.join('%.1f %.1f' % (x_of(h), y_of(v)) for h, v in curve) if curve else ''
     return ('<svg xmlns="http://www.w3.org/2000/svg" class="chart" viewBox="0 0 %d %d" role="img" aria-labelledby="t-chart d-chart">'
             '<title id="t-chart">Semivariogram</title><desc id="d-chart">%s</desc>' % (BROAD, HIGH, escape(model_words(m.variogram)))
             + axes(across, up, x_of, y_of) + text(2, TOP - 6, 'pairs', ' class="small"') + pair_counts(bins, x_of)
             + '<path d="%s" class="curve"/>' % line + dots + '</svg>')
+
+
+def bin_words(m):
+    """What the dots are."""
+    unused = m.variogram.fitted and not all(b.used for b in m.bins)
+    return 'Dots: averages over pairs of wells.' + (' The model was not fitted to hollow ones, whose pairs are far apart.' if unused else '')
 
 
 def model_words(variogram):

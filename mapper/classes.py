@@ -4,8 +4,8 @@ from bisect import bisect_right
 from dataclasses import dataclass
 from typing import List, Tuple
 
-from .colours import class_colours
-from .scales import decimals, fixed, plain, round_step, ticks
+from mapper.colours import class_colours
+from mapper.scales import decimals, fixed, plain, round_step, ticks
 
 
 @dataclass

@@ -2,10 +2,10 @@
 from dataclasses import dataclass
 from html import escape
 
-from .frame import field_grid
-from .ground import dot_radius
-from .labels import Box, line_labels, short_name, square, text_width, well_labels
-from .scales import alike, decimals, fixed, length_words, round_step, ticks
+from mapper.frame import field_grid
+from mapper.ground import dot_radius
+from mapper.labels import Box, line_labels, short_name, square, text_width, well_labels
+from mapper.scales import alike, decimals, fixed, length_words, round_step, ticks
 
 FONT = 12.0
 RADIUS = 3.6  # of a well
@@ -145,7 +145,7 @@ def contour_labels(contours, classes, sheet, taken):
 def hatching(name, scale):
     """Stripes as broad on every size of the map."""
     return ('<pattern id="hatch-%s" width="7" height="7" patternUnits="userSpaceOnUse" patternTransform="scale(%.4f) rotate(45)">'
-            '<rect width="7" height="7" fill="#fff"/><rect width="2" height="7" fill="#6b6b6b"/></pattern>' % (name, 1 / scale))
+            '<rect width="7" height="7" fill="#fff"/><rect width="2" height="7" fill="#858585"/></pattern>' % (name, 1 / scale))
 
 
 def drawing(m, ground, size, contours, classes, drawn, words):

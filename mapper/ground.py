@@ -2,8 +2,8 @@
 
 It is written once, in units of frame.Ground, and shown by every size of the map.
 """
-from .colours import hexadecimal, line_colour
-from .contours import Field, areas, lines
+from mapper.colours import hexadecimal, line_colour
+from mapper.contours import Field, areas, lines
 
 
 def number(value):

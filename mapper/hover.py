@@ -1,9 +1,9 @@
 """What hovering tells: figures by node, ready to be shown as they stand. A failed node has its verdict and no level."""
 import json
 
-from .scales import plain
-from .thinning import MOST_NODES, block_verdicts
-from .verdicts import verdict_words
+from mapper.scales import plain
+from mapper.thinning import MOST_NODES, block_verdicts
+from mapper.verdicts import verdict_words
 
 
 def share(value, whole):

@@ -64,6 +64,7 @@ class Bin:
     distance: float
     semivariance: float
     pairs: int
+    used: bool = True  # False where the model was not fitted to it, since its pairs are far apart
 
 
 @dataclass
@@ -71,6 +72,7 @@ class Run:
     """One way through all the nodes: with the origin moved by (east, north), or (0, 0) as entered. How many nodes got each verdict."""
     origin: Tuple[float, float]
     verdicts: Dict[int, int]
+    refused: int = 0  # the number by which the whole run was turned away; it has no verdicts then
 
     @property
     def passed(self):

@@ -2,16 +2,16 @@
 import os
 from html import escape
 
-from .chart import chart, model_words
-from .colours import hexadecimal
-from .drawing import SIZES, drawing
-from .frame import field_grid
-from .hover import script_data
-from .paper import map_height, well_form
-from .scales import counted, grouped, plain
-from .scene import definitions, scene
-from .tables import number_list, origin_words, run_table, verdict_table, well_list, well_table
-from .thinning import MOST_NODES
+from mapper.chart import bin_words, chart, model_words
+from mapper.colours import hexadecimal
+from mapper.drawing import SIZES, drawing
+from mapper.frame import field_grid
+from mapper.hover import script_data
+from mapper.paper import map_height, well_form
+from mapper.scales import counted, grouped, plain
+from mapper.scene import definitions, scene
+from mapper.tables import number_list, origin_words, run_table, verdict_table, well_list, well_table
+from mapper.thinning import MOST_NODES
 
 HERE = os.path.dirname(os.path.abspath(__file__))
 
@@ -129,7 +129,7 @@ def page(m):
         '<style>', beside('style.css'), '</style>', '</head>', '<body>',
         '<header><h1>%s</h1><p class="subtitle">Water table: %s</p>%s%s</header>' % (title, escape(subtitle(m)), headline(m), notes(m)),
         '<main>', figure(m, made), '<div class="side">',
-        section('semivariogram', 'Semivariogram', chart(m) + '<p>%s</p>' % escape(model_words(m.variogram))),
+        section('semivariogram', 'Semivariogram', chart(m) + '<p>%s %s</p>' % (escape(model_words(m.variogram)), bin_words(m))),
         section('numbers', 'The survey in numbers', number_list(m, made)), '</div>',
         refused(m), wells(m), '</main>',
         '<script type="application/json" id="told">%s</script>' % script_data(m, made),

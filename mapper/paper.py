@@ -1,7 +1,7 @@
 """How high the map may be on paper, so that everything else still finds room on the one sheet."""
 import math
 
-from .verdicts import verdict_advice, verdict_words
+from mapper.verdicts import verdict_advice, verdict_words
 
 SHEET = 274.0                # mm of A4 between the margins
 LEAST, MOST = 60.0, 160.0

@@ -3,7 +3,7 @@ import base64
 import struct
 import zlib
 
-from .thinning import kept, blocks
+from mapper.thinning import kept, blocks
 
 MOST_POINTS = 1600  # along a side
 

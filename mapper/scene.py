@@ -4,12 +4,12 @@ from array import array
 from dataclasses import dataclass
 from typing import Dict, List, Optional
 
-from . import ground as paint
-from .classes import Classes, classes
-from .colours import DEVIATIONS, LEVELS
-from .frame import Ground, field_grid, ground
-from .raster import dot_picture, grid_picture
-from .thinning import MOST_NODES, Thinned, deviations, thinned, whole_squares
+from mapper import ground as paint
+from mapper.classes import Classes, classes
+from mapper.colours import DEVIATIONS, LEVELS
+from mapper.frame import Ground, field_grid, ground
+from mapper.raster import dot_picture, grid_picture
+from mapper.thinning import MOST_NODES, Thinned, deviations, thinned, whole_squares
 
 
 @dataclass
@@ -89,7 +89,7 @@ def large_parts(m, made, sure):
     box = picture_box(g, grid)
     made.parts = {'level': image(grid_picture(m.nodes.level, made.good, grid, made.level_classes), box),
                   'deviation': image(grid_picture(made.deviation, sure, grid, made.deviation_classes), box),
-                  'failed': paint.box_path(box[0] + 1, box[1] + 1, box[0] + box[2] - 1, box[1] + box[3] - 1) if 0 in made.good else '',
+                  'failed': paint.box_path(box[0] + 2, box[1] + 2, box[0] + box[2] - 2, box[1] + box[3] - 2) if 0 in made.good else '',
                   'lines': paint.line_ground(made.contours, made.level_classes)}
 
 

@@ -2,10 +2,10 @@
 import math
 from html import escape
 
-from .chart import model_words
-from .frame import ends, field_grid
-from .scales import alike, counted, grouped, length_words, plain
-from .verdicts import verdict_advice, verdict_words
+from mapper.chart import model_words
+from mapper.frame import ends, field_grid
+from mapper.scales import alike, counted, grouped, length_words, plain
+from mapper.verdicts import verdict_advice, verdict_words
 
 
 def row(cells, tag='td'):
@@ -25,12 +25,18 @@ def origin_words(run):
     return 'origin moved to (%s, %s)' % (plain(run.origin[0], 10), plain(run.origin[1], 10))
 
 
+def run_counts(run):
+    """How many nodes passed and failed; of a run that was turned away, by which number."""
+    if run.refused:
+        return [('refused (%d)' % run.refused, True), ('–', True)]
+    return [(grouped(str(run.passed)), True), (grouped(str(run.failed)), True)]
+
+
 def run_table(m):
     """How many nodes passed and failed in each run, where there was more than one."""
     if len(m.runs) < 2:
         return ''
-    rows = [[(origin_words(run).capitalize() + (' (drawn)' if k == m.drawn else ''), False),
-             (grouped(str(run.passed)), True), (grouped(str(run.failed)), True)] for k, run in enumerate(m.runs)]
+    rows = [[(origin_words(run).capitalize() + (' (drawn)' if k == m.drawn else ''), False), *run_counts(run)] for k, run in enumerate(m.runs)]
     return table([('Run', False), ('passed', True), ('failed', True)], rows, 'runs')
 
 

@@ -123,6 +123,11 @@ class Content(unittest.TestCase):
                 written = ' '.join(one.text for one in drawing.iter(SVG + 'text'))
                 self.assertRegex(written, r'Drawn: origin moved to \(3.425.000, 5.812.000\)')
 
+    def test_a_run_that_was_turned_away(self):
+        m = samples.two_runs()
+        m.runs[0] = Run((0.0, 0.0), {}, 19)
+        self.assertRegex(' '.join(words(page(m)).split()), r'Coordinates as entered refused \(19\) – Origin moved')
+
     def test_as_entered_is_written_on_the_map(self):
         self.assertIn('>Drawn: coordinates as entered<', page(samples.grid_map(4, 4)))
 

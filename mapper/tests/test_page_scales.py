@@ -2,7 +2,7 @@
 import math
 import unittest
 
-from mapper.chart import axis, chart, curve_points
+from mapper.chart import axis, bin_words, chart, curve_points
 from mapper.classes import classes
 from mapper.colours import LEVELS
 from mapper.model import Run, Variogram
@@ -111,6 +111,13 @@ class Chart(unittest.TestCase):
         m = samples.grid_map(3, 3)
         self.assertEqual(chart(m).count('class="bin"'), len(m.bins))
         self.assertIn('class="curve"', chart(m))
+        self.assertNotIn('hollow', bin_words(m))
+
+    def test_bins_that_were_not_fitted_are_hollow(self):
+        m = samples.grid_map(3, 3)
+        m.bins[-1].used = m.bins[-2].used = False
+        self.assertEqual(chart(m).count('class="bin unused"'), 2)
+        self.assertIn('hollow', bin_words(m))
 
 
 class Verdicts(unittest.TestCase):
