@@ -6,7 +6,7 @@ from mapper.labels import text_width
 from mapper.scales import counted, decimals, fixed, plain, round_step, ticks
 
 BROAD, HIGH, FONT = 380.0, 250.0, 12.0
-LEFT, RIGHT, TOP, BELOW = 56.0, 368.0, 30.0, 206.0  # the frame
+LEFT, RIGHT, TOP, BELOW = 56.0, 368.0, 36.0, 208.0  # the frame
 
 
 def model_at(variogram, distance):
@@ -50,7 +50,7 @@ def pair_counts(bins, x_of):
         words = str(b.pairs)
         half = text_width(words, FONT * 0.9) / 2
         if x_of(b.distance) - half > free:
-            parts.append(text(x_of(b.distance), TOP - 6, words, ' text-anchor="middle" class="small"'))
+            parts.append(text(x_of(b.distance), TOP - 13, words, ' text-anchor="middle" class="small"'))
             free = x_of(b.distance) + half + 3
     return ''.join(parts)
 
@@ -86,7 +86,7 @@ def chart(m):
     line = 'M' + 'L'.join('%.1f %.1f' % (x_of(h), y_of(v)) for h, v in curve) if curve else ''
     return ('<svg xmlns="http://www.w3.org/2000/svg" class="chart" viewBox="0 0 %d %d" role="img" aria-labelledby="t-chart d-chart">'
             '<title id="t-chart">Semivariogram</title><desc id="d-chart">%s</desc>' % (BROAD, HIGH, escape(model_words(m.variogram)))
-            + axes(across, up, x_of, y_of) + text(2, TOP - 6, 'pairs', ' class="small"') + pair_counts(bins, x_of)
+            + axes(across, up, x_of, y_of) + text(2, TOP - 13, 'pairs', ' class="small"') + pair_counts(bins, x_of)
             + '<path d="%s" class="curve"/>' % line + dots + '</svg>')
 
 

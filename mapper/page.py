@@ -8,7 +8,7 @@ from mapper.drawing import SIZES, drawing
 from mapper.frame import field_grid
 from mapper.hover import script_data
 from mapper.paper import map_height, well_form
-from mapper.scales import counted, grouped, plain
+from mapper.scales import count, counted, plain
 from mapper.scene import definitions, scene
 from mapper.tables import number_list, origin_words, run_table, verdict_table, well_list, well_table
 from mapper.thinning import MOST_NODES
@@ -29,7 +29,7 @@ def headline(m):
     if run.failed:
         have = 'has' if run.failed == 1 else 'have'
         return '<p class="failed-line"><strong>%s of %s did not pass the audit and %s no level.</strong></p>' % (
-            grouped(str(run.failed)), counted(total, 'node'), have)
+            count(run.failed), counted(total, 'node'), have)
     return '<p class="passed-line">%s</p>' % ('The node passed the audit.' if total == 1 else 'All %s passed the audit.' % counted(total, 'node'))
 
 
@@ -83,7 +83,7 @@ def picture_words(m, made):
     """The map for those who cannot see it."""
     run = m.runs[m.drawn]
     return 'Map of the water table, north up, %s. %s of %s have a level. Drawn: %s.' % (
-        subtitle(m), grouped(str(run.passed)), counted(len(m.nodes), 'node'), origin_words(run))
+        subtitle(m), count(run.passed), counted(len(m.nodes), 'node'), origin_words(run))
 
 
 def figure(m, made):

@@ -95,9 +95,14 @@ def alike(values, figures=10):
     return [fixed(v, places) for v in values]
 
 
-def counted(number, word, words=None):
-    """'1 node', '1 200 nodes'."""
-    return '%s%s%s' % (grouped(str(number)), '\u00a0', word if number == 1 else words or word + 's')
+def count(number):
+    """How many: 1,200."""
+    return '{:,}'.format(number)
+
+
+def counted(number, word):
+    """'1 node', '1,200 nodes'; the two words stay on one line."""
+    return '%s\u00a0%s' % (count(number), word if number == 1 else word + 's')
 
 
 def length_words(metres, figures=7):

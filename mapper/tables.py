@@ -4,8 +4,11 @@ from html import escape
 
 from mapper.chart import model_words
 from mapper.frame import ends, field_grid
-from mapper.scales import alike, counted, grouped, length_words, plain
+from mapper.scales import alike, count, counted, length_words, plain
 from mapper.verdicts import verdict_advice, verdict_words
+
+
+AS_ENTERED = (0, 0)
 
 
 def row(cells, tag='td'):
@@ -20,7 +23,7 @@ def table(heads, rows, name=''):
 
 def origin_words(run):
     """Which coordinates a run was made with."""
-    if tuple(run.origin) == (0, 0):
+    if tuple(run.origin) == AS_ENTERED:
         return 'coordinates as entered'
     return 'origin moved to (%s, %s)' % (plain(run.origin[0], 10), plain(run.origin[1], 10))
 
@@ -29,7 +32,7 @@ def run_counts(run):
     """How many nodes passed and failed; of a run that was turned away, by which number."""
     if run.refused:
         return [('refused (%d)' % run.refused, True), ('–', True)]
-    return [(grouped(str(run.passed)), True), (grouped(str(run.failed)), True)]
+    return [(count(run.passed), True), (count(run.failed), True)]
 
 
 def run_table(m):
@@ -42,9 +45,10 @@ def run_table(m):
 
 def verdict_table(m):
     """The verdicts of the drawn run that are not 0: how many nodes, why, and what to do."""
-    found = sorted((v, count) for v, count in m.runs[m.drawn].verdicts.items() if v and count)
-    rows = [[(str(v), True), (grouped(str(count)), True), (sentence(verdict_words(v, m.columns)), False),
-             (verdict_advice(v, m.columns), False)] for v, count in found]
+    moved = tuple(m.runs[m.drawn].origin) != AS_ENTERED
+    found = sorted((v, many) for v, many in m.runs[m.drawn].verdicts.items() if v and many)
+    rows = [[(str(v), True), (count(many), True), (sentence(verdict_words(v, m.columns)), False),
+             (verdict_advice(v, m.columns, moved), False)] for v, many in found]
     return table([('Verdict', True), ('Nodes', True), ('Why', False), ('What to do', False)], rows, 'verdicts') if rows else ''
 
 
@@ -95,7 +99,7 @@ def node_words(m):
         step = abs(m.grid.dy if m.grid.columns == 1 else m.grid.dx)
         return counted(len(m.nodes), 'node') + (' in a line, %s apart' % length_words(step, 4) if len(m.nodes) > 1 else '')
     return '%s: %s columns, %s rows, %s by %s apart' % (
-        counted(len(m.nodes), 'node'), grouped(str(m.grid.columns)), grouped(str(m.grid.rows)),
+        counted(len(m.nodes), 'node'), count(m.grid.columns), count(m.grid.rows),
         length_words(abs(m.grid.dx), 4), length_words(abs(m.grid.dy), 4))
 
 
@@ -118,10 +122,10 @@ def numbers(m, made):
     deviations = [v for v, ok in zip(made.deviation, made.good) if ok and math.isfinite(v)]
     run = m.runs[m.drawn]
     return [
-        ('Wells', '%s, levels %s' % (grouped(str(len(m.wells))), level_range([w.level for w in m.wells]))),
+        ('Wells', '%s, levels %s' % (count(len(m.wells)), level_range([w.level for w in m.wells]))),
         ('Nodes', node_words(m)),
         ('Area of the nodes', area_words(m)),
-        ('Passed the audit', '%s of %s' % (grouped(str(run.passed)), grouped(str(run.passed + run.failed)))),
+        ('Passed the audit', '%s of %s' % (count(run.passed), count(run.passed + run.failed))),
         ('Levels at nodes', level_range(levels)),
         ('Standard deviation', level_range(deviations)),
         ('Trend', m.trend),

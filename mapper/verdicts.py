@@ -24,8 +24,8 @@ def column_words(column):
 PLACE_COLUMNS = ('x', 'y', 'x²', 'xy', 'y²')
 
 
-def verdict_advice(verdict, columns):
-    """What to do about a verdict; empty where there is nothing to do."""
+def verdict_advice(verdict, columns, moved=False):
+    """What to do about a verdict, where the origin is moved to the wells or not; empty where there is nothing to do."""
     if verdict == 0:
         return ''
     if verdict == NOT_FINITE:
@@ -35,8 +35,9 @@ def verdict_advice(verdict, columns):
     if verdict > len(columns):
         return 'Take the node as one that has not passed.'
     column = columns[verdict - 1]
-    if column == '1':
-        return 'Look for wells that lie very close together; leave one out, or raise the regularization a little.'
-    if column in PLACE_COLUMNS:
+    if column != '1' and column not in PLACE_COLUMNS:
+        return 'Take a round number off the external column so that it lies near 0, or leave the column out.'
+    # Lost digits of far coordinates show in the constant column, too, wherever the trend has columns of the place.
+    if not moved and any(other in PLACE_COLUMNS for other in columns):
         return 'Count the coordinates from a round corner near the wells, or take a simpler trend.'
-    return 'Take a round number off the external column so that it lies near 0, or leave the column out.'
+    return 'Take a simpler trend, or one well in place of several that lie close together.'

@@ -116,8 +116,8 @@ class Content(unittest.TestCase):
     def test_both_counts_and_which_is_drawn(self):
         text = page(samples.two_runs())
         seen = ' '.join(words(text).split())
-        self.assertRegex(seen, r'Coordinates as entered 0 1200')
-        self.assertRegex(seen, r'Origin moved to \(3.425.000, 5.812.000\) \(drawn\) 1157 43')
+        self.assertRegex(seen, r'Coordinates as entered 0 1,200')
+        self.assertRegex(seen, r'Origin moved to \(3.425.000, 5.812.000\) \(drawn\) 1,157 43')
         for drawing in drawings(text):
             if drawing.get('class', '').startswith('map'):
                 written = ' '.join(one.text for one in drawing.iter(SVG + 'text'))
@@ -132,8 +132,8 @@ class Content(unittest.TestCase):
         self.assertIn('>Drawn: coordinates as entered<', page(samples.grid_map(4, 4)))
 
     def test_headline(self):
-        self.assertIn('43 of 1200\u00a0nodes did not pass the audit and have no level.', page(samples.two_runs()))
-        self.assertIn('All 1200\u00a0nodes passed the audit.', page(samples.grid_map()))
+        self.assertIn('43 of 1,200\u00a0nodes did not pass the audit and have no level.', page(samples.two_runs()))
+        self.assertIn('All 1,200\u00a0nodes passed the audit.', page(samples.grid_map()))
         m = samples.grid_map(3, 3)
         m.nodes.verdict[4] = 255
         m.runs = [Run((0.0, 0.0), {0: 8, 255: 1})]
@@ -142,7 +142,7 @@ class Content(unittest.TestCase):
     def test_verdicts_in_words(self):
         seen = words(page(samples.two_runs()))
         for phrase in ('The weights do not carry column y to the node within the tolerance.', "The figure's own rounding",
-                       'the figure means nothing', 'Count the coordinates from a round corner near the wells'):
+                       'the figure means nothing', 'Take a simpler trend, or one well in place of several'):
             self.assertIn(phrase, seen)
 
     def test_notes_and_refusals(self):

@@ -80,7 +80,7 @@ class Degenerate(unittest.TestCase):
         for at in range(len(m.nodes)):
             m.nodes.level[at] = (math.nan, math.inf, -math.inf)[at % 3]
             m.nodes.variance[at] = math.nan
-        self.assertIn('1200 of 1200\u00a0nodes did not pass', self.sound(m))
+        self.assertIn('1,200 of 1,200\u00a0nodes did not pass', self.sound(m))
 
     def test_numbers_that_are_none_at_failed_nodes(self):
         m = samples.two_runs()
