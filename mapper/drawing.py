@@ -148,13 +148,25 @@ def hatching(name, scale):
             '<rect width="7" height="7" fill="#fff"/><rect width="2" height="7" fill="#858585"/></pattern>' % (name, 1 / scale))
 
 
-def drawing(m, ground, size, contours, classes, drawn, words):
+def ground_layers(made, size):
+    """The shared ground: levels with their lines, deviations, the hatching, and a line around it.
+
+    The hatching lies on top, so that no colour runs into it; but under a picture, which is clear where it is to show.
+    """
+    use = '<use href="#%s"%s/>'
+    failed = use % ('ground-failed', ' fill="url(#hatch-%s)"' % size.name)
+    figures = '<g class="of-level">%s%s</g><g class="of-deviation">%s</g>' % (
+        use % ('ground-level', ''), use % ('ground-lines', ''), use % ('ground-deviation', ''))
+    return (failed + figures if made.large else figures + failed) + use % ('ground-border', '')
+
+
+def drawing(m, made, size, drawn, words):
     """The map in one size, and whether wells are marked by number; `drawn` says which run it shows, `words` what there is to see."""
+    ground = made.ground
     sheet = Sheet(ground, size)
     f = sheet.frame
     well_marks, taken, numbered = wells(m, ground, sheet)
-    labels = contour_labels(contours, classes, sheet, taken)
-    use = '<use href="#%s"%s/>'
+    labels = contour_labels(made.contours, made.level_classes, sheet, taken)
     return ''.join((
         '<svg xmlns="http://www.w3.org/2000/svg" class="map %s" viewBox="0 0 %.1f %.1f" style="max-width:%dpx" '
         % (size.name, sheet.broad, sheet.high, round(sheet.broad * 1.2)),
@@ -162,10 +174,8 @@ def drawing(m, ground, size, contours, classes, drawn, words):
         '<title id="t-%s">%s</title><desc id="d-%s">%s</desc>' % (size.name, escape(m.title), size.name, escape(words)),
         '<defs>%s<clipPath id="clip-%s"><rect width="%.1f" height="%.1f"/></clipPath></defs>'
         % (hatching(size.name, sheet.scale), size.name, ground.width, ground.height),
-        '<g transform="translate(%.1f %.1f) scale(%.5f)" clip-path="url(#clip-%s)">' % (sheet.left, sheet.top, sheet.scale, size.name),
-        use % ('ground-failed', ' fill="url(#hatch-%s)"' % size.name),
-        '<g class="of-level">%s%s</g>' % (use % ('ground-level', ''), use % ('ground-lines', '')),
-        '<g class="of-deviation">%s</g></g>' % (use % ('ground-deviation', '')),
+        '<g transform="translate(%.1f %.1f) scale(%.5f)" clip-path="url(#clip-%s)">%s</g>'
+        % (sheet.left, sheet.top, sheet.scale, size.name, ground_layers(made, size)),
         '<rect x="%.1f" y="%.1f" width="%.1f" height="%.1f" class="frame"/>' % (f.left, f.top, sheet.width, sheet.height),
         frame_numbers(ground, sheet), '<g class="of-level">%s</g>' % labels, well_marks,
         scale_bar(ground, sheet), north_arrow(sheet),

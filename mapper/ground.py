@@ -26,11 +26,11 @@ def dot_path(x, y, radius):
 
 
 def filled(path, colour, seams=False):
-    """A path in one colour; with `seams` a thin line of the same colour closes the gap that a screen leaves between neighbours."""
+    """A path in one colour; with `seams` a thin line of the same colour closes the gap that a screen leaves towards what is painted next to it."""
     if not path:
         return ''
     colour = hexadecimal(colour)
-    line = ' stroke="%s" stroke-width="0.8" vector-effect="non-scaling-stroke"' % colour if seams else ''
+    line = ' stroke="%s" stroke-width="1.6" vector-effect="non-scaling-stroke"' % colour if seams else ''
     return '<path d="%s" fill="%s"%s/>' % (path, colour, line)
 
 

@@ -79,7 +79,7 @@ def thin_words(m):
     return '<p class="thin">%s from a part of the %s; the table file has every node.</p>' % (lines, counted(len(m.nodes), 'node'))
 
 
-def picture_words(m, made):
+def picture_words(m):
     """The map for those who cannot see it."""
     run = m.runs[m.drawn]
     return 'Map of the water table, north up, %s. %s of %s have a level. Drawn: %s.' % (
@@ -90,7 +90,7 @@ def figure(m, made):
     """The map in all its sizes, of which a screen shows one; its switch and legends."""
     sheets, numbered = [], []
     for size in SIZES:
-        sheet, by_number = drawing(m, made.ground, size, made.contours, made.level_classes, origin_words(m.runs[m.drawn]), picture_words(m, made))
+        sheet, by_number = drawing(m, made, size, origin_words(m.runs[m.drawn]), picture_words(m))
         sheets.append(sheet)
         if by_number:
             numbered.append('<p class="thin %s">Where there is no room for a name, a well is marked by its number under Wells.</p>' % size.name)

@@ -21,7 +21,7 @@ class Scene:
     level_classes: Classes
     deviation_classes: Classes
     contours: List               # for each bound of the levels its lines on the ground
-    parts: Dict[str, str]        # SVG by name: ground-level, ground-deviation, ground-lines, ground-failed
+    parts: Dict[str, str]        # SVG of level, deviation and lines; paths of failed and border
 
     @property
     def large(self):
@@ -90,7 +90,8 @@ def large_parts(m, made, sure):
     made.parts = {'level': image(grid_picture(m.nodes.level, made.good, grid, made.level_classes), box),
                   'deviation': image(grid_picture(made.deviation, sure, grid, made.deviation_classes), box),
                   'failed': paint.box_path(box[0] + 2, box[1] + 2, box[0] + box[2] - 2, box[1] + box[3] - 2) if 0 in made.good else '',
-                  'lines': paint.line_ground(made.contours, made.level_classes)}
+                  'lines': paint.line_ground(made.contours, made.level_classes),
+                  'border': paint.box_path(box[0], box[1], box[0] + box[2], box[1] + box[3])}
 
 
 def grid_parts(m, made, sure):
@@ -106,6 +107,7 @@ def grid_parts(m, made, sure):
         if name == 'level':
             made.contours = paint.contour_lines(lattice, field, kinds)
     made.parts['failed'] = paint.failed_cells(lattice, made.good)
+    made.parts['border'] = lattice.box(0, 0, grid.columns - 1, grid.rows - 1)
     made.parts['lines'] = paint.line_ground(made.contours, made.level_classes)
 
 
@@ -114,5 +116,6 @@ def definitions(made):
     groups = ''.join('<g id="ground-%s">%s</g>' % (name, made.parts.get(name, '')) for name in ('level', 'deviation'))
     lines = '<g id="ground-lines" class="lines">%s</g>' % made.parts.get('lines', '')
     failed = '<path id="ground-failed"%s d="%s"/>' % ('' if made.thin else ' class="failed-dots"', made.parts['failed'])
-    return ('<svg xmlns="http://www.w3.org/2000/svg" class="shared" width="0" height="0" aria-hidden="true"><defs>%s%s%s</defs></svg>'
-            % (groups, lines, failed))
+    border = '<path id="ground-border" class="border" d="%s"/>' % made.parts.get('border', '')
+    return ('<svg xmlns="http://www.w3.org/2000/svg" class="shared" width="0" height="0" aria-hidden="true"><defs>%s%s%s%s</defs></svg>'
+            % (groups, lines, failed, border))

@@ -1,6 +1,11 @@
-"""Made-up maps for the tests and for looking at the page: a plane with waves, wells scattered over it, some nodes failed."""
+"""Made-up maps for the tests and for looking at the page: a plane with waves, wells scattered over it, some nodes failed.
+
+    python3 -m mapper.tests.samples FOLDER && mapper/look FOLDER/*.html --to FOLDER
+"""
 import math
+import os
 import random
+import sys
 from array import array
 
 from mapper.model import Bin, Grid, Map, Nodes, Run, Variogram, Well
@@ -119,3 +124,15 @@ def tall_map(**more):
 
 
 SAMPLES = {'crowded': crowded, 'tall': tall_map, 'plain': grid_map, 'two_runs': two_runs, 'list': list_map, 'none': none_passed, 'large': large_map}
+
+
+def write_pages(folder):
+    """The page of every sample, in a folder."""
+    from mapper.page import page
+    for name, make in SAMPLES.items():
+        with open(os.path.join(folder, name + '.html'), 'w', encoding='utf-8') as file:
+            file.write(page(make()))
+
+
+if __name__ == '__main__':
+    write_pages(sys.argv[1])

@@ -112,7 +112,7 @@ class Frames(unittest.TestCase):
             m = samples.SAMPLES[name]()
             made = scene(m)
             for size in SIZES:
-                text = drawing(m, made.ground, size, made.contours, made.level_classes, 'coordinates as entered', '')[0]
+                text = drawing(m, made, size, 'coordinates as entered', '')[0]
                 broad, high = map(float, re.search(r'viewBox="0 0 ([\d.]+) ([\d.]+)"', text).groups())
                 self.assertLessEqual(broad, size.broad + 0.1)
                 self.assertLessEqual(high, size.high + 0.1)
