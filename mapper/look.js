@@ -30,10 +30,12 @@ function faults(page) {
     var shapes = texts.map(corners);
     shapes.forEach(function (shape, k) {
       shape.forEach(function (p) {
-        if (p[0] < room.left - 1 || p[0] > room.right + 1 || p[1] < room.top - 1 || p[1] > room.bottom + 1) found.push('cut off: ' + texts[k].textContent);
+        var out = p[0] < room.left - 1 || p[0] > room.right + 1 || p[1] < room.top - 1 || p[1] > room.bottom + 1;
+        if (out) found.push('cut off: ' + texts[k].textContent);
       });
       for (var j = 0; j < k; j++) {
-        if (!parted(shape, shapes[j]) && !parted(shapes[j], shape)) found.push('over each other: ' + texts[j].textContent + ' / ' + texts[k].textContent);
+        if (parted(shape, shapes[j]) || parted(shapes[j], shape)) continue;
+        found.push('over each other: ' + texts[j].textContent + ' / ' + texts[k].textContent);
       }
     });
   });

@@ -96,10 +96,12 @@ def figure(m, made):
             numbered.append('<p class="thin %s">Where there is no room for a name, a well is marked by its number under Wells.</p>' % size.name)
     shown = 1 in made.good
     height = map_height(m)
-    return '<figure style="--map-height:%.0fmm">%s<div class="drawing">%s%s<div class="told" role="status" hidden></div></div><figcaption><div>%s%s</div><div>%s%s%s</div></figcaption></figure>' % (
-        height, SWITCH, definitions(made), ''.join(sheets),
-        legend('level', 'Level', made.level_classes, shown, m, any(made.contours)), legend('deviation', 'Standard deviation', made.deviation_classes, shown, m),
-        run_table(m), thin_words(m), ''.join(numbered))
+    legends = (legend('level', 'Level', made.level_classes, shown, m, any(made.contours))
+               + legend('deviation', 'Standard deviation', made.deviation_classes, shown, m))
+    return ''.join((
+        '<figure style="--map-height:%.0fmm">' % height, SWITCH,
+        '<div class="drawing">%s%s<div class="told" role="status" hidden></div></div>' % (definitions(made), ''.join(sheets)),
+        '<figcaption><div>%s</div><div>%s%s%s</div></figcaption></figure>' % (legends, run_table(m), thin_words(m), ''.join(numbered))))
 
 
 def section(name, heading, body):
