@@ -81,7 +81,7 @@ def well_list(m):
     """Wells for paper, where there are too many for the table: number, name and level, in narrow columns."""
     levels = alike([w.level for w in m.wells])
     return '<ul class="well-list">%s</ul>' % ''.join(
-        '<li><span>#%d</span> %s <b>%s</b></li>' % (k, escape(w.name), level) for k, (w, level) in enumerate(zip(m.wells, levels), 1))
+        '<li><span>#%d</span><i>%s</i><b>%s</b></li>' % (k, escape(w.name), level) for k, (w, level) in enumerate(zip(m.wells, levels), 1))
 
 
 def level_range(values):
