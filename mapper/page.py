@@ -7,7 +7,7 @@ from mapper.colours import hexadecimal
 from mapper.drawing import SIZES, drawing
 from mapper.frame import field_grid
 from mapper.hover import script_data
-from mapper.paper import map_height, well_form
+from mapper.paper import map_height, shrinking, well_form
 from mapper.scales import count, counted, plain
 from mapper.scene import definitions, scene
 from mapper.tables import number_list, origin_words, run_table, verdict_table, well_list, well_table
@@ -128,7 +128,7 @@ def page(m):
     return '\n'.join((
         '<!DOCTYPE html>', '<html lang="en">', '<head>', '<meta charset="utf-8">',
         '<meta name="viewport" content="width=device-width, initial-scale=1">', '<title>%s: water table</title>' % title,
-        '<style>', beside('style.css'), '</style>', '</head>', '<body>',
+        '<style>', beside('style.css'), '</style>', '</head>', '<body style="--shrinking:%.2f">' % shrinking(m),
         '<header><h1>%s</h1><p class="subtitle">Water table: %s</p>%s%s</header>' % (title, escape(subtitle(m)), headline(m), notes(m)),
         '<main>', figure(m, made), '<div class="side">',
         section('semivariogram', 'Semivariogram', chart(m) + '<p>%s %s</p>' % (escape(model_words(m.variogram)), bin_words(m))),

@@ -46,6 +46,12 @@ def well_form(m):
     return 'list' if len(m.wells) <= LIST and room(m, 'list') >= LEAST else 'none'
 
 
+def shrinking(m):
+    """By how much everything on paper is made smaller: 1, but where even without wells and with the least map it would not go on one sheet."""
+    needed = SHEET - room(m, 'none') + LEAST + 15  # with two runs the legend's side grows by as much
+    return min(1.0, SHEET / needed)
+
+
 def map_height(m):
     """In mm."""
     return max(LEAST, min(MOST, room(m, well_form(m))))

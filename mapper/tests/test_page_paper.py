@@ -3,7 +3,7 @@ import unittest
 
 from mapper.model import Run
 from mapper.page import page
-from mapper.paper import LEAST, MOST, map_height, room, well_form
+from mapper.paper import LEAST, MOST, map_height, room, shrinking, well_form
 from mapper.tests import samples
 
 
@@ -33,6 +33,13 @@ class Paper(unittest.TestCase):
         self.assertEqual(well_form(m), 'none')
         self.assertGreaterEqual(map_height(m), LEAST)
         self.assertIn('on-paper-none', page(m))
+
+    def test_letters_are_smaller_only_where_they_have_to_be(self):
+        for make in samples.SAMPLES.values():
+            self.assertEqual(shrinking(make()), 1.0)
+        m = worst()
+        m.notes *= 2
+        self.assertTrue(0.4 < shrinking(m) < 0.95)
 
     def test_within_bounds(self):
         for make in samples.SAMPLES.values():
