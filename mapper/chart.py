@@ -1,0 +1,103 @@
+"""The semivariogram: bins as dots, as large as their pairs are many, and the model's curve."""
+import math
+from html import escape
+
+from mapper.labels import text_width
+from mapper.scales import counted, decimals, fixed, plain, round_step, ticks
+
+BROAD, HIGH, FONT = 380.0, 250.0, 12.0
+LEFT, RIGHT, TOP, BELOW = 56.0, 368.0, 36.0, 208.0  # the frame
+
+
+def model_at(variogram, distance):
+    """The model, or None where its numbers give none, as a linear one of range 0 does not."""
+    try:
+        value = variogram.at(distance)
+    except (ZeroDivisionError, OverflowError):
+        return None
+    return value if math.isfinite(value) else None
+
+
+def finite_bins(bins):
+    return [b for b in bins if math.isfinite(b.distance) and math.isfinite(b.semivariance)]
+
+
+def curve_points(variogram, far):
+    """The curve from 0, where the nugget shows, to the farthest distance drawn."""
+    found = ((far * k / 120, model_at(variogram, far * k / 120)) for k in range(121))
+    return [(h, value) for h, value in found if value is not None]
+
+
+def axis(top, most):
+    """A step and its ticks from 0 to the first one at or past `top`."""
+    step = round_step(top, most)
+    count = max(1, math.ceil(top / step - 1e-9))
+    return step, [k * step for k in range(count + 1)]
+
+
+def tick_words(value, step):
+    return plain(value, 4) if decimals(step) > 5 or value >= 1e7 else fixed(value, decimals(step))
+
+
+def text(x, y, words, more=''):
+    return '<text x="%.1f" y="%.1f"%s>%s</text>' % (x, y, more, escape(words))
+
+
+def pair_counts(bins, x_of):
+    """How many pairs a bin has, above it, as many as fit beside each other."""
+    parts, free = [], -math.inf
+    for b in bins:
+        words = str(b.pairs)
+        half = text_width(words, FONT * 0.9) / 2
+        if x_of(b.distance) - half > free:
+            parts.append(text(x_of(b.distance), TOP - 13, words, ' text-anchor="middle" class="small"'))
+            free = x_of(b.distance) + half + 3
+    return ''.join(parts)
+
+
+def axes(across, up, x_of, y_of):
+    (x_step, xs), (y_step, ys) = across, up
+    parts = ['<path d="M%.1f %.1fV%.1fH%.1f" class="axis"/>' % (LEFT, TOP, BELOW, RIGHT)]
+    for x in xs:
+        words = tick_words(x, x_step)
+        at = min(x_of(x), BROAD - text_width(words, FONT) / 2)
+        parts.append('<path d="M%.1f %.1fv4" class="axis"/>' % (x_of(x), BELOW) + text(at, BELOW + 18, words, ' text-anchor="middle"'))
+    for y in ys:
+        parts.append('<path d="M%.1f %.1fH%.1f" class="rule"/>' % (LEFT, y_of(y), RIGHT)
+                     + text(LEFT - 6, y_of(y) + 4, tick_words(y, y_step), ' text-anchor="end"'))
+    parts.append(text((LEFT + RIGHT) / 2, BELOW + 37, 'distance between two wells, m', ' text-anchor="middle"'))
+    return ''.join(parts)
+
+
+def chart(m):
+    """The semivariogram as SVG."""
+    bins = finite_bins(m.bins)
+    reach = abs(m.variogram.range) if math.isfinite(m.variogram.range) else 0.0
+    far = max([b.distance for b in bins], default=0.0) * 1.06 or reach * 1.3 or 1.0
+    curve = curve_points(m.variogram, far)
+    top = max([b.semivariance for b in bins] + [v for _, v in curve], default=0.0)
+    across, up = axis(far, 5), axis(top if top > 0 else 1.0, 5)
+    x_of = lambda h: LEFT + (RIGHT - LEFT) * (h / across[1][-1])
+    y_of = lambda v: BELOW - (BELOW - TOP) * (max(v, 0.0) / up[1][-1])
+    most = max((b.pairs for b in bins), default=1)
+    dots = ''.join('<circle cx="%.1f" cy="%.1f" r="%.1f" class="%s"><title>%s</title></circle>' % (
+        x_of(b.distance), y_of(b.semivariance), 2 + 3.5 * (b.pairs / most) ** 0.5, 'bin' if b.used else 'bin unused',
+        escape('%s around %s m: %s' % (counted(b.pairs, 'pair'), plain(b.distance, 4), plain(b.semivariance, 4)))) for b in bins)
+    line = 'M' + 'L'.join('%.1f %.1f' % (x_of(h), y_of(v)) for h, v in curve) if curve else ''
+    return ('<svg xmlns="http://www.w3.org/2000/svg" class="chart" viewBox="0 0 %d %d" role="img" aria-labelledby="t-chart d-chart">'
+            '<title id="t-chart">Semivariogram</title><desc id="d-chart">%s</desc>' % (BROAD, HIGH, escape(model_words(m.variogram)))
+            + axes(across, up, x_of, y_of) + text(2, TOP - 13, 'pairs', ' class="small"') + pair_counts(bins, x_of)
+            + '<path d="%s" class="curve"/>' % line + dots + '</svg>')
+
+
+def bin_words(m):
+    """What the dots are."""
+    unused = m.variogram.fitted and not all(b.used for b in m.bins)
+    return 'Dots: averages over pairs of wells.' + (' The model was not fitted to hollow ones, whose pairs are far apart.' if unused else '')
+
+
+def model_words(variogram):
+    """The model and its numbers in a sentence."""
+    return '%s model, %s: nugget %s, sill %s, range %s m.' % (
+        variogram.model.capitalize(), 'fitted to the bins' if variogram.fitted else 'as given',
+        plain(variogram.nugget, 5), plain(variogram.sill, 5), plain(variogram.range, 5))

@@ -1,0 +1,183 @@
+"""One size of the map as SVG: frame, wells, labels, scale and north around the shared ground."""
+from dataclasses import dataclass
+from html import escape
+
+from mapper.frame import field_grid
+from mapper.ground import dot_radius
+from mapper.labels import Box, line_labels, short_name, square, text_width, well_labels
+from mapper.scales import alike, decimals, fixed, length_words, round_step, ticks
+
+FONT = 12.0
+RADIUS = 3.6  # of a well
+NARROW = 420  # a map less broad has no room for many levels
+
+
+@dataclass
+class Size:
+    """A size the map is drawn in: how broad and how high it may be at most. Its letters are as large as they are meant to be seen."""
+    name: str
+    broad: float
+    high: float
+
+
+SIZES = (Size('wide', 900, 800), Size('middle', 560, 640), Size('narrow', 360, 520), Size('paper', 620, 640))
+
+
+class Sheet:
+    """The map's frame on the sheet, and the way from the ground to it."""
+
+    def __init__(self, ground, size):
+        self.left, self.top, right = FONT * 2.1, FONT * 0.6, FONT * 0.6
+        self.below = FONT * 6.4  # numbers of the frame; scale and north; which run is drawn
+        room = size.broad - self.left - right, size.high - self.top - self.below
+        self.scale = min(room[0] / ground.width, room[1] / ground.height)
+        self.width, self.height = ground.width * self.scale, ground.height * self.scale
+        self.broad, self.high = self.left + self.width + right, self.top + self.height + self.below
+        self.frame = Box(self.left, self.top, self.left + self.width, self.top + self.height)
+
+    def place(self, x, y):
+        """From the ground to the sheet."""
+        return self.left + x * self.scale, self.top + y * self.scale
+
+
+def text(x, y, words, more=''):
+    return '<text x="%.1f" y="%.1f"%s>%s</text>' % (x, y, more, escape(words))
+
+
+def fitted(x, y, words, room):
+    """Words in smaller letters where there is no room for them."""
+    size = min(FONT, FONT * room / text_width(words, FONT))
+    return text(x, y, words, ' style="font-size:%.1fpx"' % size if size < FONT else '')
+
+
+def haloed(x, y, words, more=''):
+    """Words that stay legible on any ground."""
+    return text(x, y, words, ' class="halo"' + more)
+
+
+def tick_step(low, high, length):
+    """A step at which the frame's numbers do not run into each other."""
+    most = 8
+    while True:
+        step = round_step(high - low, most)
+        found = ticks(low, high, step)
+        broadest = max((text_width(fixed(t, decimals(step)), FONT) for t in found), default=0)
+        if most <= 1 or broadest * 1.5 < length * step / (high - low):
+            return step, found
+        most -= 1
+
+
+def frame_numbers(ground, sheet):
+    """Round coordinates on the frame, as entered: eastings below, northings at the left, turned."""
+    f = sheet.frame
+    parts = []
+    step, found = tick_step(ground.x0, ground.x1, sheet.width)
+    for tick in found:
+        x, words = sheet.place(ground.x(tick), 0)[0], fixed(tick, decimals(step))
+        parts.append('<path d="M%.1f %.1fv5" class="tick"/>' % (x, f.bottom))
+        half = text_width(words, FONT) / 2
+        parts.append(text(min(max(x, half), sheet.broad - half), f.bottom + FONT * 1.4, words, ' text-anchor="middle"'))
+    step, found = tick_step(ground.y0, ground.y1, sheet.height)
+    for tick in found:
+        y, words = sheet.place(0, ground.y(tick))[1], fixed(tick, decimals(step))
+        parts.append('<path d="M%.1f %.1fh-5" class="tick"/>' % (f.left, y))
+        half = text_width(words, FONT) / 2
+        y = min(max(y, half), f.bottom - half)
+        parts.append(text(0, 0, words, ' text-anchor="middle" transform="translate(%.1f %.1f) rotate(-90)"' % (f.left - 8, y)))
+    return ''.join(parts)
+
+
+def scale_bar(ground, sheet):
+    """A bar of round length, in two halves."""
+    metres = 2 * ground.half_width
+    step = round_step(metres, 3.2)
+    length = sheet.width * (step / metres)
+    x, y = sheet.left, sheet.frame.bottom + FONT * 2.9
+    half = '<path d="M%.1f %.1fh%.1fv5h-%.1fz" class="%s"/>'
+    return (half % (x, y, length / 2, length / 2, 'bar') + half % (x + length / 2, y, length / 2, length / 2, 'bar open')
+            + text(x + length + 7, y + FONT * 0.6, length_words(step)))
+
+
+def north_arrow(sheet):
+    """North is up."""
+    x, y = sheet.frame.right - 10, sheet.frame.bottom + FONT * 2.2
+    arrow = '<path d="M%.1f %.1fl6 19l-6 -5l-6 5z" class="north"/>' % (x, y)
+    return arrow + text(x - 11, y + 16, 'N', ' text-anchor="end" class="strong"')
+
+
+def well_texts(number, well, level):
+    """What may stand beside a well: name and level, the name, or its number in the table."""
+    name = short_name(well.name)
+    return ['%s %s' % (name, level), name, '#%d' % number]
+
+
+def dots(m, ground, sheet):
+    """Boxes around the dots of a list of nodes, which labels keep free; none where they are too many to keep free."""
+    if field_grid(m) or len(m.nodes) > 400:
+        return []
+    half = dot_radius(len(m.nodes)) * sheet.scale
+    return [square(*sheet.place(ground.x(x), ground.y(y)), half) for x, y in zip(m.nodes.x, m.nodes.y)]
+
+
+def wells(m, ground, sheet):
+    """Wells and their labels as SVG, the boxes they take, and whether some are marked by their number."""
+    places = [sheet.place(ground.x(w.x), ground.y(w.y)) for w in m.wells]
+    levels = alike([w.level for w in m.wells], 6)
+    texts = [well_texts(k, w, level) for k, (w, level) in enumerate(zip(m.wells, levels), 1)]
+    placed = lambda some: well_labels(places, some, FONT, RADIUS + 1, sheet.frame, dots(m, ground, sheet))
+    labels, taken = placed(texts)
+    if sheet.width < NARROW and any(one is None or one.text != words[0] for one, words in zip(labels, texts)):
+        labels, taken = placed([words[1:] for words in texts])  # crowded and narrow: names alone, their levels are in the table
+    parts = ['<circle cx="%.1f" cy="%.1f" r="%.1f" class="well"/>' % (x, y, RADIUS) for x, y in places]
+    parts += [haloed(one.x, one.y, one.text) for one in labels if one]
+    numbered = any(one is None or one.text == words[-1] for one, words in zip(labels, texts))
+    return ''.join(parts), taken, numbered
+
+
+def contour_labels(contours, classes, sheet, taken):
+    on_sheet = [[[sheet.place(x, y) for x, y in line] for line in bound_lines] for bound_lines in contours]
+    words = [classes.bound_words(b) for b in classes.bounds]
+    return ''.join(
+        haloed(0, FONT * 0.36, one.text, ' text-anchor="middle" transform="translate(%.1f %.1f) rotate(%.1f)"' % (one.x, one.y, one.turn))
+        for one in line_labels(on_sheet, words, FONT, sheet.frame, taken))
+
+
+def hatching(name, scale):
+    """Stripes as broad on every size of the map."""
+    return ('<pattern id="hatch-%s" width="7" height="7" patternUnits="userSpaceOnUse" patternTransform="scale(%.4f) rotate(45)">'
+            '<rect width="7" height="7" fill="#fff"/><rect width="2" height="7" fill="#858585"/></pattern>' % (name, 1 / scale))
+
+
+def ground_layers(made, size):
+    """The shared ground: levels with their lines, deviations, the hatching, and a line around it.
+
+    The hatching lies on top, so that no colour runs into it; but under a picture, which is clear where it is to show.
+    """
+    use = '<use href="#%s"%s/>'
+    failed = use % ('ground-failed', ' fill="url(#hatch-%s)"' % size.name)
+    figures = '<g class="of-level">%s%s</g><g class="of-deviation">%s</g>' % (
+        use % ('ground-level', ''), use % ('ground-lines', ''), use % ('ground-deviation', ''))
+    return (failed + figures if made.large else figures + failed) + use % ('ground-border', '')
+
+
+def drawing(m, made, size, drawn, words):
+    """The map in one size, and whether wells are marked by number; `drawn` says which run it shows, `words` what there is to see."""
+    ground = made.ground
+    sheet = Sheet(ground, size)
+    f = sheet.frame
+    well_marks, taken, numbered = wells(m, ground, sheet)
+    labels = contour_labels(made.contours, made.level_classes, sheet, taken)
+    return ''.join((
+        '<svg xmlns="http://www.w3.org/2000/svg" class="map %s" viewBox="0 0 %.1f %.1f" style="max-width:%dpx" '
+        % (size.name, sheet.broad, sheet.high, round(sheet.broad * 1.2)),
+        'role="img" preserveAspectRatio="xMinYMin" aria-labelledby="t-%s d-%s" tabindex="0">' % (size.name, size.name),
+        '<title id="t-%s">%s</title><desc id="d-%s">%s</desc>' % (size.name, escape(m.title), size.name, escape(words)),
+        '<defs>%s<clipPath id="clip-%s"><rect width="%.1f" height="%.1f"/></clipPath></defs>'
+        % (hatching(size.name, sheet.scale), size.name, ground.width, ground.height),
+        '<g transform="translate(%.1f %.1f) scale(%.5f)" clip-path="url(#clip-%s)">%s</g>'
+        % (sheet.left, sheet.top, sheet.scale, size.name, ground_layers(made, size)),
+        '<rect x="%.1f" y="%.1f" width="%.1f" height="%.1f" class="frame"/>' % (f.left, f.top, sheet.width, sheet.height),
+        frame_numbers(ground, sheet), '<g class="of-level">%s</g>' % labels, well_marks,
+        scale_bar(ground, sheet), north_arrow(sheet),
+        fitted(sheet.left, f.bottom + FONT * 5.3, 'Drawn: ' + drawn, f.right - f.left),
+        '<circle r="6" class="mark" visibility="hidden"/></svg>')), numbered

@@ -1,0 +1,59 @@
+"""What hovering tells: figures by node, ready to be shown as they stand. A failed node has its verdict and no level."""
+import json
+
+from mapper.scales import plain
+from mapper.thinning import MOST_NODES, block_verdicts
+from mapper.verdicts import verdict_words
+
+
+def share(value, whole):
+    """A place on the ground as a share of its side."""
+    return round(value / whole, 5)
+
+
+def coordinate(value):
+    return plain(value, 10)
+
+
+def figures(numbers, values, verdicts, tell):
+    """A word for each node: its figure, or ! and its verdict."""
+    return ['!%d' % v if v else tell(values[n]) for n, v in zip(numbers, verdicts)]
+
+
+def grid_table(m, made):
+    """Columns and rows, and the kept nodes' figures; in a thinned grid a failure counts for all nodes around it."""
+    g, grid, thin = made.ground, m.grid, made.thin
+    xs = [grid.x0 + c * grid.dx for c in thin.columns]
+    ys = [grid.y0 + r * grid.dy for r in thin.rows]
+    verdicts = block_verdicts(m.nodes.verdict, grid.columns, grid.rows, thin)
+    return xs, ys, thin.numbers(grid.columns), verdicts, thin.step > 1
+
+
+def list_table(m, made):
+    """Every node of a list, or every so many-th of a long one."""
+    step = max(1, -(-len(m.nodes) // MOST_NODES))
+    numbers = range(0, len(m.nodes), step)
+    return [m.nodes.x[n] for n in numbers], [m.nodes.y[n] for n in numbers], numbers, [m.nodes.verdict[n] for n in numbers], step > 1
+
+
+def table(m, made):
+    """All that the page's script needs to tell a node or a well."""
+    g = made.ground
+    xs, ys, numbers, verdicts, thin = (grid_table if made.thin else list_table)(m, made)
+    names = m.nodes.names
+    return {
+        'list': made.thin is None, 'thin': thin,
+        'x': [share(g.x(x), g.width) for x in xs], 'y': [share(g.y(y), g.height) for y in ys],
+        'east': [coordinate(x) for x in xs], 'north': [coordinate(y) for y in ys],
+        'names': [names[n] for n in numbers] if names else None,
+        'level': figures(numbers, m.nodes.level, verdicts, made.level_classes.figure),
+        'deviation': figures(numbers, made.deviation, verdicts, made.deviation_classes.figure),
+        'variance': figures(numbers, m.nodes.variance, verdicts, lambda v: plain(v, 4)),
+        'words': {v: verdict_words(v, m.columns) for v in sorted(set(verdicts)) },
+        'wells': [[share(g.x(w.x), g.width), share(g.y(w.y), g.height), w.name, plain(w.level, 9)] for w in m.wells]}
+
+
+def script_data(m, made):
+    """The table as text that can stand in a page: no < can end the script it stands in."""
+    text = json.dumps(table(m, made), ensure_ascii=False, separators=(',', ':'))
+    return text.replace('<', '\\u003c').replace('\u2028', '\\u2028').replace('\u2029', '\\u2029')

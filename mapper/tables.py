@@ -1,0 +1,139 @@
+"""The page's tables: the runs, the survey in numbers, verdicts, wells."""
+import math
+from html import escape
+
+from mapper.chart import model_words
+from mapper.frame import ends, field_grid
+from mapper.scales import alike, count, counted, length_words, plain
+from mapper.verdicts import verdict_advice, verdict_words
+
+
+AS_ENTERED = (0, 0)
+
+
+def row(cells, tag='td'):
+    return '<tr>%s</tr>' % ''.join('<%s%s>%s</%s>' % (tag, ' class="n"' if is_number else '', escape(cell), tag) for cell, is_number in cells)
+
+
+def table(heads, rows, name=''):
+    """A table in a box of its own, which a narrow screen can move sideways."""
+    return '<div class="box"><table class="%s"><thead>%s</thead><tbody>%s</tbody></table></div>' % (
+        name, row(heads, 'th'), ''.join(map(row, rows)))
+
+
+def origin_words(run):
+    """Which coordinates a run was made with."""
+    if tuple(run.origin) == AS_ENTERED:
+        return 'coordinates as entered'
+    return 'origin moved to (%s, %s)' % (plain(run.origin[0], 10), plain(run.origin[1], 10))
+
+
+def run_counts(run):
+    """How many nodes passed and failed; of a run that was turned away, by which number."""
+    if run.refused:
+        return [('refused (%d)' % run.refused, True), ('–', True)]
+    return [(count(run.passed), True), (count(run.failed), True)]
+
+
+def run_table(m):
+    """How many nodes passed and failed in each run, where there was more than one."""
+    if len(m.runs) < 2:
+        return ''
+    rows = [[(origin_words(run).capitalize() + (' (drawn)' if k == m.drawn else ''), False), *run_counts(run)] for k, run in enumerate(m.runs)]
+    return table([('Run', False), ('passed', True), ('failed', True)], rows, 'runs')
+
+
+def verdict_table(m):
+    """The verdicts of the drawn run that are not 0: how many nodes, why, and what to do."""
+    moved = tuple(m.runs[m.drawn].origin) != AS_ENTERED
+    found = sorted((v, many) for v, many in m.runs[m.drawn].verdicts.items() if v and many)
+    rows = [[(str(v), True), (count(many), True), (sentence(verdict_words(v, m.columns)), False),
+             (verdict_advice(v, m.columns, moved), False)] for v, many in found]
+    return table([('Verdict', True), ('Nodes', True), ('Why', False), ('What to do', False)], rows, 'verdicts') if rows else ''
+
+
+def sentence(words):
+    return words[:1].upper() + words[1:] + '.'
+
+
+def well_rows(m):
+    columns = [alike([of(w) for w in m.wells]) for of in (lambda w: w.x, lambda w: w.y, lambda w: w.level)]
+    return ['<tr><td class="n">#%d</td><td class="name">%s</td><td class="n">%s</td><td class="n">%s</td><td class="n">%s</td></tr>'
+            % (k, escape(w.name), x, y, level) for k, (w, x, y, level) in enumerate(zip(m.wells, *columns), 1)]
+
+
+WELL_HEAD = ('<thead><tr><th class="n">No.</th><th class="name">Well</th><th class="n">x</th><th class="n">y</th>'
+             '<th class="n">Level</th></tr></thead>')
+
+
+def well_table(m):
+    """Every well with its number, name, place and level; the number is what a crowded map shows instead of a name.
+
+    In up to three pieces, which stand side by side where there is room.
+    """
+    rows = well_rows(m)
+    length = -(-max(1, len(rows)) // min(3, -(-max(1, len(rows)) // 8)))
+    pieces = [''.join(rows[k:k + length]) for k in range(0, len(rows), length)]
+    return '<div class="wells">%s</div>' % ''.join('<table>%s<tbody>%s</tbody></table>' % (WELL_HEAD, piece) for piece in pieces)
+
+
+def well_list(m):
+    """Wells for paper, where there are too many for the table: number, name and level, in narrow columns."""
+    levels = alike([w.level for w in m.wells])
+    return '<ul class="well-list">%s</ul>' % ''.join(
+        '<li><span>#%d</span><i>%s</i><b>%s</b></li>' % (k, escape(w.name), level) for k, (w, level) in enumerate(zip(m.wells, levels), 1))
+
+
+def level_range(values):
+    """'45.1 to 49.3', one number where they agree, a dash where there is none."""
+    if not values:
+        return '–'
+    low, high = alike(ends(values), 5)
+    return low if low == high else '%s to %s' % (low, high)
+
+
+def node_words(m):
+    if m.grid is None:
+        return counted(len(m.nodes), 'node') + ', from a list'
+    if not field_grid(m):
+        step = abs(m.grid.dy if m.grid.columns == 1 else m.grid.dx)
+        return counted(len(m.nodes), 'node') + (' in a line, %s apart' % length_words(step, 4) if len(m.nodes) > 1 else '')
+    return '%s: %s columns, %s rows, %s by %s apart' % (
+        counted(len(m.nodes), 'node'), count(m.grid.columns), count(m.grid.rows),
+        length_words(abs(m.grid.dx), 4), length_words(abs(m.grid.dy), 4))
+
+
+def area_words(m):
+    """The rectangle around all nodes."""
+    if not len(m.nodes):
+        return '–'
+    (x0, x1), (y0, y1) = ends(m.nodes.x), ends(m.nodes.y)
+    broad, high = x1 - x0, y1 - y0
+    square = broad * high
+    if not square:
+        return 'none: a line of %s' % length_words(max(broad, high), 4) if broad or high else 'none: one place'
+    size = '%s km²' % plain(square / 1e6, 4) if square >= 1e5 else '%s m²' % plain(square, 4)
+    return '%s by %s, %s' % (length_words(broad, 4), length_words(high, 4), size)
+
+
+def numbers(m, made):
+    """The survey in numbers: pairs of what and how much."""
+    levels = [v for v, ok in zip(m.nodes.level, made.good) if ok]
+    deviations = [v for v, ok in zip(made.deviation, made.good) if ok and math.isfinite(v)]
+    run = m.runs[m.drawn]
+    return [
+        ('Wells', '%s, levels %s' % (count(len(m.wells)), level_range([w.level for w in m.wells]))),
+        ('Nodes', node_words(m)),
+        ('Area of the nodes', area_words(m)),
+        ('Passed the audit', '%s of %s' % (count(run.passed), count(run.passed + run.failed))),
+        ('Levels at nodes', level_range(levels)),
+        ('Standard deviation', level_range(deviations)),
+        ('Trend', m.trend),
+        ('External column', m.external or 'none'),
+        ('Model', model_words(m.variogram).rstrip('.')),
+        ('Regularization', plain(m.regularization)),
+        ('Tolerance', plain(m.tolerance))]
+
+
+def number_list(m, made):
+    return '<dl>%s</dl>' % ''.join('<div><dt>%s</dt><dd>%s</dd></div>' % (escape(a), escape(b)) for a, b in numbers(m, made))

@@ -1,0 +1,148 @@
+"""Round steps, ticks, numbers, classes, and the chart's axes."""
+import math
+import unittest
+
+from mapper.chart import axis, bin_words, chart, curve_points
+from mapper.classes import classes
+from mapper.colours import LEVELS
+from mapper.model import Run, Variogram
+from mapper.scales import alike, counted, decimals, fixed, length_words, plain, round_step, ticks
+from mapper.tables import area_words, level_range, node_words, origin_words
+from mapper.tests import samples
+from mapper.verdicts import verdict_advice, verdict_words
+
+
+class Steps(unittest.TestCase):
+    def test_round_steps(self):
+        for span, most, step in ((7.3, 9, 1.0), (10, 10, 1.0), (10.1, 10, 2.0), (0.37, 9, 0.05), (2000, 8, 500.0), (1e300, 5, 2e299), (1, 3, 0.5)):
+            self.assertEqual(round_step(span, most), step)
+
+    def test_steps_are_round_and_the_smallest_that_do(self):
+        for k in range(1, 2000):
+            span = k * 0.37
+            step = round_step(span, 9)
+            self.assertIn(('%e' % step)[0], '125')
+            self.assertEqual(float(('%e' % step)[1:8]), 0)
+            self.assertLessEqual(span / step, 9 * (1 + 1e-9))
+            self.assertGreater(span / (step / 2.5), 9 * (1 - 1e-9))
+
+    def test_no_span(self):
+        for span in (0.0, -1.0, math.inf, math.nan):
+            self.assertEqual(round_step(span, 9), 1.0)
+
+    def test_ticks(self):
+        self.assertEqual(ticks(0.05, 0.36, 0.1), [0.1, 0.2, 0.3])
+        self.assertEqual(ticks(-1, 1, 0.5), [-1, -0.5, 0, 0.5, 1])
+        self.assertEqual(ticks(3425001, 3425999, 500), [3425500])
+        self.assertEqual(ticks(1e300, 1e300 * (1 + 1e-15), 1.0), [])
+
+
+class Numbers(unittest.TestCase):
+    def test_seven_figures_in_groups(self):
+        self.assertEqual(fixed(3425000, 0), '3\u202f425\u202f000')
+        self.assertEqual(fixed(9999, 0), '9999')
+        self.assertEqual(fixed(12345.678, 1), '12\u202f345.7')
+
+    def test_signs(self):
+        self.assertEqual(fixed(-1.5, 1), '\u22121.5')
+        self.assertEqual(fixed(-0.001, 1), '0.0')
+
+    def test_plain(self):
+        self.assertEqual([plain(v) for v in (47.30, 0.0, 1e-10, 1e300, 100.0, -2.5)], ['47.3', '0', '1e\u221210', '1e300', '100', '\u22122.5'])
+        self.assertEqual(plain(3425000.25, 10), '3\u202f425\u202f000.25')
+
+    def test_no_number_is_said(self):
+        self.assertEqual(fixed(math.nan, 2), 'not a number')
+        self.assertEqual(fixed(-math.inf, 2), '\u2212∞')
+
+    def test_alike(self):
+        self.assertEqual(alike([46.6, 47.31, 48.0]), ['46.60', '47.31', '48.00'])
+
+    def test_words(self):
+        self.assertEqual(counted(1, 'node'), '1\u00a0node')
+        self.assertEqual(counted(100000, 'node'), '100,000\u00a0nodes')
+        self.assertEqual([length_words(v) for v in (500, 1000, 2500)], ['500\u00a0m', '1\u00a0km', '2.5\u00a0km'])
+        self.assertEqual([decimals(v) for v in (1, 0.5, 0.1, 0.05, 20)], [0, 1, 1, 2, 0])
+
+
+class Tables(unittest.TestCase):
+    def test_ranges(self):
+        self.assertEqual(level_range([45.1, 49.25, 47.0]), '45.10 to 49.25')
+        self.assertEqual(level_range([45.1, 45.1]), '45.1')
+        self.assertEqual(level_range([]), '–')
+
+    def test_origins(self):
+        self.assertEqual(origin_words(Run((0.0, 0.0), {})), 'coordinates as entered')
+        self.assertEqual(origin_words(Run((3425000.0, 5812000.0), {})), 'origin moved to (3\u202f425\u202f000, 5\u202f812\u202f000)')
+        self.assertEqual(origin_words(Run((0.0, 5812000.0), {})), 'origin moved to (0, 5\u202f812\u202f000)')
+
+    def test_nodes_and_area_in_words(self):
+        self.assertIn('40 columns, 30 rows, 51.28\u00a0m by 51.72\u00a0m apart', node_words(samples.grid_map()))
+        self.assertIn('12\u00a0nodes in a line, 181.8\u00a0m apart', node_words(samples.grid_map(12, 1)))
+        self.assertEqual(node_words(samples.grid_map(1, 1)), '1\u00a0node')
+        self.assertEqual(area_words(samples.grid_map()), '2\u00a0km by 1.5\u00a0km, 3 km²')
+        self.assertEqual(area_words(samples.grid_map(12, 1)), 'none: a line of 2\u00a0km')
+
+
+class Classed(unittest.TestCase):
+    def test_round_bounds(self):
+        found = classes(44.35, 49.04, LEVELS)
+        self.assertEqual(found.bounds, [44.5, 45.0, 45.5, 46.0, 46.5, 47.0, 47.5, 48.0, 48.5, 49.0])
+        self.assertEqual([found.of(v) for v in (44.4, 44.5, 48.999, 49.0)], [0, 1, 9, 10])
+        self.assertEqual([found.words(k) for k in (0, 1, 10)], ['below 44.5', '44.5 to 45.0', '49.0 and above'])
+        self.assertEqual(found.figure(47.43219), '47.432')
+
+    def test_a_level_at_the_least_bound_leaves_no_class_empty(self):
+        found = classes(45.0, 46.0, LEVELS)
+        self.assertEqual(found.bounds[0], 45.1)
+
+
+class Chart(unittest.TestCase):
+    def test_axes_start_at_0_and_hold_everything(self):
+        self.assertEqual(axis(1.9, 5), (0.5, [0.0, 0.5, 1.0, 1.5, 2.0]))
+        self.assertEqual(axis(2.0, 5)[1][-1], 2.0)
+
+    def test_the_curve_starts_at_the_nugget_and_ends_at_the_sill(self):
+        points = curve_points(Variogram('spherical', 0.2, 1.9, 500.0, True), 1000.0)
+        self.assertAlmostEqual(points[0][1], 0.2, places=2)
+        self.assertEqual(points[-1], (1000.0, 1.9))
+
+    def test_a_dot_for_every_bin(self):
+        m = samples.grid_map(3, 3)
+        self.assertEqual(chart(m).count('class="bin"'), len(m.bins))
+        self.assertIn('class="curve"', chart(m))
+        self.assertNotIn('hollow', bin_words(m))
+
+    def test_bins_that_were_not_fitted_are_hollow(self):
+        m = samples.grid_map(3, 3)
+        m.bins[-1].used = m.bins[-2].used = False
+        self.assertEqual(chart(m).count('class="bin unused"'), 2)
+        self.assertIn('hollow', bin_words(m))
+
+
+class Verdicts(unittest.TestCase):
+    COLUMNS = ['1', 'x', 'y', 'surface']
+
+    def test_words(self):
+        self.assertEqual(verdict_words(0, self.COLUMNS), 'passed the audit')
+        self.assertEqual(verdict_words(3, self.COLUMNS), 'the weights do not carry column y to the node within the tolerance')
+        self.assertIn('column surface', verdict_words(4, self.COLUMNS))
+        self.assertIn('rounding', verdict_words(5, self.COLUMNS))
+        self.assertIn('means nothing', verdict_words(255, self.COLUMNS))
+        self.assertIn('6', verdict_words(6, self.COLUMNS))
+
+    def test_every_failure_has_something_to_do(self):
+        self.assertEqual(verdict_advice(0, self.COLUMNS), '')
+        said = {verdict_advice(v, self.COLUMNS) for v in (3, 4, 5, 6, 255)}
+        self.assertEqual(len(said), 5)
+        self.assertNotIn('', said)
+
+    def test_the_origin_is_moved_once(self):
+        for verdict in (1, 2, 3):
+            self.assertIn('round corner', verdict_advice(verdict, self.COLUMNS))
+            self.assertNotIn('round corner', verdict_advice(verdict, self.COLUMNS, moved=True))
+        self.assertNotIn('round corner', verdict_advice(1, ['1']))
+
+
+if __name__ == '__main__':
+    unittest.main()
