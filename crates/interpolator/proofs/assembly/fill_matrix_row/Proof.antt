@@ -12,7 +12,7 @@ use Rattle.interpolator.proofs.assembly.fill_matrix_row.Tie as tie
 mirror-row-requires : tie.Need-mirror-row-requires
 mirror-row-requires c κs = search needs
 
--- fill_from_diagonal(coords, options, drift, n, p, i, work);
+-- fill_from_diagonal(interpolator, values, points, d, size, i, work);
 fill-from-diagonal-requires : tie.Need-fill-from-diagonal-requires
 fill-from-diagonal-requires c κs = search needs
 
@@ -20,7 +20,7 @@ fill-from-diagonal-requires c κs = search needs
 identity-row-requires : tie.Need-identity-row-requires
 identity-row-requires c κs = search needs
 
--- fn fill_matrix_row(
+-- fn fill_matrix_row(..)
 same-length : tie.Need-same-length
 same-length c = search needs
 

@@ -23,7 +23,7 @@ fill-from-diagonal-requires c κs = search needs
 identity-row-requires : tie.Need-identity-row-requires
 identity-row-requires c κs = search needs
 
--- fn fill_matrix_row(
+-- fn fill_matrix_row(..)
 same-length : tie.Need-same-length
 same-length c = search needs
 
