@@ -108,13 +108,18 @@ class Parts:
         audit = self.audit() + self.refusals() if side == "port" else 0
         return self.whole(side) - self.assembly(side) - self.elimination(side) - audit
 
+    def evaluated(self, side):
+        """How many entries between two wells are evaluated: the port takes those before the diagonal from the rows above."""
+        entries = self.n * (self.n - 1)
+        return entries // 2 if side == "port" else entries
+
     def root(self, side):
         """One root, in ns: wells so close that the variogram takes no time, less wells in one place, whose roots are of 0."""
-        return 1000 * (self.kind("near", 0, side)[0] - self.kind("one-place", 0, side)[0]) / (self.n * (self.n - 1))
+        return 1000 * (self.kind("near", 0, side)[0] - self.kind("one-place", 0, side)[0]) / self.evaluated(side)
 
     def entry(self, side):
         """One entry of the matrix between two wells, in ns: the distance with its root, and the variogram."""
-        return 1000 * self.assembly(side) / (self.n * (self.n - 1))
+        return 1000 * self.assembly(side) / self.evaluated(side)
 
 
 def parts(figures, shown=time):

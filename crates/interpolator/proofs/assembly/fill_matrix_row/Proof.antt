@@ -3,7 +3,7 @@ use mathlib.Core.Path.{_∙_}
 use Rattle.elimination.proofs.RowParts.{row-parts}
 use Rattle.interpolation.specs.Assembly.{entry}
 use Rattle.interpolator.specs.Outcome.{known}
-use Rattle.interpolator.proofs.Entries.{entry-back}
+use Rattle.interpolation.proofs.Matrix.{symmetric}
 use borrow.Author.Needs.{needs}
 use Rattle.interpolator.proofs.assembly.fill_matrix_row.Statement.{statement}
 use Rattle.interpolator.proofs.assembly.fill_matrix_row.Tie as tie
@@ -33,7 +33,7 @@ returns c =
     let a = s .args in
     let q = known (a .interpolator) (a .values .now) (a .points .now) (a .d) in
     row-parts (a .size) (entry q) (a .i) (a .work .now) _ _ _ (s .pre .0)
-    (λ j b. s .pre .5 j b ∙ entry-back q j (a .i))
+    (λ j b. s .pre .5 j b ∙ symmetric q j (a .i))
     (first .mirror-row .ensures)
     (second .fill-from-diagonal .ensures)
     (third .identity-row .ensures)
