@@ -111,7 +111,8 @@ joined-back n options coords f i j = by (ltb i n) (ltb j n)
     gamma = between options coords
 
     by : (p q : Bool)
-        → cond p (cond q (gamma i j) (f i (j - n))) (cond q (f j (i - n)) zeroFloat) ≡ cond q (cond p (gamma j i) (f j (i - n))) (cond p (f i (j - n)) zeroFloat)
+        → cond p (cond q (gamma i j) (f i (j - n))) (cond q (f j (i - n)) zeroFloat)
+        ≡ cond q (cond p (gamma j i) (f j (i - n))) (cond p (f i (j - n)) zeroFloat)
     by true true = between-back options coords i j
     by true false = refl
     by false true = refl
