@@ -101,20 +101,26 @@ between-back options coords i j =
       | no n ↦ rw (ne-eqb i j n, ne-eqb j i (λ e. n (sym e)), distance2d-back (xOf coords i) (yOf coords i) (xOf coords j) (yOf coords j))
     ]
 
-pub symmetric : (s : Survey) (i j : ℕ) → entry s i j ≡ entry s j i
-unfolding entry joined
-symmetric s i j = by (ltb i (wells s)) (ltb j (wells s))
+-- whatever F is
+pub joined-back : (n : ℕ) (options : UniversalKrigingOptions) (coords : List Float) (f : ℕ → ℕ → Float) (i j : ℕ)
+    → joined n (between options coords) f i j ≡ joined n (between options coords) f j i
+unfolding joined
+joined-back n options coords f i j = by (ltb i n) (ltb j n)
   where
     gamma : ℕ → ℕ → Float
-    gamma = between (s .options) (s .coords)
+    gamma = between options coords
 
     by : (p q : Bool)
-        → cond p (cond q (gamma i j) (drift s i (j - wells s))) (cond q (drift s j (i - wells s)) zeroFloat)
-        ≡ cond q (cond p (gamma j i) (drift s j (i - wells s))) (cond p (drift s i (j - wells s)) zeroFloat)
-    by true true = between-back (s .options) (s .coords) i j
+        → cond p (cond q (gamma i j) (f i (j - n))) (cond q (f j (i - n)) zeroFloat)
+        ≡ cond q (cond p (gamma j i) (f j (i - n))) (cond p (f i (j - n)) zeroFloat)
+    by true true = between-back options coords i j
     by true false = refl
     by false true = refl
     by false false = refl
+
+pub symmetric : (s : Survey) (i j : ℕ) → entry s i j ≡ entry s j i
+unfolding entry
+symmetric s i j = joined-back (wells s) (s .options) (s .coords) (drift s) i j
 
 pub system-symmetric : (s : Survey) (u v : Index) → Within s u → Within s v → coefficientOf s u v ≡ coefficientOf s v u
 system-symmetric s u v hu hv = sym (entry-is s u v hu hv) ∙ symmetric s (rowOf s u) (rowOf s v) ∙ entry-is s v u hv hu

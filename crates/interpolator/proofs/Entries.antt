@@ -1,8 +1,7 @@
 -- The entries of the interpolator's matrix by the part that they stand in. Assumes nothing.
 use Prim.Native.Nat.{ℕ, _+_, _*_, _-_, _<_, _≤_}
-use native.Mathlib.Decide.{decLt}
 use native.Mathlib.Omega.{arith}
-use mathlib.Core.Path.{_≡_, refl, ap, sym, _∙_}
+use mathlib.Core.Path.{_≡_, refl, _∙_}
 use mathlib.Core.Logic.{_≢_}
 use mathlib.Core.List.{List}
 use borrow.Author.Tests.{lt-ltb, le-ltb}
@@ -11,7 +10,6 @@ use lib.ListN.{getD}
 use Rattle.ieee.specs.Floats.{zeroFloat, oneFloat}
 use Rattle.variogram.specs.Model.{semivariance}
 use Rattle.variogram.specs.Distance.{axisFrom, distance}
-use Rattle.variogram.proofs.Distance.{distance-back}
 use Rattle.interpolation.specs.declared.KrigingType.{KrigingType}
 use Rattle.interpolation.specs.declared.KrigingType.the-variants.{Ordinary, Universal}
 use Rattle.interpolator.specs.declared.KrigingInterpolator.{KrigingInterpolator}
@@ -72,26 +70,6 @@ module _ (q : Query) (i j : ℕ) where
   pub lower-right : wells q ≤ j → wells q ≤ i → zeroFloat ≡ entry q i j
   unfolding entry
   lower-right h k = rw (le-ltb j (wells q) h, le-ltb i (wells q) k)
-
--- ---- the matrix is its own transpose
-pub entry-back : (q : Query) (i j : ℕ) → entry q i j ≡ entry q j i
-entry-back q i j =
-    let xs = q .points in
-    elim (decLt i (wells q)) [
-      | yes a ↦
-          elim (decLt j (wells q)) [
-            | yes b ↦
-                sym (left q i j b (of-points q xs j i a refl))
-                ∙ ap (λ (x : Float). sub binary64 (q .variogram .sill) (semivariance (q .variogram) x)) (distance-back xs i xs j (q .dimension))
-                ∙ left q j i a (of-points q xs i j b refl)
-            | no b ↦ sym (upper-right q i j (omega arith) a refl) ∙ left q j i a (of-trend q xs i j (omega arith) refl)
-          ]
-      | no a ↦
-          elim (decLt j (wells q)) [
-            | yes b ↦ sym (left q i j b (of-trend q xs j i (omega arith) refl)) ∙ upper-right q j i (omega arith) b refl
-            | no b ↦ sym (lower-right q i j (omega arith) (omega arith)) ∙ lower-right q j i (omega arith) (omega arith)
-          ]
-    ]
 
 -- ---- neither reads the targets
 module _ (interpolator : KrigingInterpolator) (values points targets : List Float) (d : ℕ) where

@@ -1,8 +1,6 @@
--- The entries of a fit's matrix by the part that they stand in: between wells, F, its transpose, zeros. Assumes nothing.
+-- The entries of a fit's matrix by the part that they stand in: between wells, F, its transpose, zeros; and the entry across. Assumes nothing.
 use Prim.Native.Nat.{ℕ, _+_, _*_, _-_, _<_, _≤_}
-use native.Mathlib.Decide.{decLt, ℕ-discrete}
-use native.Mathlib.Omega.{arith}
-use mathlib.Core.Path.{_≡_, ap, sym, _∙_}
+use mathlib.Core.Path.{_≡_}
 use mathlib.Core.Logic.{_≢_}
 use mathlib.Core.List.{List}
 use borrow.Author.Tests.{lt-ltb, le-ltb, eq-eqb, ne-eqb}
@@ -11,10 +9,10 @@ use lib.ListN.{getD}
 use Rattle.ieee.specs.Floats.{zeroFloat}
 use Rattle.variogram.specs.Model.{semivariance}
 use Rattle.variogram.specs.Distance.{distance2d}
-use Rattle.variogram.proofs.Distance.{distance2d-back}
 use Rattle.survey.specs.declared.UniversalKrigingOptions.{UniversalKrigingOptions}
 use Rattle.survey.specs.Survey.{xOf, yOf}
 use Rattle.fit.specs.Assembly.{between, joined}
+use Rattle.fit.proofs.System.{joined-back}
 
 -- the matrix of n wells by its entries, where F has p columns and lies row after row
 abbrev pub matrix : List Float → UniversalKrigingOptions → List Float → ℕ → ℕ → ℕ → ℕ → Float
@@ -47,32 +45,7 @@ module _ (n : ℕ) (gamma f : ℕ → ℕ → Float) (i j : ℕ) where
   unfolding joined
   lower-right hi hj = rw (le-ltb i n hi, le-ltb j n hj)
 
--- ---- the matrix is its own transpose
-between-back : (options : UniversalKrigingOptions) (coords : List Float) (i j : ℕ) → between options coords i j ≡ between options coords j i
-between-back options coords i j =
-    elim (ℕ-discrete i j) [
-      | yes e ↦ rw e
-      | no n ↦
-          sym (between-others options coords i j n)
-          ∙ ap (semivariance (options .variogram)) (distance2d-back (xOf coords i) (yOf coords i) (xOf coords j) (yOf coords j))
-          ∙ between-others options coords j i (λ e. n (sym e))
-    ]
-
-joined-back : (n : ℕ) (gamma f : ℕ → ℕ → Float) → ((i j : ℕ) → gamma i j ≡ gamma j i) → (i j : ℕ) → joined n gamma f i j ≡ joined n gamma f j i
-joined-back n gamma f back i j =
-    elim (decLt i n) [
-      | yes a ↦
-          elim (decLt j n) [
-            | yes b ↦ sym (upper-left n gamma f i j a b) ∙ back i j ∙ upper-left n gamma f j i b a
-            | no b ↦ sym (upper-right n gamma f i j a (omega arith)) ∙ lower-left n gamma f j i (omega arith) a
-          ]
-      | no a ↦
-          elim (decLt j n) [
-            | yes b ↦ sym (lower-left n gamma f i j (omega arith) b) ∙ upper-right n gamma f j i b (omega arith)
-            | no b ↦ sym (lower-right n gamma f i j (omega arith) (omega arith)) ∙ lower-right n gamma f j i (omega arith) (omega arith)
-          ]
-    ]
-
+-- the entry across the diagonal is the same: the matrix is its own transpose
 pub matrix-back : (coords : List Float) (options : UniversalKrigingOptions) (drift : List Float) (n p i j : ℕ)
     → matrix coords options drift n p i j ≡ matrix coords options drift n p j i
-matrix-back coords options drift n p i j = joined-back n (between options coords) _ (between-back options coords) i j
+matrix-back coords options drift n p i j = joined-back n options coords (λ i j. getD drift (i * p + j) nan) i j

@@ -8,7 +8,7 @@ use Rattle.elimination.proofs.NoRow.{has-row, mirrored-is, identified-is}
 use Rattle.elimination.proofs.RowParts.{row-parts}
 use Rattle.interpolation.specs.Assembly.{entry}
 use Rattle.interpolator.specs.Outcome.{known}
-use Rattle.interpolator.proofs.Entries.{entry-back}
+use Rattle.interpolation.proofs.Matrix.{symmetric}
 use borrow.Author.Needs.{needs}
 use Rattle.interpolator.proofs.assembly.fill_matrix_row.Statement.{statement}
 use Rattle.interpolator.proofs.assembly.fill_matrix_row.Tie as tie
@@ -17,7 +17,7 @@ use Rattle.interpolator.proofs.assembly.fill_matrix_row.Tie as tie
 mirror-row-requires : tie.Need-mirror-row-requires
 mirror-row-requires c κs = search needs
 
--- fill_from_diagonal(coords, options, drift, n, p, i, work);
+-- fill_from_diagonal(interpolator, values, points, d, size, i, work);
 fill-from-diagonal-requires : tie.Need-fill-from-diagonal-requires
 fill-from-diagonal-requires c κs =
     let f = c .before .before .before in
@@ -29,7 +29,7 @@ fill-from-diagonal-requires c κs =
 identity-row-requires : tie.Need-identity-row-requires
 identity-row-requires c κs = search needs
 
--- fn fill_matrix_row(
+-- fn fill_matrix_row(..)
 same-length : tie.Need-same-length
 same-length c = search needs
 
@@ -41,9 +41,10 @@ returns c =
     let s = first .before .before .before .before .before in
     let a = s .args in
     let q = known (a .interpolator) (a .values .now) (a .points .now) (a .d) in
-    let whole : 2 * (a .size) * (a .size) ≤ length (second .fill-from-diagonal .last .1 .1 .1 .1 .1 .1 .0) = omega (arith, s .pre .4, first .mirror-row .kept .0, second .fill-from-diagonal .kept .1 .1 .1 .1 .1 .1 .0) in
+    let whole : 2 * (a .size) * (a .size) ≤ length (second .fill-from-diagonal .last .1 .1 .1 .1 .1 .1 .0) = omega
+        (arith, s .pre .4, first .mirror-row .kept .0, second .fill-from-diagonal .kept .1 .1 .1 .1 .1 .1 .0) in
     row-parts (a .size) (entry q) (a .i) (a .work .now) _ _ _ (s .pre .0)
-    (λ j b. s .pre .5 j b ∙ entry-back q j (a .i))
+    (λ j b. s .pre .5 j b ∙ symmetric q j (a .i))
     (first .mirror-row .ensures ∙ mirrored-is (a .size) (a .i) (a .work .now) (has-row (length (a .work .now)) (a .size) (a .i) (s .pre .4) (s .pre .0)))
     (second .fill-from-diagonal .ensures)
     (third .identity-row .ensures ∙ identified-is (a .size) (a .i) _ (has-row _ (a .size) (a .i) whole (s .pre .0)))

@@ -78,7 +78,7 @@ loop-again c =
       next-from row (a .i) (l .j) e (a .work .now) (l .work) (c .matrix-entry .result) (l .inv .0) (c .matrix-entry .ensures) (l .inv .5),
     )
 
--- fn fill_from_diagonal(
+-- fn fill_from_diagonal(..)
 same-length : tie.Need-same-length Inv-loop μ-loop
 same-length c = search needs
 

@@ -60,7 +60,7 @@ returns-2 c =
     let s = past (t .before) in
     upper-right (s .args .n) (gamma-of s) (drift-of s) (s .args .i) (s .args .j) (t .if2 .taken) (t .before .if1 .left)
 
--- fn matrix_entry(
+-- 0.0
 returns-3 : tie.Need-returns-3
 returns-3 c =
     let s = past (c .before) in
