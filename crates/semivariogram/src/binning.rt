@@ -59,24 +59,14 @@ fn add_later(
         × Reached (pairs (length (now values))) (pairsFrom i (length (now values) - i)) at
         × Left (samplesOf (now points) (now values) d «n_bins») (pairsFrom i (length (now values) - i)) (now «bin_sums») (now «bin_counts») ⌝ }
     ensures { λ _. ⌜ Reached (pairs (length (now (values .entry)))) (pairsFrom (suc i) (length (now (values .entry)) - suc i))
-            (at + (length (now (values .entry)) - suc i))
+        (at + (length (now (values .entry)) - suc i))
         × Left (samplesOf (now (points .entry)) (now (values .entry)) d «n_bins»)
         (pairsFrom (suc i) (length (now (values .entry)) - suc i)) (now («bin_sums» .exit)) (now («bin_counts» .exit)) ⌝ }
 {
     let mut place = at;
     for j in i + 1..values.len() {
         let dist_sq = squares[place];
-        let bin = pair_bin(
-            points,
-            i,
-            j,
-            d,
-            dist_sq,
-            bin_width,
-            n_bins,
-            lows,
-            highs,
-        );
+        let bin = pair_bin(points, i, j, d, dist_sq, bin_width, n_bins, lows, highs);
         let diff = values[i] - values[j];
         let semivar = 0.5 * (diff * diff);
         bin_sums[bin] = bin_sums[bin] + semivar;

@@ -13,6 +13,7 @@ ghost use Rattle.semivariogram.specs.Parts.{binAt, IsLow, IsHigh, Bounds
 
 // 1 + 2^-49 and 1 - 2^-49: what the roundings between an edge and its square, and between a square and its bin, come to is less.
 const ABOVE: f64 = 1.0000000000000018;
+
 const BELOW: f64 = 0.9999999999999982;
 
 // A squared distance from which on no pair is in a bin before b: one a little above the square of the edge before b, where its own bin is

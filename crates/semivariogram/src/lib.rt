@@ -113,15 +113,7 @@ impl SemivariogramCalculator {
         if let Judgement::Refused(refusal) = judgement {
             return Semivariogram::Refused(refusal);
         }
-        let kept = kept_bins(
-            points,
-            values,
-            d,
-            n_bins,
-            distances,
-            semivariances,
-            counts,
-        );
+        let kept = kept_bins(points, values, d, n_bins, distances, semivariances, counts);
         Semivariogram::Bins(kept)
     }
 }

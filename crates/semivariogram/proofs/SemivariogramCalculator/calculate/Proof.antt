@@ -1,62 +1,99 @@
+-- `SemivariogramCalculator::calculate` meets its contract: it is refused as the definition says, and else has its bins. Assumes nothing.
+use mathlib.Core.Path.{_≡_, ap, sym, _∙_}
+use Rattle.error.specs.Numbers.{judged}
+use Rattle.survey.specs.declared.Limits.{Limits}
+use Rattle.survey.specs.Limits.{base}
+use Rattle.bins.specs.Call.{Samples, Areas, samplesOf, areasOf}
+use Rattle.bins.specs.Refusals.{refusal}
+use Rattle.semivariogram.proofs.Whole.{refused-is, done-is, has-ends}
 use borrow.Author.Needs.{needs}
 use Rattle.semivariogram.proofs.SemivariogramCalculator.calculate.Statement.{statement}
 use Rattle.semivariogram.proofs.SemivariogramCalculator.calculate.Tie as tie
-use Rattle.semivariogram.proofs.SemivariogramCalculator.calculate.Reads as reads
-use Rattle.semivariogram.proofs.SemivariogramCalculator.calculate.Lts as lts
-use Rattle.semivariogram.proofs.kept_bins.Reads as kept-bins-reads
-use Rattle.semivariogram.proofs.refusals.calculate_refusal.Reads as calculate-refusal-reads
-use Rattle.survey.proofs.Limits.base.Reads as base-reads
 
--- src/lib.rt:102:13
+-- What a call takes and is lent.
+abbrev taken : tie.Start → Samples
+taken c = let a = c .args in samplesOf (a .points .now) (a .values .now) (a .d) (a .n-bins)
+
+abbrev lent : tie.Start → Areas
+lent c = let a = c .args in areasOf (a .distances .now) (a .semivariances .now) (a .counts .now)
+
+-- The states that the needs look back to: a name takes a later state back to its own.
+abbrev known-lists : tie.After-slice-known3 → tie.After-shared-slice-known2
+known-lists c = c .before .before .before
+
+abbrev at-base : tie.After-calculate-refusal → tie.After-base
+at-base c = let d = c .before .before in d .before .before
+
+abbrev at-entry : tie.After-calculate-refusal → tie.Start
+at-entry c = known-lists (at-base c .before) .before .before
+
+abbrev at-refusal : tie.After-enum-told → tie.After-calculate-refusal
+at-refusal c = c .before .before
+
+abbrev at-kept : tie.After-slice-known6 → tie.After-kept-bins
+at-kept c = let d = c .before .before .before in d .before .before .before
+
+-- the judgement is that of the base
+judged-is : (c : tie.After-calculate-refusal) → judged (c .calculate-refusal .result) ≡ refusal base (taken (at-entry c)) (lent (at-entry c))
+judged-is c =
+    let s = at-entry c in
+    c .calculate-refusal .ensures ∙ ap (λ (l : Limits). refusal l (taken s) (lent s)) (at-base c .base .ensures)
+
+no-refusal : (c : tie.After-enum-told) → let s = at-entry (at-refusal c) in refusal base (taken s) (lent s) ≡ 0
+no-refusal c = sym (judged-is (at-refusal c)) ∙ ap judged (c .enum-told .given .1)
+
+-- let limits = Limits::base();
 base-requires : tie.Need-base-requires
 base-requires c κs = search needs
 
--- src/lib.rt:103:13
+-- let judgement = calculate_refusal(
 calculate-refusal-requires : tie.Need-calculate-refusal-requires
 calculate-refusal-requires c κs = search needs
 
--- src/lib.rt:113:35
+-- if let Judgement::Refused(refusal) = judgement
 enum-known-judgement : tie.Need-enum-known-judgement
 enum-known-judgement c = search needs
 
--- src/lib.rt:114:13
+-- return Semivariogram::Refused(refusal);
 same-length : tie.Need-same-length
 same-length c = search needs
 
--- src/lib.rt:114:13
 same-length-2 : tie.Need-same-length-2
 same-length-2 c = search needs
 
--- src/lib.rt:114:13
 same-length-3 : tie.Need-same-length-3
 same-length-3 c = search needs
 
--- src/lib.rt:114:13
 returns : tie.Need-returns
-returns c = ?
+returns c =
+    let g = c .before .judgement .given in
+    let h = c .before .before .before in
+    let s = at-entry h in
+    has-ends base (taken s) (lent s) _ (refused-is base (taken s) (lent s) (g .0 .0) (sym (ap judged (g .1)) ∙ judged-is h))
 
 enum-told : tie.Need-enum-told
 enum-told c = search needs
 
--- src/lib.rt:116:13
+-- let kept = kept_bins(
 kept-bins-requires : tie.Need-kept-bins-requires
-kept-bins-requires c κs = ?
+kept-bins-requires c κs = no-refusal (c .before .before .before)
 
--- src/lib.rt:86:5
+-- at the end
 same-length-4 : tie.Need-same-length-4
 same-length-4 c = search needs
 
--- src/lib.rt:86:5
 same-length-5 : tie.Need-same-length-5
 same-length-5 c = search needs
 
--- src/lib.rt:86:5
 same-length-6 : tie.Need-same-length-6
 same-length-6 c = search needs
 
--- src/lib.rt:86:5
 returns-2 : tie.Need-returns-2
-returns-2 c = ?
+returns-2 c =
+    let w = at-kept c in
+    let t = w .before .before .before .before in
+    let s = at-entry (at-refusal t) in
+    has-ends base (taken s) (lent s) _ (done-is base (taken s) (lent s) _ _ (no-refusal t) (w .kept-bins .ensures .0) (w .kept-bins .ensures .1))
 
 pub calculate-spec : {M : Type 1} → statement M
 calculate-spec =
