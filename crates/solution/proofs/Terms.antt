@@ -56,9 +56,9 @@ pub none-from : (f : ℕ → Float) (k n : ℕ) → f k ≡ nan → k < n → ru
 unfolding addEach add
 none-from f k zero e h = absurd (not-suc-le-zero h)
 none-from f k (suc n) e h = elim (decLt k n) [
-  | yes b ↦ rw (none-from f k n e b)
-  | no b ↦ let same : n ≡ k = omega arith in rw (same, e) (no-number (runningSum k f))
-]
+      | yes b ↦ rw (none-from f k n e b)
+      | no b ↦ let same : n ≡ k = omega arith in rw (same, e) (no-number (runningSum k f))
+    ]
 
 -- and so is a sum of products over a list that ends before it does
 pub past-first : (xs ys : List Float) (n : ℕ) → length xs < n → runningSum n (λ i. mul binary64 (getD xs i nan) (getD ys i nan)) ≡ nan

@@ -139,7 +139,8 @@ returns c =
     let a = g .before .args in
     let l = g .loop in
     let all : l .j ≡ a .size = omega arith in
-    let whole = whole-row (a .size) (a .work .now) (a .b .now) in (
+    let whole = whole-row (a .size) (a .work .now) (a .b .now) in
+    (
       whole (a .i) (l .j) (l .first) all (l .inv .1),
       (
         whole (a .i + 1) (l .j) (l .second) all (l .inv .2),
