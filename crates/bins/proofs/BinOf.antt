@@ -6,7 +6,7 @@ use mathlib.Core.Path.{_≡_, refl, ap, _∙_}
 use mathlib.Core.Logic.{_⊎_, inl, inr}
 use mathlib.Core.Bool.{Bool, true, false, cond}
 use lib.Dec.{T, eqb}
-use lib.Ieee.{Float, nan, inf, fin, binary64, fits, up, down, round, div, ofInt, toUnsigned}
+use lib.Ieee.{Float, nan, inf, binary64, fits, up, down, round, div, ofInt, toUnsigned}
 use lib.Ieee.Fits.{div-fits}
 use lib.Ieee.Scale.{finite}
 use Rattle.ieee.specs.Floats.{floorOf}

@@ -29,7 +29,9 @@ not-below-infinity x (number m e) = refl
 not-below-zero : (y : Float) (e : ℤ) → Signed false y → lt y (fin false 0 e) ≡ false
 unfolding lt
 not-below-zero y e infinite = refl
-not-below-zero y e (number n d) = le-ltb (n * up d * down e) (0 * up e * down d) (omega (arith, zero-mul (up e), zero-mul (down d), ap (λ (k : ℕ). k * down d) (zero-mul (up e))))
+not-below-zero y e (number n d) =
+    let z : 0 * up e * down d ≡ 0 = ap (λ (k : ℕ). k * down d) (zero-mul (up e)) ∙ zero-mul (down d) in
+    le-ltb (n * up d * down e) (0 * up e * down d) (omega arith)
 
 pub none-below-zero : (m : ℕ) (e d : ℤ) → lt (fin false 0 d) (fin false (suc m) e) ≡ false → ⊥
 unfolding lt

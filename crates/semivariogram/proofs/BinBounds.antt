@@ -57,24 +57,18 @@ module _ (w : Float) (n : ℕ) where
   pub high-last : (v : Float) → IsHigh w n (n - 1) v
   high-last v s cs f t = omega arith
 
-  -- ---- one more of them is set
-  pub next-low : (b : ℕ) (xs : List Float) (v : Float) → b < length xs → IsLow w n b v → ((k : ℕ) → k < b → IsLow w n k (getD xs k nan))
-      → (k : ℕ) → k < b + 1 → IsLow w n k (getD (set xs b v) k nan)
-  next-low b xs v l h g k m =
-      elim (decLt k b) [
-        | yes p ↦ subst (IsLow w n k) (sym (getD-set-other xs b k v nan (λ i. omega arith))) (g k p)
-        | no p ↦ let i : b ≡ k = omega arith in subst (λ (j : ℕ). IsLow w n j (getD (set xs b v) j nan)) i (subst (IsLow w n b) (sym (getD-set-same xs b v nan l)) h)
-      ]
-
-  pub next-high : (b : ℕ) (xs : List Float) (v : Float) → b < length xs → IsHigh w n b v → ((k : ℕ) → k < b → IsHigh w n k (getD xs k nan))
-      → (k : ℕ) → k < b + 1 → IsHigh w n k (getD (set xs b v) k nan)
-  next-high b xs v l h g k m =
-      elim (decLt k b) [
-        | yes p ↦ subst (IsHigh w n k) (sym (getD-set-other xs b k v nan (λ i. omega arith))) (g k p)
-        | no p ↦ let i : b ≡ k = omega arith in subst (λ (j : ℕ). IsHigh w n j (getD (set xs b v) j nan)) i (subst (IsHigh w n b) (sym (getD-set-same xs b v nan l)) h)
-      ]
-
   -- ---- a squared distance inside the bounds of a bin is in it
-  pub inside : (lows highs : List Float) → Bounds w n lows highs → (s : Float) → Signed false s → T (fits binary64 s) → (b : ℕ) → b < n
+  pub inside : (m : ℕ) (lows highs : List Float) → Bounds w n m lows highs → (s : Float) → Signed false s → T (fits binary64 s) → (b : ℕ) → b < m
       → T (le (getD lows b nan) s) → T (le s (getD highs b nan)) → b ≡ binAt w n (sqrtOf s)
-  inside lows highs h s cs f b l t u = omega (arith, h .low b l s cs f t, h .high b l s cs f u)
+  inside m lows highs h s cs f b l t u = omega (arith, h .low b l s cs f t, h .high b l s cs f u)
+
+-- ---- one more of them is set
+pub next-set : (P : ℕ → Float → Type 0) (b : ℕ) (xs : List Float) (v : Float) → b < length xs → P b v → ((k : ℕ) → k < b → P k (getD xs k nan))
+    → (k : ℕ) → k < b + 1 → P k (getD (set xs b v) k nan)
+next-set P b xs v l h g k m =
+    elim (decLt k b) [
+      | yes p ↦ subst (P k) (sym (getD-set-other xs b k v nan (λ i. omega arith))) (g k p)
+      | no p ↦
+          let i : b ≡ k = omega arith in
+          subst (λ (j : ℕ). P j (getD (set xs b v) j nan)) i (subst (P b) (sym (getD-set-same xs b v nan l)) h)
+    ]

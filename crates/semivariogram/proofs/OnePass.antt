@@ -1,6 +1,6 @@
 -- One pass over the pairs fills every bin: after some pairs, each bin's sum and count are those over the pairs so far whose bin it is, so that with the pairs
 -- that are left they come to those over all pairs. Assumes nothing.
-use Prim.Native.Nat.{ℕ, suc, _+_, _-_, _*_, _≤_, _<_, min}
+use Prim.Native.Nat.{ℕ, suc, _+_, _-_, _≤_, _<_, min}
 use native.Mathlib.Decide.{decLt}
 use native.Mathlib.Numerals.{add-one}
 use native.Mathlib.Omega.{arith}

@@ -49,10 +49,10 @@ IsLow width bins b v = (s : Float) → Signed false s → T (fits binary64 s) �
 abbrev pub IsHigh : Float → ℕ → ℕ → Float → Type 0
 IsHigh width bins b v = (s : Float) → Signed false s → T (fits binary64 s) → T (le s v) → binAt width bins (sqrtOf s) ≤ b
 
--- each bin has its bounds
-pub record Bounds (width : Float) (bins : ℕ) (lows highs : List Float) : Type 0 where
-  pub low : (b : ℕ) → b < bins → IsLow width bins b (getD lows b nan)
-  pub high : (b : ℕ) → b < bins → IsHigh width bins b (getD highs b nan)
+-- each of the first `bounded` bins has its bounds
+pub record Bounds (width : Float) (bins bounded : ℕ) (lows highs : List Float) : Type 0 where
+  pub low : (b : ℕ) → b < bounded → IsLow width bins b (getD lows b nan)
+  pub high : (b : ℕ) → b < bounded → IsHigh width bins b (getD highs b nan)
 
 -- the pairs ps are left: each bin's sum and count, with what they add, are those over all pairs
 pub record Left (q : Samples) (ps : List Pair) (sums : List Float) (counts : List ℕ) : Type 0 where

@@ -46,15 +46,16 @@ fn add_later(
     i: usize,
     at: usize,
     squares: &[f64],
+    bounded: usize,
     lows: &[f64],
     highs: &[f64],
     bin_sums: &mut [f64],
     bin_counts: &mut [usize],
 )
     requires { ⌜ («n_bins» ≤ length (now «bin_sums»)) × («n_bins» ≤ length (now «bin_counts»))
-        × («n_bins» ≤ length (now lows)) × («n_bins» ≤ length (now highs)) × (length (now squares) ≡ 1128)
+        × (bounded ≤ length (now lows)) × (bounded ≤ length (now highs)) × (length (now squares) ≡ 1128)
         × (i < length (now values)) × Taken (samplesOf (now points) (now values) d «n_bins»)
-        × («bin_width» ≡ width (samplesOf (now points) (now values) d «n_bins»)) × Bounds «bin_width» «n_bins» (now lows) (now highs)
+        × («bin_width» ≡ width (samplesOf (now points) (now values) d «n_bins»)) × Bounds «bin_width» «n_bins» bounded (now lows) (now highs)
         × Stored (squareIn (now points) d) (pairs (length (now values))) (length (pairs (length (now values)))) (now squares)
         × Reached (pairs (length (now values))) (pairsFrom i (length (now values) - i)) at
         × Left (samplesOf (now points) (now values) d «n_bins») (pairsFrom i (length (now values) - i)) (now «bin_sums») (now «bin_counts») ⌝ }
@@ -66,7 +67,18 @@ fn add_later(
     let mut place = at;
     for j in i + 1..values.len() {
         let dist_sq = squares[place];
-        let bin = pair_bin(points, i, j, d, dist_sq, bin_width, n_bins, lows, highs);
+        let bin = pair_bin(
+            points,
+            i,
+            j,
+            d,
+            dist_sq,
+            bin_width,
+            n_bins,
+            bounded,
+            lows,
+            highs,
+        );
         let diff = values[i] - values[j];
         let semivar = 0.5 * (diff * diff);
         bin_sums[bin] = bin_sums[bin] + semivar;
@@ -83,15 +95,16 @@ pub(crate) fn add_pairs(
     n_bins: usize,
     bin_width: f64,
     squares: &[f64],
+    bounded: usize,
     lows: &[f64],
     highs: &[f64],
     bin_sums: &mut [f64],
     bin_counts: &mut [usize],
 )
     requires { ⌜ («n_bins» ≤ length (now «bin_sums»)) × («n_bins» ≤ length (now «bin_counts»))
-        × («n_bins» ≤ length (now lows)) × («n_bins» ≤ length (now highs)) × (length (now squares) ≡ 1128)
+        × (bounded ≤ length (now lows)) × (bounded ≤ length (now highs)) × (length (now squares) ≡ 1128)
         × Taken (samplesOf (now points) (now values) d «n_bins»)
-        × («bin_width» ≡ width (samplesOf (now points) (now values) d «n_bins»)) × Bounds «bin_width» «n_bins» (now lows) (now highs)
+        × («bin_width» ≡ width (samplesOf (now points) (now values) d «n_bins»)) × Bounds «bin_width» «n_bins» bounded (now lows) (now highs)
         × Stored (squareIn (now points) d) (pairs (length (now values))) (length (pairs (length (now values)))) (now squares)
         × Left (samplesOf (now points) (now values) d «n_bins») (pairs (length (now values))) (now «bin_sums») (now «bin_counts») ⌝ }
     ensures { λ _. ⌜ Left (samplesOf (now (points .entry)) (now (values .entry)) d «n_bins») [] (now («bin_sums» .exit)) (now («bin_counts» .exit)) ⌝ }
@@ -108,6 +121,7 @@ pub(crate) fn add_pairs(
             i,
             at,
             squares,
+            bounded,
             lows,
             highs,
             bin_sums,

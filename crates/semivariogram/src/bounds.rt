@@ -45,17 +45,22 @@ fn high_bound(square: f64, b: usize, bin_width: f64, n_bins: usize) -> f64
     0.0 / 0.0
 }
 
-// The bounds of each bin. Below the first and above the last there is no other: the one begins at 0, and the other ends at the greatest.
+// The bounds of the bins, and how many bins have them. Below the first and above the last there is no other: the one begins at 0, and the other ends
+// at the greatest. Bounds take two roots a bin and a look at each for every pair, so with as many bins as samples or more they save none.
 pub(crate) fn bin_bounds(
     bin_width: f64,
     n_bins: usize,
+    n: usize,
     max_sq: f64,
     lows: &mut [f64],
     highs: &mut [f64],
-)
+) -> usize
     requires { ⌜ (1 ≤ «n_bins») × («n_bins» ≤ length (now lows)) × («n_bins» ≤ length (now highs)) × Signed false «bin_width» ⌝ }
-    ensures { λ _. ⌜ Bounds «bin_width» «n_bins» (now (lows .exit)) (now (highs .exit)) ⌝ }
+    ensures { λ r. ⌜ (r ≤ «n_bins») × Bounds «bin_width» «n_bins» r (now (lows .exit)) (now (highs .exit)) ⌝ }
 {
+    if n_bins >= n {
+        return 0;
+    }
     lows[0] = 0.0;
     for b in 1..n_bins {
         let edge = std::num::nearest_u64_to_f64(b as u64) * bin_width;
@@ -64,15 +69,16 @@ pub(crate) fn bin_bounds(
         highs[b - 1] = high_bound(square, b - 1, bin_width, n_bins);
     }
     highs[n_bins - 1] = max_sq;
+    n_bins
 }
 
 // How many high bounds a squared distance is above: its bin, or close to it. No branch depends on the numbers.
-fn likely_bin(dist_sq: f64, n_bins: usize, highs: &[f64]) -> usize
-    requires { ⌜ «n_bins» ≤ length (now highs) ⌝ }
-    ensures { λ r. ⌜ r ≤ «n_bins» ⌝ }
+fn likely_bin(dist_sq: f64, bounded: usize, highs: &[f64]) -> usize
+    requires { ⌜ bounded ≤ length (now highs) ⌝ }
+    ensures { λ r. ⌜ r ≤ bounded ⌝ }
 {
     let mut bin = 0;
-    for b in 0..n_bins {
+    for b in 0..bounded {
         if dist_sq > highs[b] {
             bin += 1;
         }
@@ -89,16 +95,17 @@ pub(crate) fn pair_bin(
     dist_sq: f64,
     bin_width: f64,
     n_bins: usize,
+    bounded: usize,
     lows: &[f64],
     highs: &[f64],
 ) -> usize
-    requires { ⌜ (1 ≤ «n_bins») × («n_bins» ≤ length (now lows)) × («n_bins» ≤ length (now highs))
-        × Bounds «bin_width» «n_bins» (now lows) (now highs) × Signed false «dist_sq» × T (fits binary64 «dist_sq»)
+    requires { ⌜ (1 ≤ «n_bins») × (bounded ≤ length (now lows)) × (bounded ≤ length (now highs))
+        × Bounds «bin_width» «n_bins» bounded (now lows) (now highs) × Signed false «dist_sq» × T (fits binary64 «dist_sq»)
         × (distance (now points) i (now points) j d ≡ sqrtOf «dist_sq») ⌝ }
     ensures { λ r. ⌜ r ≡ binAt «bin_width» «n_bins» (distance (now (points .entry)) i (now (points .entry)) j d) ⌝ }
 {
-    let bin = likely_bin(dist_sq, n_bins, highs);
-    if bin < n_bins {
+    let bin = likely_bin(dist_sq, bounded, highs);
+    if bin < bounded {
         if lows[bin] <= dist_sq {
             if dist_sq <= highs[bin] {
                 return bin;

@@ -52,7 +52,14 @@ fn kept_bins(
     let bin_width = max_dist / std::num::nearest_u64_to_f64(n_bins as u64);
     let mut lows = [0.0; 64];
     let mut highs = [0.0; 64];
-    bin_bounds(bin_width, n_bins, max_sq, &mut lows, &mut highs);
+    let bounded = bin_bounds(
+        bin_width,
+        n_bins,
+        values.len(),
+        max_sq,
+        &mut lows,
+        &mut highs,
+    );
     let mut bin_sums = [0.0; 64];
     let mut bin_counts = [0; 64];
     add_pairs(
@@ -62,6 +69,7 @@ fn kept_bins(
         n_bins,
         bin_width,
         &squares,
+        bounded,
         &lows,
         &highs,
         &mut bin_sums,

@@ -75,7 +75,7 @@ sqrt-requires c κs = search needs
 nearest-u64-to-f64-requires : tie.Need-nearest-u64-to-f64-requires
 nearest-u64-to-f64-requires c κs = search needs
 
--- bin_bounds(bin_width, n_bins, max_sq, &mut lows, &mut highs);
+-- let bounded = bin_bounds(
 slice-aggregate-bin-bounds : tie.Need-slice-aggregate-bin-bounds
 slice-aggregate-bin-bounds c = search needs
 
@@ -112,15 +112,16 @@ add-pairs-requires c κs =
     let s = at-start w in
     let k = is-accepted s in
     let h = at-squares w .all-squares in
-    let kept = b .bin-bounds .kept .1 .1 .1 in (
+    let kept = b .bin-bounds .kept .1 .1 .1 .1 in
+    let most = b .bin-bounds .ensures .0 in (
       k .bins .1,
       k .bins .1,
-      omega (arith, k .bins .1, kept .0),
-      omega (arith, k .bins .1, kept .1 .0),
+      omega (arith, most, k .bins .1, kept .0),
+      omega (arith, most, k .bins .1, kept .1 .0),
       h .kept .1 .1 .1 .0,
       is-taken s,
       wide w,
-      b .bin-bounds .ensures,
+      b .bin-bounds .ensures .1,
       h .ensures .1,
       none-added (taken s) (k .bins .1),
     )
@@ -136,7 +137,7 @@ write-kept-requires : tie.Need-write-kept-requires
 write-kept-requires c κs =
     let d = at-added c in
     let k = is-accepted (at-start (at-width (at-bounds (d .before) .before))) in
-    let kept = d .add-pairs .kept .1 .1 .1 .1 .1 .1 .1 .1 in
+    let kept = d .add-pairs .kept .1 .1 .1 .1 .1 .1 .1 .1 .1 in
     (omega (arith, k .bins .1, kept .0), omega (arith, k .bins .1, kept .1 .0), k .distances, k .semivariances, k .counts)
 
 -- at the end

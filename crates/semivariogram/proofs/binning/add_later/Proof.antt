@@ -4,7 +4,6 @@ use mathlib.Core.Path.{_≡_, refl, ap, sym, subst, _∙_}
 use mathlib.Core.Bool.{false}
 use mathlib.Core.List.{_∷_, _++_}
 use native.Mathlib.Omega.{arith}
-use borrow.Author.Needs.{needs}
 use lib.Dec.{T}
 use lib.ListN.{length, length-set, getD}
 use lib.Ieee.{nan, binary64, fits}
@@ -22,14 +21,14 @@ use Rattle.semivariogram.proofs.binning.add_later.Statement.{statement}
 use Rattle.semivariogram.proofs.binning.add_later.Tie as tie
 
 abbrev Inv-loop : tie.InvT-loop
-Inv-loop points values d n-bins bin-width i at squares lows highs bin-sums₀ bin-counts₀ place₀ j₀ j-end bin-sums bin-counts place j =
+Inv-loop points values d n-bins bin-width i at squares bounded lows highs bin-sums₀ bin-counts₀ place₀ j₀ j-end bin-sums bin-counts place j =
     (j ≤ j-end) × (j-end ≡ length values) × (length bin-sums ≡ length bin-sums₀) × (length bin-counts ≡ length bin-counts₀)
     × (suc i ≤ j) × (place ≡ at + (j - suc i))
     × Reached (pairs (length values)) (laterFrom i j (length values) ++ pairsFrom (suc i) (length values - suc i)) place
     × Left (samplesOf points values d n-bins) (laterFrom i j (length values) ++ pairsFrom (suc i) (length values - suc i)) bin-sums bin-counts
 
 abbrev μ-loop : tie.MeasureT-loop
-μ-loop points values d n-bins bin-width i at squares lows highs bin-sums₀ bin-counts₀ place₀ j₀ j-end bin-sums bin-counts place j =
+μ-loop points values d n-bins bin-width i at squares bounded lows highs bin-sums₀ bin-counts₀ place₀ j₀ j-end bin-sums bin-counts place j =
     j-end - j
 
 abbrev State : (tie.InvT-loop → tie.MeasureT-loop → Type 0) → Type 0

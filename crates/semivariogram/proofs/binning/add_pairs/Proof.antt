@@ -15,13 +15,13 @@ use Rattle.semivariogram.proofs.binning.add_pairs.Statement.{statement}
 use Rattle.semivariogram.proofs.binning.add_pairs.Tie as tie
 
 abbrev Inv-loop : tie.InvT-loop
-Inv-loop points values d n-bins bin-width squares lows highs bin-sums₀ bin-counts₀ n at₀ i₀ bin-sums bin-counts at i =
+Inv-loop points values d n-bins bin-width squares bounded lows highs bin-sums₀ bin-counts₀ n at₀ i₀ bin-sums bin-counts at i =
     (i ≤ n) × (length bin-sums ≡ length bin-sums₀) × (length bin-counts ≡ length bin-counts₀)
     × Reached (pairs (length values)) (pairsFrom i (length values - i)) at
     × Left (samplesOf points values d n-bins) (pairsFrom i (length values - i)) bin-sums bin-counts
 
 abbrev μ-loop : tie.MeasureT-loop
-μ-loop points values d n-bins bin-width squares lows highs bin-sums₀ bin-counts₀ n at₀ i₀ bin-sums bin-counts at i = n - i
+μ-loop points values d n-bins bin-width squares bounded lows highs bin-sums₀ bin-counts₀ n at₀ i₀ bin-sums bin-counts at i = n - i
 
 abbrev State : (tie.InvT-loop → tie.MeasureT-loop → Type 0) → Type 0
 State S = S Inv-loop μ-loop
@@ -103,8 +103,8 @@ loop-again c =
     let n : ℕ = length (s .args .values .now) in
     let i = l .loop .i in
     let at = l .loop .at in
-    let kept = h .kept .1 .1 .1 .1 .1 .1 .1 .1 .1 .1 in
-    let last = h .last .1 .1 .1 .1 .1 .1 .1 .1 .1 .1 in
+    let kept = h .kept .1 .1 .1 .1 .1 .1 .1 .1 .1 .1 .1 in
+    let last = h .last .1 .1 .1 .1 .1 .1 .1 .1 .1 .1 .1 in
     let e : at + (n - suc i) ≡ at + (n - 1 - i) = omega (arith, t .loop-test .taken) in (
       omega (arith, t .loop-test .taken),
       kept .0 ∙ l .loop .inv .1,

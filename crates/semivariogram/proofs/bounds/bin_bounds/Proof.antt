@@ -1,32 +1,36 @@
 -- `semivariogram::bounds::bin_bounds` meets its contract: each bin before b has its low bound, and each but the last of them its high one. Assumes nothing.
-use Prim.Native.Nat.{ℕ, _+_, _-_, _≤_, _<_}
+use Prim.Native.Nat.{ℕ, _-_, _≤_, _<_}
 use native.Mathlib.Omega.{arith}
 use mathlib.Core.Path.{_≡_, refl, _∙_}
 use borrow.Author.Needs.{needs}
 use lib.ListN.{length, length-set, getD}
 use lib.Ieee.{nan}
 use Rattle.semivariogram.specs.Parts.{IsLow, IsHigh}
-use Rattle.semivariogram.proofs.BinBounds.{low-first, high-last, next-low, next-high}
+use Rattle.semivariogram.proofs.BinBounds.{low-first, high-last, next-set}
 use Rattle.semivariogram.proofs.bounds.bin_bounds.Statement.{statement}
 use Rattle.semivariogram.proofs.bounds.bin_bounds.Tie as tie
 
 abbrev Inv-loop : tie.InvT-loop
-Inv-loop bin-width n-bins max-sq lows₀ highs₀ b₀ lows highs b =
+Inv-loop bin-width n-bins n max-sq lows₀ highs₀ b₀ lows highs b =
     (1 ≤ b) × (b ≤ n-bins) × (length lows ≡ length lows₀) × (length highs ≡ length highs₀)
     × ((k : ℕ) → k < b → IsLow bin-width n-bins k (getD lows k nan))
     × ((k : ℕ) → k < b - 1 → IsHigh bin-width n-bins k (getD highs k nan))
 
 abbrev μ-loop : tie.MeasureT-loop
-μ-loop bin-width n-bins max-sq lows₀ highs₀ b₀ lows highs b = n-bins - b
+μ-loop bin-width n-bins n max-sq lows₀ highs₀ b₀ lows highs b = n-bins - b
 
 abbrev State : (tie.InvT-loop → tie.MeasureT-loop → Type 0) → Type 0
 State S = S Inv-loop μ-loop
 
 abbrev at-entry : State tie.At-loop → State tie.Start
-at-entry c = c .before .before .before
+at-entry c = c .before .before .before .before
 
 lows-long : (c : State tie.At-loop) → length (c .loop .lows) ≡ length (at-entry c .args .lows .now)
 lows-long c = c .loop .inv .2 ∙ simp length-set
+
+-- return 0;
+returns : tie.Need-returns Inv-loop μ-loop
+returns c = (omega arith, record { low = λ b h. absurd (omega arith); high = λ b h. absurd (omega arith) })
 
 -- lows[0] = 0.0;
 slice-write-lows : tie.Need-slice-write-lows Inv-loop μ-loop
@@ -35,13 +39,13 @@ slice-write-lows c = omega arith
 -- for b in 1..n_bins
 loop-holds : tie.Need-loop-holds Inv-loop μ-loop
 loop-holds c =
-    let s = c .before .before in
+    let s = c .before .before .before in
     let a = s .args in (
       omega arith,
       omega arith,
       refl,
       refl,
-      next-low (a .bin-width) (a .n-bins) 0 (a .lows .now) _ (omega arith) (low-first (a .bin-width) (a .n-bins) _) (λ k l. absurd (omega arith)),
+      next-set (IsLow (a .bin-width) (a .n-bins)) 0 (a .lows .now) _ (omega arith) (low-first (a .bin-width) (a .n-bins) _) (λ k l. absurd (omega arith)),
       λ k l. absurd (omega arith),
     )
 
@@ -89,8 +93,8 @@ loop-again c =
       omega arith,
       simp length-set (simp length-set at (v .2)),
       simp length-set (v .3),
-      next-low w n (l .loop .b) (l .loop .lows) (c .before .low-bound .result) (omega (arith, lows-long l, s .pre .1)) (c .before .low-bound .ensures) (v .4),
-      λ k h. next-high w n (l .loop .b - 1) (l .loop .highs) (c .high-bound .result) (omega (arith, v .3, s .pre .2)) (c .high-bound .ensures) (v .5) k
+      next-set (IsLow w n) (l .loop .b) (l .loop .lows) (c .before .low-bound .result) (omega (arith, lows-long l, s .pre .1)) (c .before .low-bound .ensures) (v .4),
+      λ k h. next-set (IsHigh w n) (l .loop .b - 1) (l .loop .highs) (c .high-bound .result) (omega (arith, v .3, s .pre .2)) (c .high-bound .ensures) (v .5) k
           (omega arith),
     )
 
@@ -109,18 +113,22 @@ same-length c = lows-long (c .before)
 same-length-2 : tie.Need-same-length-2 Inv-loop μ-loop
 same-length-2 c = simp length-set (c .before .loop .inv .3)
 
-returns : tie.Need-returns Inv-loop μ-loop
-returns c =
+-- n_bins
+returns-2 : tie.Need-returns-2 Inv-loop μ-loop
+returns-2 c =
     let l = c .before in
     let s = at-entry l in
     let w = s .args .bin-width in
     let n = s .args .n-bins in
     let v = l .loop .inv in
-    record {
-      low = λ b h. v .4 b (omega arith);
-      high = λ b h. next-high w n (n - 1) (l .loop .highs) (s .args .max-sq) (omega (arith, v .3, s .pre .2)) (high-last w n (s .args .max-sq))
-          (λ k g. v .5 k (omega arith)) b (omega arith);
-    }
+    let e : l .loop .b ≡ n = omega (arith, v .1, c .loop-test .left) in (
+      omega arith,
+      record {
+        low = λ b h. v .4 b (omega (arith, e));
+        high = λ b h. next-set (IsHigh w n) (n - 1) (l .loop .highs) (s .args .max-sq) (omega (arith, v .3, s .pre .0, s .pre .2))
+            (high-last w n (s .args .max-sq)) (λ k g. v .5 k (omega (arith, e))) b (omega (arith, s .pre .0));
+      },
+    )
 
 pub bin-bounds-spec : {M : Type 1} → statement M
 bin-bounds-spec =
@@ -128,6 +136,7 @@ bin-bounds-spec =
     (tie.spec
     Inv-loop
     μ-loop
+    returns
     slice-write-lows
     loop-holds
     nearest-u64-to-f64-requires
@@ -147,4 +156,4 @@ bin-bounds-spec =
     slice-write-highs-2
     same-length
     same-length-2
-    returns)
+    returns-2)

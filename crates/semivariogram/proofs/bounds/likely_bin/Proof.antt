@@ -6,10 +6,10 @@ use Rattle.semivariogram.proofs.bounds.likely_bin.Statement.{statement}
 use Rattle.semivariogram.proofs.bounds.likely_bin.Tie as tie
 
 abbrev Inv-loop : tie.InvT-loop
-Inv-loop dist-sq n-bins highs bin₀ b₀ bin b = (bin ≤ b) × (b ≤ n-bins)
+Inv-loop dist-sq bounded highs bin₀ b₀ bin b = (bin ≤ b) × (b ≤ bounded)
 
 abbrev μ-loop : tie.MeasureT-loop
-μ-loop dist-sq n-bins highs bin₀ b₀ bin b = n-bins - b
+μ-loop dist-sq bounded highs bin₀ b₀ bin b = bounded - b
 
 loop-holds : tie.Need-loop-holds Inv-loop μ-loop
 loop-holds c = omega arith

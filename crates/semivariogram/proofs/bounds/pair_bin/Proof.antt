@@ -1,7 +1,5 @@
 -- `semivariogram::bounds::pair_bin` meets its contract: inside the bounds of a bin the squared distance is in it, and else the distance says. Assumes nothing.
-use Prim.Native.Nat.{_*_, _^_, _<_}
-use native.Mathlib.Omega.{arith}
-use mathlib.Core.Path.{_≡_, ap, sym, subst, _∙_}
+use mathlib.Core.Path.{ap, sym, subst, _∙_}
 use lib.Dec.{T}
 use Rattle.semivariogram.specs.Parts.{binAt}
 use Rattle.semivariogram.proofs.BinBounds.{inside}
@@ -32,7 +30,7 @@ returns c =
     let s = l .before .before .before .before in
     let a = s .args in
     let p = s .pre in
-    inside (a .bin-width) (a .n-bins) (a .lows .now) (a .highs .now) (p .3) (a .dist-sq) (p .4) (p .5) (l .likely-bin .result) (i .if1 .taken)
+    inside (a .bin-width) (a .n-bins) (a .bounded) (a .lows .now) (a .highs .now) (p .3) (a .dist-sq) (p .4) (p .5) (l .likely-bin .result) (i .if1 .taken)
     (subst T (sym (g .if2 .taken)) tt) (subst T (sym (c .if3 .taken)) tt)
     ∙ ap (binAt (a .bin-width) (a .n-bins)) (sym (p .6))
 

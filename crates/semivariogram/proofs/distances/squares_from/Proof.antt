@@ -8,7 +8,7 @@ use native.Mathlib.Omega.{arith}
 use borrow.Author.Needs.{needs}
 use lib.ListN.{length, length-set}
 use Rattle.area.proofs.Rows.{row-end}
-use Rattle.bins.specs.Pairs.{Pair, pair, pairsFrom, pairs}
+use Rattle.bins.specs.Pairs.{pair, pairsFrom, pairs}
 use Rattle.bins.specs.Bins.{greatest}
 use Rattle.semivariogram.specs.Parts.{squareIn, Reached, Stored}
 use Rattle.semivariogram.proofs.Passes.{later, laterFrom, greatest-turn, greatest-last}
@@ -115,7 +115,8 @@ returns c =
     let v = l .inv in
     let e : l .place ≡ a .at + (a .n - suc (a .i)) = omega (arith, v .3, v .0, v .1) in (
       sym (greatest-last f (l .max-sq) (a .i) (l .j) (a .n) (omega arith)) ∙ v .4,
-      subst (λ (k : ℕ). Reached (pairs (a .n)) (pairsFrom (suc (a .i)) (a .n - suc (a .i))) k) e (last-of (a .n) (a .i) (l .j) _ (l .place) (omega arith) (v .5)),
+      subst (λ (k : ℕ). Reached (pairs (a .n)) (pairsFrom (suc (a .i)) (a .n - suc (a .i))) k) e
+          (last-of (a .n) (a .i) (l .j) _ (l .place) (omega arith) (v .5)),
       subst (λ (k : ℕ). Stored f (pairs (a .n)) k (l .squares)) e (v .6),
     )
 
