@@ -1,21 +1,17 @@
 -- "Bin = floor(distance/width), NaN as 0, above the last as the last": of every pair of an accepted call.
 -- Its distance/width is a NaN or has a clear sign. Assumes nothing.
 use Prim.Native.Nat.{ℕ, _-_, _*_, _/_, _^_, _≤_, _<_, min}
-use native.Mathlib.Nat.{mul-div-cancel}
 use native.Mathlib.Omega.{arith}
-use mathlib.Core.Path.{_≡_, refl, ap, sym, _∙_}
+use mathlib.Core.Path.{_≡_, refl, ap, _∙_}
 use mathlib.Core.Logic.{_⊎_, inl, inr}
-use mathlib.Core.Bool.{Bool, true, false, cond, true≢false}
+use mathlib.Core.Bool.{Bool, true, false, cond}
 use lib.Dec.{T, eqb}
-use lib.Pow.{pow-pos}
-use lib.Ieee.{Float, nan, inf, fin, binary64, fits, up, down, round, div, ofInt, toUnsigned}
+use lib.Ieee.{Float, nan, inf, binary64, fits, up, down, round, div, ofInt, toUnsigned}
 use lib.Ieee.Fits.{div-fits}
 use lib.Ieee.Scale.{finite}
 use Rattle.ieee.specs.Floats.{floorOf}
 use Rattle.ieee.specs.Values.{multiple, signOf, Signed, infinite, number}
-use Rattle.ieee.specs.Whole.{GreatestWhole}
-use Rattle.ieee.proofs.FloorCases.{ones-of}
-use Rattle.ieee.proofs.FloorLaw.{floor-multiple, floor-greatest}
+use Rattle.ieee.proofs.CastOrder.{whole-part, floor-cast}
 use Rattle.ieee.proofs.Signs.{round-signed}
 use Rattle.bins.specs.Pairs.{Pair, pair}
 use Rattle.bins.specs.Call.{Samples, Areas, samples}
@@ -77,21 +73,9 @@ of-infinity : toUnsigned 64 (floorOf (inf false)) ≡ 2 ^ 64 - 1
 unfolding toUnsigned floorOf
 of-infinity = refl
 
--- a whole number as a count of ones
-whole-part : (x : Float) → T (fits binary64 x) → T (finite x) → signOf x ≡ false → toUnsigned 64 x ≡ min (multiple x / 2 ^ 1074) (2 ^ 64 - 1)
-unfolding toUnsigned
-whole-part nan f h s = absurd h
-whole-part (inf t) f h s = absurd h
-whole-part (fin true m e) f h s = absurd (true≢false s)
-whole-part (fin false m e) f h s = ap (λ (n : ℕ). min n (2 ^ 64 - 1)) (sym (ones-of false m e f))
-
 -- of a number that is not negative it is the whole part
 floor-part : (x : Float) → T (fits binary64 x) → T (finite x) → signOf x ≡ false → toUnsigned 64 (floorOf x) ≡ min (multiple x / 2 ^ 1074) (2 ^ 64 - 1)
-floor-part x f h s =
-    let g : GreatestWhole x (floorOf x) = floor-greatest x f h in
-    let ones : multiple (floorOf x) / 2 ^ 1074 ≡ multiple x / 2 ^ 1074 =
-    ap (λ (n : ℕ). n / 2 ^ 1074) (floor-multiple x f h s) ∙ mul-div-cancel (multiple x / 2 ^ 1074) (pow-pos 1074) in
-    whole-part (floorOf x) (g .format) (g .number) (g .sign ∙ s) ∙ ap (λ (n : ℕ). min n (2 ^ 64 - 1)) ones
+floor-part x f h s = floor-cast x f ∙ whole-part x f h s
 
 -- no bin lies past the cast's end
 capped : (w b : ℕ) → b ≤ 64 → min (min w (2 ^ 64 - 1)) (b - 1) ≡ min w (b - 1)

@@ -28,3 +28,5 @@ pub mod Sums
 pub mod Signs
 pub mod Bytes
 pub mod WithZero
+pub mod RootOrder
+pub mod CastOrder

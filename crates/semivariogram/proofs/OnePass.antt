@@ -1,7 +1,6 @@
 -- One pass over the pairs fills every bin: after some pairs, each bin's sum and count are those over the pairs so far whose bin it is, so that with the pairs
 -- that are left they come to those over all pairs. Assumes nothing.
-use Prim.Native.Nat.{ℕ, suc, _+_, _-_, _*_, _≤_, _<_, min}
-use native.Mathlib.Nat.{mul-le-mul}
+use Prim.Native.Nat.{ℕ, suc, _+_, _-_, _≤_, _<_, min}
 use native.Mathlib.Decide.{decLt}
 use native.Mathlib.Numerals.{add-one}
 use native.Mathlib.Omega.{arith}
@@ -19,8 +18,8 @@ use Rattle.bins.specs.Pairs.{Pair, pair, pairsFrom, pairs}
 use Rattle.bins.specs.Call.{Samples, samples}
 use Rattle.bins.specs.Bins.{lag, halfSquare, width, binOf, countIn, sumIn, count}
 use Rattle.semivariogram.specs.Parts.{Left}
-use Rattle.bins.proofs.Pairs.{twice}
 use Rattle.semivariogram.proofs.Passes.{laterFrom, next-sample, no-sample, next-later, no-later}
+use Rattle.semivariogram.proofs.Places.{few-pairs}
 
 same-or-not : (a b : ℕ) → (a ≡ b) ⊎ (a ≢ b)
 same-or-not a b =
@@ -92,13 +91,9 @@ count-most q b (p ∷ ps) = go (eqb (binOf q p) b) (count-most q b ps)
     go true h = omega arith
     go false h = omega arith
 
-few-pairs : (n : ℕ) → n ≤ 48 → length (pairs n) ≤ 1152
-unfolding pairs
-few-pairs n h = let m : n * n ≤ 48 * 48 = mul-le-mul h h in omega (arith, twice 0 n)
-
 -- so that it fits a word
 pub count-fits : (q : Samples) (ps : List Pair) (sums : List Float) (counts : List ℕ) (b : ℕ) → samples q ≤ 48 → b < q .bins → Left q ps sums counts
-    → getD counts b 0 ≤ 1152
+    → getD counts b 0 ≤ 1128
 unfolding count
 count-fits q ps sums counts b n l h = omega (arith, h .number b l, count-most q b (pairs (samples q)), few-pairs (samples q) n)
 

@@ -2,10 +2,9 @@
 use Prim.Native.Nat.{ℕ, zero, suc, _+_, _≤_}
 use native.Mathlib.Nat.{zero-add}
 use native.Mathlib.Omega.{arith}
-use mathlib.Core.Path.{_≡_, ap, ap₂, sym, subst, _∙_}
-use mathlib.Core.List.{map}
+use mathlib.Core.Path.{_≡_, ap, sym, subst, _∙_}
 use lib.ListN.{length, replicate, getD-replicate}
-use lib.Ieee.{Float, nan, binary64, div}
+use lib.Ieee.{Float, nan}
 use Rattle.error.specs.Numbers.{numberOf}
 use Rattle.error.specs.declared.Refusal.{Refusal}
 use Rattle.error.proofs.First.{numbers}
@@ -14,18 +13,17 @@ use Rattle.survey.specs.declared.Limits.{Limits}
 use Rattle.bins.specs.Pairs.{pairs}
 use Rattle.bins.specs.Call.{Samples, Areas, Outcome, samples}
 use Rattle.bins.specs.Refusals.{refusal}
-use Rattle.bins.specs.Bins.{asFloat, lag, greatest, longest, width, sumIn, count, keptBins, filled}
-use Rattle.semivariogram.specs.Parts.{lagIn, Left}
+use Rattle.bins.specs.Bins.{sumIn, count, keptBins, filled}
+use Rattle.semivariogram.specs.Parts.{Taken, Left}
 use Rattle.bins.specs.Semivariogram.{callWhere, calculated}
 use Rattle.bins.specs.Binned.{Ends}
+use Rattle.bins.proofs.Accepted.{Accepted}
 use Rattle.bins.proofs.Calculated.{is-done, ends}
 
 -- ---- the start
--- "Width = greatest distance / bins"
-pub width-is : (q : Samples) (h b : Float) → h ≡ greatest zeroFloat (map (lagIn (q .points) (q .dimension)) (pairs (samples q))) → b ≡ asFloat (q .bins)
-    → div binary64 h b ≡ width q
-unfolding width longest lag
-width-is q h b e f = ap₂ (λ (x y : Float). div binary64 x y) e f
+-- what is known of a call that is not refused
+pub taken-is : (q : Samples) (a : Areas) → Accepted q a → samples q ≤ 48 → Taken q
+taken-is q a k h = record { dimension = k .dimension; few = h; points = k .points; coordinates = k .coordinates; bins = k .bins }
 
 -- before the first pair all sums and counts are 0
 pub none-added : (q : Samples) → q .bins ≤ 64 → Left q (pairs (samples q)) (replicate 64 zeroFloat) (replicate 64 0)

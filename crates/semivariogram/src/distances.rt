@@ -1,32 +1,51 @@
-// The greatest distance of all pairs, in one pass over them.
+// The squared distances of all pairs, in the pairs' order, and the greatest of them, in one pass: a root is worked out later, where one is needed.
 ghost use mathlib.Core.Path.{_≡_};
 ghost use mathlib.Core.List.{map};
-ghost use Prim.Native.Nat.{suc, _-_, _<_};
+ghost use Prim.Native.Nat.{suc, _+_, _-_, _*_, _≤_, _<_};
+ghost use lib.ListN.{length};
 ghost use Rattle.ieee.specs.Floats.{zeroFloat};
-ghost use Rattle.bins.specs.Pairs.{pair, rising, pairs};
+ghost use Rattle.bins.specs.Pairs.{pair, rising, pairsFrom, pairs};
 ghost use Rattle.bins.specs.Bins.{greatest};
-ghost use Rattle.semivariogram.specs.Parts.{lagIn};
+ghost use Rattle.semivariogram.specs.Parts.{squareIn, Reached, Stored};
 
-// The greatest of `most` and the distances of the point i from each later one.
-fn greatest_from(points: &[f64], n: usize, d: usize, i: usize, most: f64) -> f64
-    requires { ⌜ i < n ⌝ }
-    ensures { λ r. ⌜ r ≡ greatest most (map (lagIn (now (points .entry)) d) (map (pair i) (rising (suc i) (n - suc i)))) ⌝ }
+// The squared distances of the point i from each later one, from the place `at` on, and the greatest of them and of `most`.
+fn squares_from(
+    points: &[f64],
+    n: usize,
+    d: usize,
+    i: usize,
+    at: usize,
+    most: f64,
+    squares: &mut [f64],
+) -> f64
+    requires { ⌜ (i < n) × (n ≤ 48) × (length (now points) ≡ n * d) × (length (now squares) ≡ 1128)
+        × Reached (pairs n) (pairsFrom i (n - i)) at × Stored (squareIn (now points) d) (pairs n) at (now squares) ⌝ }
+    ensures { λ r. ⌜ (r ≡ greatest most (map (squareIn (now (points .entry)) d) (map (pair i) (rising (suc i) (n - suc i)))))
+        × Reached (pairs n) (pairsFrom (suc i) (n - suc i)) (at + (n - suc i))
+        × Stored (squareIn (now (points .entry)) d) (pairs n) (at + (n - suc i)) (now (squares .exit)) ⌝ }
 {
-    let mut max_dist = most;
+    let mut max_sq = most;
+    let mut place = at;
     for j in i + 1..n {
-        let dist = variogram::calculate_distance(points, i, points, j, d);
-        max_dist = ieee::max(dist, max_dist);
+        let dist_sq = variogram::sum_of_squares(points, i * d, points, j * d, d);
+        squares[place] = dist_sq;
+        max_sq = ieee::max(dist_sq, max_sq);
+        place += 1;
     }
-    max_dist
+    max_sq
 }
 
-// The greatest distance of n points, from +0 on, below which no distance is.
-pub(crate) fn greatest_distance(points: &[f64], n: usize, d: usize) -> f64
-    ensures { λ r. ⌜ r ≡ greatest zeroFloat (map (lagIn (now (points .entry)) d) (pairs n)) ⌝ }
+// The squared distances of n points, and the greatest of them, from +0 on, below which none is.
+pub(crate) fn all_squares(points: &[f64], n: usize, d: usize, squares: &mut [f64]) -> f64
+    requires { ⌜ (n ≤ 48) × (length (now points) ≡ n * d) × (length (now squares) ≡ 1128) ⌝ }
+    ensures { λ r. ⌜ (r ≡ greatest zeroFloat (map (squareIn (now (points .entry)) d) (pairs n)))
+        × Stored (squareIn (now (points .entry)) d) (pairs n) (length (pairs n)) (now (squares .exit)) ⌝ }
 {
-    let mut max_dist = 0.0;
+    let mut max_sq = 0.0;
+    let mut at = 0;
     for i in 0..n {
-        max_dist = greatest_from(points, n, d, i, max_dist);
+        max_sq = squares_from(points, n, d, i, at, max_sq, squares);
+        at += n - 1 - i;
     }
-    max_dist
+    max_sq
 }

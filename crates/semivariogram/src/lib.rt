@@ -1,17 +1,22 @@
 // The experimental semivariogram. What its call answers is defined in specs/.
 mod binning; // binning.rt: the pairs to their bins, and the kept bins to the areas
-mod distances; // distances.rt: the greatest distance
+mod bounds; // bounds.rt: the bin of a pair
+mod distances; // distances.rt: the squared distances and the greatest
 mod refusals; // refusals.rt: what turns a call away
 
 use crate::binning::add_pairs;
 use crate::binning::write_kept;
-use crate::distances::greatest_distance;
+use crate::bounds::bin_bounds;
+use crate::distances::all_squares;
 use crate::refusals::calculate_refusal;
 use error::Judgement;
 use error::Refusal;
 use survey::Limits;
 ghost use mathlib.Core.Path.{_≡_};
+ghost use lib.ListN.{length};
 ghost use Rattle.survey.specs.Limits.{base};
+ghost use Rattle.bins.specs.Refusals.{refusal};
+ghost use Rattle.bins.specs.Bins.{keptBins, filled};
 ghost use Rattle.bins.specs.Call.{samplesOf, areasOf};
 ghost use Rattle.semivariogram.specs.Outcome.{outcomeOf};
 ghost use Rattle.bins.specs.Semivariogram.{calculated};
@@ -23,6 +28,62 @@ pub enum Semivariogram {
     Bins(usize),
     // What turned the call away.
     Refused(Refusal),
+}
+
+// The bins of a call that is not refused: the kept ones to the answer areas, and how many they are.
+fn kept_bins(
+    points: &[f64],
+    values: &[f64],
+    d: usize,
+    n_bins: usize,
+    distances: &mut [f64],
+    semivariances: &mut [f64],
+    counts: &mut [usize],
+) -> usize
+    requires { ⌜ refusal base (samplesOf (now points) (now values) d «n_bins») (areasOf (now distances) (now semivariances) (now counts)) ≡ 0 ⌝ }
+    ensures { λ r. ⌜ (r ≡ length (keptBins (samplesOf (now (points .entry)) (now (values .entry)) d «n_bins»)))
+        × (areasOf (now (distances .exit)) (now (semivariances .exit)) (now (counts .exit))
+        ≡ filled (samplesOf (now (points .entry)) (now (values .entry)) d «n_bins»)
+        (areasOf (now (distances .entry)) (now (semivariances .entry)) (now (counts .entry)))) ⌝ }
+{
+    let mut squares = [0.0; 1128];
+    let max_sq = all_squares(points, values.len(), d, &mut squares);
+    let max_dist = ieee::sqrt(max_sq);
+    let bin_width = max_dist / std::num::nearest_u64_to_f64(n_bins as u64);
+    let mut lows = [0.0; 64];
+    let mut highs = [0.0; 64];
+    let bounded = bin_bounds(
+        bin_width,
+        n_bins,
+        values.len(),
+        max_sq,
+        &mut lows,
+        &mut highs,
+    );
+    let mut bin_sums = [0.0; 64];
+    let mut bin_counts = [0; 64];
+    add_pairs(
+        points,
+        values,
+        d,
+        n_bins,
+        bin_width,
+        &squares,
+        bounded,
+        &lows,
+        &highs,
+        &mut bin_sums,
+        &mut bin_counts,
+    );
+    write_kept(
+        bin_width,
+        n_bins,
+        &bin_sums,
+        &bin_counts,
+        distances,
+        semivariances,
+        counts,
+    )
 }
 
 // Semivariogram calculator
@@ -60,28 +121,7 @@ impl SemivariogramCalculator {
         if let Judgement::Refused(refusal) = judgement {
             return Semivariogram::Refused(refusal);
         }
-        let max_dist = greatest_distance(points, values.len(), d);
-        let bin_width = max_dist / std::num::nearest_u64_to_f64(n_bins as u64);
-        let mut bin_sums = [0.0; 64];
-        let mut bin_counts = [0; 64];
-        add_pairs(
-            points,
-            values,
-            d,
-            n_bins,
-            bin_width,
-            &mut bin_sums,
-            &mut bin_counts,
-        );
-        let kept = write_kept(
-            bin_width,
-            n_bins,
-            &bin_sums,
-            &bin_counts,
-            distances,
-            semivariances,
-            counts,
-        );
+        let kept = kept_bins(points, values, d, n_bins, distances, semivariances, counts);
         Semivariogram::Bins(kept)
     }
 }

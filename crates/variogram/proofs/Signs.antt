@@ -13,7 +13,7 @@ use Rattle.ieee.proofs.Signs.{difference, square-clear, add-clear, root-clear}
 use Rattle.variogram.specs.Distance.{square, squares, axisFrom, offered, distance}
 use Rattle.variogram.proofs.Distance.{distance-offered}
 
-squares-clear : (a b : ℕ → Float) (k : ℕ) → ((i : ℕ) → i < k → T (finite (a i))) → ((i : ℕ) → i < k → T (finite (b i))) → Signed false (squares a b k)
+pub squares-clear : (a b : ℕ → Float) (k : ℕ) → ((i : ℕ) → i < k → T (finite (a i))) → ((i : ℕ) → i < k → T (finite (b i))) → Signed false (squares a b k)
 unfolding addEach ofBits
 squares-clear a b zero f g = number _ _
 squares-clear a b (suc k) f g =

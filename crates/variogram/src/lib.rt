@@ -105,7 +105,7 @@ fn has_point(p: &[f64], i: usize, d: usize) -> bool
 }
 
 // The squared differences of two points, added by rising axis: the points begin at a and at b.
-fn sum_of_squares(p1: &[f64], a: usize, p2: &[f64], b: usize, d: usize) -> f64
+pub fn sum_of_squares(p1: &[f64], a: usize, p2: &[f64], b: usize, d: usize) -> f64
     requires { ⌜ a + d ≤ length (now p1) ⌝ }
     requires { ⌜ b + d ≤ length (now p2) ⌝ }
     ensures { λ r. ⌜ r ≡ squares (axisFrom (now (p1 .entry)) a) (axisFrom (now (p2 .entry)) b) d ⌝ }

@@ -1,10 +1,12 @@
--- `semivariogram::binning::bin_of` meets its contract: the lesser of the two. Assumes nothing.
+-- `semivariogram::binning::bin_of` meets its contract: the lesser of the two, and the floor changes nothing that the cast gives. Assumes nothing.
 use Prim.Native.Nat.{ℕ, _-_, _≤_, _<_, min}
 use native.Mathlib.Omega.{arith}
-use mathlib.Core.Path.{_≡_, ap, _∙_}
+use mathlib.Core.Path.{_≡_, ap, sym, _∙_}
 use borrow.Author.Needs.{needs}
 use lib.Ieee.{binary64, div, toUnsigned}
+use lib.Ieee.Fits.{div-fits}
 use Rattle.ieee.specs.Floats.{floorOf}
+use Rattle.ieee.proofs.CastOrder.{floor-cast}
 use Rattle.semivariogram.proofs.binning.bin_of.Statement.{statement}
 use Rattle.semivariogram.proofs.binning.bin_of.Tie as tie
 
@@ -12,15 +14,14 @@ use Rattle.semivariogram.proofs.binning.bin_of.Tie as tie
 sub-last : tie.Need-sub-last
 sub-last c = search needs
 
--- let bin = as_usize(ieee::floor(dist / bin_width));
-floor-requires : tie.Need-floor-requires
-floor-requires c κs = search needs
-
+-- let bin = as_usize(dist / bin_width);
 as-usize-requires : tie.Need-as-usize-requires
 as-usize-requires c κs = search needs
 
-bin-is : (c : tie.After-as-usize) → let a = c .before .before .args in c .as-usize .result ≡ toUnsigned 64 (floorOf (div binary64 (a .dist) (a .bin-width)))
-bin-is c = c .as-usize .ensures ∙ ap (toUnsigned 64) (c .before .floor .ensures)
+bin-is : (c : tie.After-as-usize) → let a = c .before .args in c .as-usize .result ≡ toUnsigned 64 (floorOf (div binary64 (a .dist) (a .bin-width)))
+bin-is c =
+    let a = c .before .args in
+    c .as-usize .ensures ∙ sym (floor-cast (div binary64 (a .dist) (a .bin-width)) (div-fits binary64 (a .dist) (a .bin-width)))
 
 lesser : (b n : ℕ) → b < n → b ≡ min b n
 lesser b n h = omega arith
@@ -32,15 +33,15 @@ greater b n h = omega arith
 returns : tie.Need-returns
 returns c =
     let h = c .before in
-    let last : ℕ = h .before .before .args .n-bins - 1 in
+    let last : ℕ = h .before .args .n-bins - 1 in
     lesser (h .as-usize .result) last (c .if1 .taken) ∙ ap (λ (b : ℕ). min b last) (bin-is h)
 
 -- last
 returns-2 : tie.Need-returns-2
 returns-2 c =
     let h = c .before in
-    let last : ℕ = h .before .before .args .n-bins - 1 in
+    let last : ℕ = h .before .args .n-bins - 1 in
     greater (h .as-usize .result) last (c .if1 .left) ∙ ap (λ (b : ℕ). min b last) (bin-is h)
 
 pub bin-of-spec : {M : Type 1} → statement M
-bin-of-spec = tie.close (tie.spec sub-last floor-requires as-usize-requires returns returns-2)
+bin-of-spec = tie.close (tie.spec sub-last as-usize-requires returns returns-2)
