@@ -1,7 +1,8 @@
 // The variogram models, and the distances at which they are evaluated.
 ghost use mathlib.Core.Path.{_≡_};
-ghost use Prim.Native.Nat.{_+_, _≤_};
+ghost use Prim.Native.Nat.{_+_, _≤_, _<_};
 ghost use lib.ListN.{length};
+ghost use lib.Dec.{ltb};
 ghost use lib.Ieee.{nan};
 ghost use Rattle.variogram.specs.Model.{variogram, semivariance};
 ghost use Rattle.variogram.specs.Distance.{squaredDistance2d, distance2d, squares, axisFrom, hasPoint, distance};
@@ -104,8 +105,8 @@ fn has_point(p: &[f64], i: usize, d: usize) -> bool
     i * d + d <= p.len()
 }
 
-// The squared differences of two points, added by rising axis: the points begin at a and at b.
-pub fn sum_of_squares(p1: &[f64], a: usize, p2: &[f64], b: usize, d: usize) -> f64
+// The squared differences of two points, added by rising axis: the points begin at a and at b, and lie in their lists.
+fn sum_axes(p1: &[f64], a: usize, p2: &[f64], b: usize, d: usize) -> f64
     requires { ⌜ a + d ≤ length (now p1) ⌝ }
     requires { ⌜ b + d ≤ length (now p2) ⌝ }
     ensures { λ r. ⌜ r ≡ squares (axisFrom (now (p1 .entry)) a) (axisFrom (now (p2 .entry)) b) d ⌝ }
@@ -118,6 +119,33 @@ pub fn sum_of_squares(p1: &[f64], a: usize, p2: &[f64], b: usize, d: usize) -> f
     dist_sq
 }
 
+// The same for any two places: what is past a list's end is no number, and a sum with none in it is none.
+pub fn sum_of_squares(p1: &[f64], a: usize, p2: &[f64], b: usize, d: usize) -> f64
+    ensures { λ r. ⌜ r ≡ squares (axisFrom (now (p1 .entry)) a) (axisFrom (now (p2 .entry)) b) d ⌝ }
+{
+    if d == 0 {
+        return 0.0;
+    }
+    if past_end(p1.len(), a, d) {
+        return not_a_number();
+    }
+    if past_end(p2.len(), b, d) {
+        return not_a_number();
+    }
+    sum_axes(p1, a, p2, b, d)
+}
+
+// Whether the last of d numbers from a place on lies past the end of a list of `len`.
+fn past_end(len: usize, at: usize, d: usize) -> bool
+    requires { ⌜ 0 < d ⌝ }
+    ensures { λ r. ⌜ r ≡ ltb len (at + d) ⌝ }
+{
+    if d > len {
+        return true;
+    }
+    at > len - d
+}
+
 // The distance of the older calls, from the point i of p1 to the point j of p2: lists of points of d numbers each, row after row.
 // A NaN where d is not 1, 2 or 3, or where one of the points does not lie in its list.
 pub fn calculate_distance(p1: &[f64], i: usize, p2: &[f64], j: usize, d: usize) -> f64
@@ -125,7 +153,7 @@ pub fn calculate_distance(p1: &[f64], i: usize, p2: &[f64], j: usize, d: usize) 
 {
     if has_point(p1, i, d) {
         if has_point(p2, j, d) {
-            return ieee::sqrt(sum_of_squares(p1, i * d, p2, j * d, d));
+            return ieee::sqrt(sum_axes(p1, i * d, p2, j * d, d));
         }
     }
     not_a_number()

@@ -40,15 +40,15 @@ passed c =
       point-within (a .p2 .now) (a .j) (a .d) second,
     )
 
--- return ieee::sqrt(sum_of_squares(p1, i * d, p2, j * d, d));
-mul-sum-of-squares : tie.Need-mul-sum-of-squares
-mul-sum-of-squares c = omega (arith, passed c .1)
+-- return ieee::sqrt(sum_axes(p1, i * d, p2, j * d, d));
+mul-sum-axes : tie.Need-mul-sum-axes
+mul-sum-axes c = omega (arith, passed c .1)
 
-mul-sum-of-squares-2 : tie.Need-mul-sum-of-squares-2
-mul-sum-of-squares-2 c = omega (arith, passed c .2)
+mul-sum-axes-2 : tie.Need-mul-sum-axes-2
+mul-sum-axes-2 c = omega (arith, passed c .2)
 
-sum-of-squares-requires : tie.Need-sum-of-squares-requires
-sum-of-squares-requires c κs = (passed c .1, passed c .2)
+sum-axes-requires : tie.Need-sum-axes-requires
+sum-axes-requires c κs = (passed c .1, passed c .2)
 
 sqrt-requires : tie.Need-sqrt-requires
 sqrt-requires c κs = search needs
@@ -56,7 +56,7 @@ sqrt-requires c κs = search needs
 returns : tie.Need-returns
 returns c =
     let at = c .before .before in
-    c .sqrt .ensures ∙ ap sqrtOf (c .before .sum-of-squares .ensures) ∙ sym (distance-offered _ _ _ _ _ (passed at .0))
+    c .sqrt .ensures ∙ ap sqrtOf (c .before .sum-axes .ensures) ∙ sym (distance-offered _ _ _ _ _ (passed at .0))
 
 -- not_a_number()
 not-a-number-requires : tie.Need-not-a-number-requires
@@ -75,9 +75,9 @@ calculate-distance-spec =
     (tie.spec
     has-point-requires
     has-point-requires-2
-    mul-sum-of-squares
-    mul-sum-of-squares-2
-    sum-of-squares-requires
+    mul-sum-axes
+    mul-sum-axes-2
+    sum-axes-requires
     sqrt-requires
     returns
     not-a-number-requires

@@ -42,7 +42,7 @@ returns c =
     let a = s .args in
     let q = known (a .interpolator) (a .values .now) (a .points .now) (a .d) in
     let whole : 2 * (a .size) * (a .size) ≤ length (second .fill-from-diagonal .last .1 .1 .1 .1 .1 .1 .0) = omega
-        (arith, s .pre .4, first .mirror-row .kept .0, second .fill-from-diagonal .kept .1 .1 .1 .1 .1 .1 .0) in
+    (arith, s .pre .4, first .mirror-row .kept .0, second .fill-from-diagonal .kept .1 .1 .1 .1 .1 .1 .0) in
     row-parts (a .size) (entry q) (a .i) (a .work .now) _ _ _ (s .pre .0)
     (λ j b. s .pre .5 j b ∙ symmetric q j (a .i))
     (first .mirror-row .ensures ∙ mirrored-is (a .size) (a .i) (a .work .now) (has-row (length (a .work .now)) (a .size) (a .i) (s .pre .4) (s .pre .0)))

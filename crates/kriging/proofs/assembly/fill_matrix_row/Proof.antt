@@ -46,11 +46,11 @@ returns c =
     let a = s .args in
     let m = matrix (a .coords .now) (a .options) (a .drift .now) (a .n) (a .p) in
     let whole : 2 * (a .n + a .p) * (a .n + a .p) ≤ length (second .fill-from-diagonal .last .1 .1 .1 .1 .1 .1 .0) = omega
-        (arith, s .pre .3, first .mirror-row .kept .0, second .fill-from-diagonal .kept .1 .1 .1 .1 .1 .1 .0) in
+    (arith, s .pre .3, first .mirror-row .kept .0, second .fill-from-diagonal .kept .1 .1 .1 .1 .1 .1 .0) in
     row-parts (a .n + a .p) m (a .i) (a .work .now) _ _ _ (s .pre .0)
     (λ j b. s .pre .4 j b ∙ matrix-back (a .coords .now) (a .options) (a .drift .now) (a .n) (a .p) j (a .i))
     (first .mirror-row .ensures ∙ mirrored-is (a .n + a .p) (a .i) (a .work .now) (has-row (length (a .work .now)) (a .n + a .p) (a .i) (s .pre .3)
-        (s .pre .0)))
+    (s .pre .0)))
     (second .fill-from-diagonal .ensures)
     (third .identity-row .ensures ∙ identified-is (a .n + a .p) (a .i) _ (has-row _ (a .n + a .p) (a .i) whole (s .pre .0)))
 
