@@ -66,7 +66,7 @@ mul-sum-of-squares-2 : tie.Need-mul-sum-of-squares-2 Inv-loop μ-loop
 mul-sum-of-squares-2 c = omega (arith, rows c .1)
 
 sum-of-squares-requires : tie.Need-sum-of-squares-requires Inv-loop μ-loop
-sum-of-squares-requires c κs = rows c
+sum-of-squares-requires c κs = search needs
 
 mul-squares : tie.Need-mul-squares Inv-loop μ-loop
 mul-squares c = omega (arith, place-inside (c .before))
