@@ -8,6 +8,7 @@ from mapper import bar
 from mapper.built import program
 from mapper.options import parser
 from mapper.tests.support import FOUR, NUMBERS, ROOT, Folder, nakwemol, section
+from mapper.verdicts import verdict_words
 
 SIX = FOUR + 'E,40,130,12.2\nF,130,60,11.1\n'
 GROUND = 'name,x,y,level,Ground\nA,0,0,10,20\nB,100,0,11,22\nC,0,100,12.5,21\nD,90,80,12,25\n'
@@ -57,7 +58,7 @@ class Options(Folder):
         """The scope's case B: 4 with variance 1.5 between 2 and 6."""
         wells, nodes = self.file('name,x,y,level\nA,0,0,2\nB,2,0,6\n'), self.file('name,x,y\n"here, there",1,0\n', 'nodes.csv')
         self.made(wells, '--nodes', nodes, '--nugget', '0', '--sill', '1', '--range', '1', '--regularization', '0', '--tolerance', '0')
-        self.assertEqual((self.folder / 'wells.map.csv').read_text().splitlines()[1], '"here, there",1,0,4,1.5,0,passes the audit')
+        self.assertEqual((self.folder / 'wells.map.csv').read_text().splitlines()[1], f'"here, there",1,0,4,1.5,0,{verdict_words(0, [])}')
 
     def test_grid(self):
         """Four wells from (0, 0) to (100, 100): 5 by 4 nodes with a cell around them are 50 and 100 apart."""

@@ -139,12 +139,6 @@ class Content(unittest.TestCase):
         m.runs = [Run((0.0, 0.0), {0: 8, 255: 1})]
         self.assertIn('1 of 9\u00a0nodes did not pass the audit and has no level.', page(m))
 
-    def test_verdicts_in_words(self):
-        seen = words(page(samples.two_runs()))
-        for phrase in ('The weights do not carry column y to the node within the tolerance.', "The figure's own rounding",
-                       'the figure means nothing', 'Take a simpler trend, or one well in place of several'):
-            self.assertIn(phrase, seen)
-
     def test_notes_and_refusals(self):
         m = samples.crowded()
         seen = words(page(m))
