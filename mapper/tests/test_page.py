@@ -145,6 +145,12 @@ class Content(unittest.TestCase):
         for sentence in m.notes + m.refused:
             self.assertIn(sentence, seen)
 
+    def test_options_are_in_one_piece(self):
+        m = samples.grid_map(4, 4)
+        m.notes, m.refused = ['Taken: --sill 2.'], ['Raise --regularization.']
+        for option in ('--sill', '--regularization'):
+            self.assertIn('<span class="option">%s</span>' % option, page(m))
+
     def test_hatching_only_where_nodes_failed(self):
         failed = re.search(r'<path id="ground-failed" d="([^"]*)"', page(samples.two_runs())).group(1)
         self.assertTrue(failed)
