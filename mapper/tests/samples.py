@@ -101,8 +101,8 @@ def none_passed(**more):
     return grid_map(failed=lambda x, y: 2 if x < EAST + 900 else 3, **more)
 
 
-def large_map(**more):
-    return grid_map(400, 250, failed=some_failed, **more)
+def large_map(columns=400, rows=250, **more):
+    return grid_map(columns, rows, failed=some_failed, **more)
 
 
 def crowded(**more):

@@ -102,6 +102,19 @@ class Options(Folder):
             tables.append((self.folder / 'wells.map.csv').read_bytes())
         self.assertEqual(tables[0], tables[1])
 
+    def test_jobs_are_as_many_as_asked(self):
+        """A program that waits, for a while, until two of it run, and notes how many there are."""
+        listing = 'nodes 100\n' + ''.join(f'{i + 1} 4010000000000000 0000000000000000 0\n' for i in range(100)) + 'coef 0000000000000000\n'
+        runs, many, kept = (self.folder / name for name in ('runs', 'many', 'listing'))
+        runs.mkdir()
+        kept.write_text(listing)
+        self.program(f'cat > /dev/null; : > {runs}/$$; i=0; while [ $i -lt 20 ] && [ $(ls {runs} | wc -l) -lt 2 ]; do sleep 0.02; i=$((i+1)); done\n'
+                     f'ls {runs} | wc -l >> {many}; sleep 0.05; rm {runs}/$$; cat {kept}')
+        for jobs in 1, 2:
+            self.made(self.file(FOUR), *NUMBERS, '--grid', '20x10', '--jobs', jobs)
+            self.assertEqual(max(map(int, many.read_text().split())), jobs)
+            many.unlink()
+
     def test_progress(self):
         with mock.patch.object(bar, 'WAIT', 0.0), mock.patch.object(bar, 'EVERY', 0.0):
             _, _, shown = self.command(self.file(FOUR), *NUMBERS, '--grid', '20x20', '--progress')
@@ -154,8 +167,11 @@ class WrongUse(Folder):
             ((wells, '--jobs', '0'), 'say 1 or more'),
             ((wells, '--origin', 'here'), 'invalid choice'),
             ((wells, '--nodes', wells, '--grid', '2x2'), 'leave one out'),
-            ((wells, '--sheets', 'a', '--listing'), 'leave out --survey and --listing'),
+            ((wells, '--sheets', 'a', '--listing'), 'leave out --survey, --listing'),
+            ((wells, '--sheets', 'a', '--survey', 'b'), 'leave out --survey, --listing'),
+            ((wells, '--sheets', 'a', '--out', 'b'), 'leave out --survey, --listing and --out'),
             ((wells, '--collect', 'a'), 'leave out the list of wells'),
             (('--collect', 'a', '--grid', '2x2'), 'leave out --grid'),
+            (('--collect', 'a', '--trend', 'linear', '--sill', '2', '--listing'), 'leave out --trend, --sill, --listing'),
         ):
             self.assertIn(said, self.refused(*words, status=2), words)
