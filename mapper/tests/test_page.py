@@ -134,9 +134,10 @@ class Content(unittest.TestCase):
                 self.assertRegex(written, r'Drawn: origin moved to \(3.425.000, 5.812.000\)')
 
     def test_a_run_that_was_turned_away(self):
-        m = samples.two_runs()
-        m.runs[0] = Run((0.0, 0.0), {}, 19)
-        self.assertRegex(' '.join(words(page(m)).split()), r'Coordinates as entered refused \(19\) – Origin moved')
+        seen = ' '.join(words(sample_page('turned_away')).split())
+        self.assertRegex(seen, r'Coordinates as entered refused \(19\) – Origin moved')
+        self.assertIn('As entered the map is turned away. Refused (19).', seen)
+        self.assertIn('The model was not fitted to hollow ones', seen)
 
     def test_as_entered_is_written_on_the_map(self):
         self.assertIn('>Drawn: coordinates as entered<', page(samples.grid_map(4, 4)))
