@@ -90,7 +90,7 @@ def frame_numbers(ground, sheet):
 def scale_bar(ground, sheet):
     """A bar of round length, in two halves."""
     metres = 2 * ground.half_width
-    step = round_step(metres, 3.2)
+    step = round_step(metres, 4)  # a quarter to five eighths of the frame, which leaves room for its words and for north
     length = sheet.width * (step / metres)
     x, y = sheet.left, sheet.frame.bottom + FONT * 2.9
     half = '<path d="M%.1f %.1fh%.1fv5h-%.1fz" class="%s"/>'

@@ -4,7 +4,7 @@ from pathlib import Path
 
 from mapper.numbers import shown
 from mapper.stop import Stop
-from mapper.words import verdict
+from mapper.verdicts import verdict_words
 
 HEADER = 'node,x,y,level,variance,verdict,says'
 
@@ -33,10 +33,15 @@ def quoted(text):
     return '"' + text.replace('"', '""') + '"' if any(c in text for c in ',;\t"\r\n') else text
 
 
+def said(verdict, columns):
+    """What the table says of a node."""
+    return verdict_words(verdict, columns) + ('; do not use the figure' if verdict else '')
+
+
 def table(m):
     """The lines of the map's table, a node each. A node that failed has no level: there is none to use."""
     yield (HEADER + '\n').encode()
-    says = {number: quoted(verdict(number, m.columns)) for number in set(m.nodes.verdict)}
+    says = {number: quoted(said(number, m.columns)) for number in set(m.nodes.verdict)}
     nodes = m.nodes
     for i, (x, y, level, variance, number) in enumerate(zip(nodes.x, nodes.y, nodes.level, nodes.variance, nodes.verdict)):
         name = quoted(nodes.names[i]) if nodes.names else str(i + 1)

@@ -117,8 +117,8 @@ def field_of(figures, whole, thin):
 
 
 def dot_radius(count):
-    """The radius of a dot: as large as leaves room between so many, within reason."""
-    return max(4.5, min(15.0, 360 / max(1, count) ** 0.5))
+    """The radius of a dot: as large as leaves room for wells' names between so many, within reason."""
+    return max(4.5, min(15.0, 150 / max(1, count) ** 0.5))
 
 
 def dot_ground(ground, nodes, figures, good, classes):

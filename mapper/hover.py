@@ -30,9 +30,10 @@ def grid_table(m, made):
 
 
 def list_table(m, made):
-    """Every node of a list, or every so many-th of a long one."""
+    """Every node of a list; of a long one a node for every so many: the first of them that failed, else the first."""
     step = max(1, -(-len(m.nodes) // MOST_NODES))
-    numbers = range(0, len(m.nodes), step)
+    blocks = (range(k, min(k + step, len(m.nodes))) for k in range(0, len(m.nodes), step))
+    numbers = [next((n for n in block if m.nodes.verdict[n]), block[0]) for block in blocks]
     return [m.nodes.x[n] for n in numbers], [m.nodes.y[n] for n in numbers], numbers, [m.nodes.verdict[n] for n in numbers], step > 1
 
 

@@ -6,6 +6,7 @@ import re
 from mapper.nodes import MOST
 from mapper.survey_file import CODES, MODELS
 
+BESIDE_COLLECT = ('collect', 'out', 'jobs', 'progress')
 USE = '''map wells.csv [options]
        map wells.csv --sheets DIR [options]
        map --collect DIR'''
@@ -73,7 +74,7 @@ def options(arguments):
     use = parser()
     found = use.parse_args(arguments)
     if found.collect is not None:
-        others = [name for name in ('wells', 'nodes', 'grid', 'external', 'survey', 'sheets') if getattr(found, name) is not None]
+        others = [name for name, value in vars(found).items() if name not in BESIDE_COLLECT and value != use.get_default(name)]
         if others:
             left = ', '.join('the list of wells' if name == 'wells' else '--' + name for name in others)
             use.error(f'--collect DIR takes all of the map from DIR; leave out {left}')
@@ -81,6 +82,6 @@ def options(arguments):
         use.error('name the list of wells, such as samples/valley.csv')
     if found.nodes is not None and found.grid is not None:
         use.error('--nodes and --grid both say where the nodes are; leave one out')
-    if found.sheets is not None and (found.survey is not None or found.listing):
-        use.error('--sheets DIR keeps every survey file and runs none; leave out --survey and --listing')
+    if found.sheets is not None and (found.survey is not None or found.listing or found.out is not None):
+        use.error('--sheets DIR keeps every survey file and runs none; leave out --survey, --listing and --out')
     return found

@@ -1,5 +1,6 @@
 """The page of a map: one HTML file that needs no network and prints on one sheet."""
 import os
+import re
 from html import escape
 
 from mapper.chart import bin_words, chart, model_words
@@ -33,8 +34,13 @@ def headline(m):
     return '<p class="passed-line">%s</p>' % ('The node passed the audit.' if total == 1 else 'All %s passed the audit.' % counted(total, 'node'))
 
 
+def told(sentence):
+    """A sentence as an item of a list; its options are kept in one piece, since a line may else end between their hyphens."""
+    return '<li>%s</li>' % re.sub(r'--[a-z][a-z-]*', r'<span class="option">\g<0></span>', escape(sentence))
+
+
 def notes(m):
-    return '<ul class="notes">%s</ul>' % ''.join('<li>%s</li>' % escape(note) for note in m.notes) if m.notes else ''
+    return '<ul class="notes">%s</ul>' % ''.join(map(told, m.notes)) if m.notes else ''
 
 
 def subtitle(m):
@@ -110,7 +116,7 @@ def section(name, heading, body):
 
 def refused(m):
     """What failed, and what was turned away, with reasons."""
-    sentences = ''.join('<li>%s</li>' % escape(s) for s in m.refused)
+    sentences = ''.join(map(told, m.refused))
     body = verdict_table(m) + ('<ul>%s</ul>' % sentences if sentences else '')
     return section('refused', 'What failed or was refused', body or '<p>Every node passed the audit.</p>')
 

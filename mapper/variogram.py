@@ -71,5 +71,5 @@ def told(variogram, given):
 def source(wells, bins, trend, external):
     """What the bins were worked out on."""
     left = '' if trend == 'constant' and not external else f', on what a {trend} trend{f" with {external}" if external else ""} leaves over'
-    far = '' if all(each.used for each in bins) else f', of which those up to {shown(significant(NEARER * greatest_distance(wells), 3))} were fitted'
+    far = '' if all(each.used for each in bins) else f', of which those up to {shown(significant(NEARER * greatest_distance(wells), 3))} m were fitted'
     return f'The semivariogram has {len(bins)} bins of {len(wells)} wells{left}{far}.'

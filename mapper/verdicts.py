@@ -1,4 +1,4 @@
-"""The audit's verdicts in words, and what to do about each (docs/REFERENCE.md, section 7)."""
+"""The audit's verdicts in words, and what to do about each (docs/REFERENCE.md, section 7): for the page and for the table."""
 
 NOT_FINITE = 255
 
@@ -6,19 +6,16 @@ NOT_FINITE = 255
 def verdict_words(verdict, columns):
     """What a verdict says; `columns` has the words of the audit's rows 1 to p."""
     if verdict == 0:
-        return 'passed the audit'
+        return 'passes the audit'
     if verdict == NOT_FINITE:
-        return 'a number is not finite: the figure means nothing'
-    if verdict <= len(columns):
-        return 'the weights do not carry column %s to the node within the tolerance' % column_words(columns[verdict - 1])
+        return 'no number came out: the figure means nothing'
     if verdict == len(columns) + 1:
-        return "the figure's own rounding is more than the tolerance allows"
-    return 'verdict %d, which this map does not know' % verdict
-
-
-def column_words(column):
-    """A column as it stands in a sentence; the constant one is called by its name."""
-    return '1 (the constant)' if column == '1' else column
+        return 'the level is not the weighted sum of the wells within the tolerance'
+    if verdict > len(columns):
+        return 'not known'
+    # Every trend has the constant as its first column; a further column that is headed 1 is none.
+    missed = 'add up to one' if verdict == 1 else 'carry %s to the node' % columns[verdict - 1]
+    return 'the weights do not %s within the tolerance' % missed
 
 
 PLACE_COLUMNS = ('x', 'y', 'x²', 'xy', 'y²')

@@ -1,4 +1,4 @@
-"""Words for every refusal and every verdict, for the driller: what is wrong, and what to do. Numbers are those of docs/REFERENCE.md, sections 7 and 8."""
+"""Words for every refusal, for the driller: what is wrong, and what to do. Numbers are those of docs/REFERENCE.md, section 8."""
 from mapper.numbers import counted
 from mapper.survey_file import DRIFT, NODES, WELLS, columns
 from mapper.wells import shared_spots
@@ -55,17 +55,3 @@ def unsettled(wells, trend, external):
     if causes:
         return f'No two wells share a spot; look for {" or ".join(causes)}, and choose a simpler trend.'
     return 'No two wells share a spot; look at --sill and --nugget, which may be too small to tell wells apart, or raise --regularization.'
-
-
-def verdict(number, columns):
-    """What a verdict says of its node. `columns` are the map's."""
-    if number == 0:
-        return 'passes the audit'
-    if number == 255:
-        return 'no number came out; do not use the figure'
-    if number == len(columns) + 1:
-        return 'the level is not the weighted sum of the wells, within the tolerance; do not use the figure'
-    if number > len(columns):
-        return 'not known; do not use the figure'
-    missed = 'add up to one' if columns[number - 1] == '1' else f'carry {columns[number - 1]} to the node'
-    return f'the weights do not {missed}, within the tolerance; do not use the figure'

@@ -9,6 +9,7 @@ import sys
 from array import array
 
 from mapper.model import Bin, Grid, Map, Nodes, Run, Variogram, Well
+from mapper.words import refusal
 
 EAST, NORTH = 3425000.0, 5812000.0
 
@@ -89,6 +90,18 @@ def two_runs(**more):
     return m
 
 
+def turned_away(**more):
+    """A map that was refused as entered and drawn moved, with bins that were not fitted."""
+    m = two_runs(**more)
+    m.runs[0] = Run((0.0, 0.0), {}, 19)
+    for far in m.bins[7:]:
+        far.used = False
+    m.notes = ['With coordinates as entered the map is refused by 19; with the origin moved to (3425000, 5812000) 1,157 of 1,200 nodes pass; '
+               'the map is drawn with the origin moved.']
+    m.refused = ['As entered the map is turned away. %s' % refusal(19, m.wells, m.trend)]
+    return m
+
+
 def list_map(count=60, **more):
     rng = random.Random(3)
     xs = [EAST + rng.random() * 2000 for _ in range(count)]
@@ -101,8 +114,8 @@ def none_passed(**more):
     return grid_map(failed=lambda x, y: 2 if x < EAST + 900 else 3, **more)
 
 
-def large_map(**more):
-    return grid_map(400, 250, failed=some_failed, **more)
+def large_map(columns=400, rows=250, **more):
+    return grid_map(columns, rows, failed=some_failed, **more)
 
 
 def crowded(**more):
@@ -123,7 +136,8 @@ def tall_map(**more):
     return grid_map(8, 40, wells=3, width=300.0, height=1500.0, **more)
 
 
-SAMPLES = {'crowded': crowded, 'tall': tall_map, 'plain': grid_map, 'two_runs': two_runs, 'list': list_map, 'none': none_passed, 'large': large_map}
+SAMPLES = {'crowded': crowded, 'tall': tall_map, 'plain': grid_map, 'two_runs': two_runs, 'turned_away': turned_away, 'list': list_map,
+           'none': none_passed, 'large': large_map}
 
 
 def write_pages(folder):

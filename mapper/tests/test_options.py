@@ -8,6 +8,7 @@ from mapper import bar
 from mapper.built import program
 from mapper.options import parser
 from mapper.tests.support import FOUR, NUMBERS, ROOT, Folder, nakwemol, section
+from mapper.verdicts import verdict_words
 
 SIX = FOUR + 'E,40,130,12.2\nF,130,60,11.1\n'
 GROUND = 'name,x,y,level,Ground\nA,0,0,10,20\nB,100,0,11,22\nC,0,100,12.5,21\nD,90,80,12,25\n'
@@ -57,7 +58,7 @@ class Options(Folder):
         """The scope's case B: 4 with variance 1.5 between 2 and 6."""
         wells, nodes = self.file('name,x,y,level\nA,0,0,2\nB,2,0,6\n'), self.file('name,x,y\n"here, there",1,0\n', 'nodes.csv')
         self.made(wells, '--nodes', nodes, '--nugget', '0', '--sill', '1', '--range', '1', '--regularization', '0', '--tolerance', '0')
-        self.assertEqual((self.folder / 'wells.map.csv').read_text().splitlines()[1], '"here, there",1,0,4,1.5,0,passes the audit')
+        self.assertEqual((self.folder / 'wells.map.csv').read_text().splitlines()[1], f'"here, there",1,0,4,1.5,0,{verdict_words(0, [])}')
 
     def test_grid(self):
         """Four wells from (0, 0) to (100, 100): 5 by 4 nodes with a cell around them are 50 and 100 apart."""
@@ -100,6 +101,19 @@ class Options(Folder):
             self.made(self.file(FOUR), *NUMBERS, '--grid', '30x30', '--jobs', jobs)
             tables.append((self.folder / 'wells.map.csv').read_bytes())
         self.assertEqual(tables[0], tables[1])
+
+    def test_jobs_are_as_many_as_asked(self):
+        """A program that waits, for a while, until two of it run, and notes how many there are."""
+        listing = 'nodes 100\n' + ''.join(f'{i + 1} 4010000000000000 0000000000000000 0\n' for i in range(100)) + 'coef 0000000000000000\n'
+        runs, many, kept = (self.folder / name for name in ('runs', 'many', 'listing'))
+        runs.mkdir()
+        kept.write_text(listing)
+        self.program(f'cat > /dev/null; : > {runs}/$$; i=0; while [ $i -lt 20 ] && [ $(ls {runs} | wc -l) -lt 2 ]; do sleep 0.02; i=$((i+1)); done\n'
+                     f'ls {runs} | wc -l >> {many}; sleep 0.05; rm {runs}/$$; cat {kept}')
+        for jobs in 1, 2:
+            self.made(self.file(FOUR), *NUMBERS, '--grid', '20x10', '--jobs', jobs)
+            self.assertEqual(max(map(int, many.read_text().split())), jobs)
+            many.unlink()
 
     def test_progress(self):
         with mock.patch.object(bar, 'WAIT', 0.0), mock.patch.object(bar, 'EVERY', 0.0):
@@ -153,8 +167,11 @@ class WrongUse(Folder):
             ((wells, '--jobs', '0'), 'say 1 or more'),
             ((wells, '--origin', 'here'), 'invalid choice'),
             ((wells, '--nodes', wells, '--grid', '2x2'), 'leave one out'),
-            ((wells, '--sheets', 'a', '--listing'), 'leave out --survey and --listing'),
+            ((wells, '--sheets', 'a', '--listing'), 'leave out --survey, --listing'),
+            ((wells, '--sheets', 'a', '--survey', 'b'), 'leave out --survey, --listing'),
+            ((wells, '--sheets', 'a', '--out', 'b'), 'leave out --survey, --listing and --out'),
             ((wells, '--collect', 'a'), 'leave out the list of wells'),
             (('--collect', 'a', '--grid', '2x2'), 'leave out --grid'),
+            (('--collect', 'a', '--trend', 'linear', '--sill', '2', '--listing'), 'leave out --trend, --sill, --listing'),
         ):
             self.assertIn(said, self.refused(*words, status=2), words)

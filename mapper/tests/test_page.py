@@ -2,13 +2,16 @@
 import re
 import unittest
 import xml.etree.ElementTree as ElementTree
+from functools import lru_cache
 from html import unescape
 from html.parser import HTMLParser
 
 from mapper.model import Run
 from mapper.page import page
 from mapper.tests import samples
+from mapper.thinning import MOST_NODES
 
+LEAST_LARGE = 160, 100  # over MOST_NODES, so a picture and thinned hovering, and no larger than that needs
 SVG = '{http://www.w3.org/2000/svg}'
 ALONE = {'meta', 'input', 'br', 'link', 'img', 'hr'}  # elements without an end
 
@@ -32,6 +35,12 @@ class Balance(HTMLParser):
             self.wrong.append(tag)
 
 
+@lru_cache(maxsize=None)
+def sample_page(name):
+    """The page of a sample that no test changes."""
+    return page(samples.large_map(*LEAST_LARGE) if name == 'large' else samples.SAMPLES[name]())
+
+
 def drawings(text):
     """Every SVG of a page, parsed."""
     return [ElementTree.fromstring(one) for one in re.findall(r'<svg\b.*?</svg>', text, re.S)]
@@ -44,9 +53,10 @@ def words(text):
 
 class Whole(unittest.TestCase):
     def test_every_sample_is_well_formed(self):
-        for name, make in samples.SAMPLES.items():
+        self.assertGreater(LEAST_LARGE[0] * LEAST_LARGE[1], MOST_NODES)
+        for name in samples.SAMPLES:
             with self.subTest(name):
-                text = page(make())
+                text = sample_page(name)
                 reader = Balance()
                 reader.feed(text)
                 self.assertEqual((reader.open, reader.wrong), ([], []))
@@ -54,19 +64,19 @@ class Whole(unittest.TestCase):
 
     def test_needs_no_network(self):
         for name in ('two_runs', 'large'):
-            text = page(samples.SAMPLES[name]())
+            text = sample_page(name)
             self.assertEqual(set(re.findall(r'https?://[^"\s]*', text)), {'http://www.w3.org/2000/svg'})
             self.assertEqual(re.findall(r'(?:src|href)="(?!#|data:image/png)[^"]*"|url\((?!#)[^)]*\)|@import', text), [])
 
     def test_ids_are_there_once(self):
-        text = page(samples.two_runs())
+        text = sample_page('two_runs')
         ids = re.findall(r'\bid="([^"]*)"', text)
         self.assertEqual(len(ids), len(set(ids)))
         for used in re.findall(r'href="#([^"]*)"|url\(#([^)]*)\)|for="([^"]*)"', text):
             self.assertIn(''.join(used), ids)
 
     def test_language_and_names_of_pictures(self):
-        text = page(samples.two_runs())
+        text = sample_page('two_runs')
         self.assertIn('<html lang="en">', text)
         for drawing in drawings(text):
             if drawing.get('role') == 'img':
@@ -76,7 +86,7 @@ class Whole(unittest.TestCase):
 
 class Content(unittest.TestCase):
     def test_failed_nodes_have_no_level_anywhere(self):
-        for make in (samples.two_runs, samples.list_map, samples.none_passed, samples.large_map):
+        for make in (samples.two_runs, samples.list_map, samples.none_passed, lambda: samples.large_map(*LEAST_LARGE)):
             pages = []
             for level, variance in ((7777.25, 5555.5 ** 2), (-3.0, 0.0)):
                 m = make()
@@ -94,7 +104,7 @@ class Content(unittest.TestCase):
 
     def test_every_well_is_named(self):
         m = samples.crowded()
-        seen = words(page(m))
+        seen = words(sample_page('crowded'))
         for well in m.wells:
             self.assertIn(well.name, seen)
 
@@ -114,7 +124,7 @@ class Content(unittest.TestCase):
         self.assertIn('&lt;i&gt;note&lt;/i&gt;', text)
 
     def test_both_counts_and_which_is_drawn(self):
-        text = page(samples.two_runs())
+        text = sample_page('two_runs')
         seen = ' '.join(words(text).split())
         self.assertRegex(seen, r'Coordinates as entered 0 1,200')
         self.assertRegex(seen, r'Origin moved to \(3.425.000, 5.812.000\) \(drawn\) 1,157 43')
@@ -124,35 +134,36 @@ class Content(unittest.TestCase):
                 self.assertRegex(written, r'Drawn: origin moved to \(3.425.000, 5.812.000\)')
 
     def test_a_run_that_was_turned_away(self):
-        m = samples.two_runs()
-        m.runs[0] = Run((0.0, 0.0), {}, 19)
-        self.assertRegex(' '.join(words(page(m)).split()), r'Coordinates as entered refused \(19\) – Origin moved')
+        seen = ' '.join(words(sample_page('turned_away')).split())
+        self.assertRegex(seen, r'Coordinates as entered refused \(19\) – Origin moved')
+        self.assertIn('As entered the map is turned away. Refused (19).', seen)
+        self.assertIn('The model was not fitted to hollow ones', seen)
 
     def test_as_entered_is_written_on_the_map(self):
         self.assertIn('>Drawn: coordinates as entered<', page(samples.grid_map(4, 4)))
 
     def test_headline(self):
-        self.assertIn('43 of 1,200\u00a0nodes did not pass the audit and have no level.', page(samples.two_runs()))
-        self.assertIn('All 1,200\u00a0nodes passed the audit.', page(samples.grid_map()))
+        self.assertIn('43 of 1,200\u00a0nodes did not pass the audit and have no level.', sample_page('two_runs'))
+        self.assertIn('All 1,200\u00a0nodes passed the audit.', sample_page('plain'))
         m = samples.grid_map(3, 3)
         m.nodes.verdict[4] = 255
         m.runs = [Run((0.0, 0.0), {0: 8, 255: 1})]
         self.assertIn('1 of 9\u00a0nodes did not pass the audit and has no level.', page(m))
 
-    def test_verdicts_in_words(self):
-        seen = words(page(samples.two_runs()))
-        for phrase in ('The weights do not carry column y to the node within the tolerance.', "The figure's own rounding",
-                       'the figure means nothing', 'Take a simpler trend, or one well in place of several'):
-            self.assertIn(phrase, seen)
-
     def test_notes_and_refusals(self):
         m = samples.crowded()
-        seen = words(page(m))
+        seen = words(sample_page('crowded'))
         for sentence in m.notes + m.refused:
             self.assertIn(sentence, seen)
 
+    def test_options_are_in_one_piece(self):
+        m = samples.grid_map(4, 4)
+        m.notes, m.refused = ['Taken: --sill 2.'], ['Raise --regularization.']
+        for option in ('--sill', '--regularization'):
+            self.assertIn('<span class="option">%s</span>' % option, page(m))
+
     def test_hatching_only_where_nodes_failed(self):
-        failed = re.search(r'<path id="ground-failed" d="([^"]*)"', page(samples.two_runs())).group(1)
+        failed = re.search(r'<path id="ground-failed" d="([^"]*)"', sample_page('two_runs')).group(1)
         self.assertTrue(failed)
         self.assertIn('<path id="ground-failed" d=""/>', page(samples.grid_map(5, 5)))
 

@@ -129,7 +129,7 @@ class Degenerate(unittest.TestCase):
         for variogram in (Variogram('linear', 0.0, 1.0, 0.0, False), Variogram('spherical', 0.0, 0.0, 0.0, False),
                           Variogram('spherical', 2.0, 1.0, -5.0, False), Variogram('linear', 0.0, 1e308, 1e-300, False)):
             for bins in ([], samples.made_bins(samples.made_wells(5))):
-                m = samples.grid_map(3, 3)
+                m = samples.grid_map(3, 3, wells=4)
                 m.variogram, m.bins = variogram, bins
                 self.sound(m)
 
@@ -137,7 +137,7 @@ class Degenerate(unittest.TestCase):
         m = samples.grid_map(3, 3)
         m.nodes.verdict[0] = 77
         m.runs = [Run((0.0, 0.0), {0: 8, 77: 1})]
-        self.assertIn('verdict 77', self.sound(m))
+        self.assertIn('<td class="n">77</td>', self.sound(m))
 
     def test_long_names(self):
         m = samples.grid_map(4, 4, wells=6)

@@ -1,5 +1,6 @@
 """Large maps: a picture instead of shapes, few enough bytes, and no failure lost."""
 import base64
+import json
 import re
 import struct
 import unittest
@@ -62,7 +63,10 @@ class Large(unittest.TestCase):
         self.assertEqual(len(pictures(text)), 2)
 
     def test_a_long_list(self):
-        text = page(samples.list_map(20000))
+        m = samples.list_map(15100)
+        m.nodes.verdict[0], m.nodes.verdict[1] = 0, 9  # the second of two that hovering tells as one
+        text = page(m)
+        self.assertEqual(json.loads(re.search(r'id="told">(.*?)</script>', text).group(1))['level'][0], '!9')
         self.assertLess(len(text.encode('utf-8')), 3000000)
         self.assertEqual(len(pictures(text)), 2)
         self.assertIn('the table file has every node', text)

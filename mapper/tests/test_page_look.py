@@ -26,6 +26,11 @@ class Look(unittest.TestCase):
         self.assertEqual(made.stderr.decode().splitlines(),
                          ['Chromium is not there. Debian has it: apt-get install chromium (or give --install).'])
 
+    def test_a_picture_is_of_one_page(self):
+        made = subprocess.run([sys.executable, LOOK, 'a.html', 'b.html', '--picture', 'c.png'], stderr=subprocess.PIPE, stdout=subprocess.PIPE)
+        self.assertEqual(made.returncode, 2)
+        self.assertIn(b'--picture is for one page', made.stderr)
+
     def test_sheets_are_counted(self):
         with tempfile.TemporaryDirectory() as folder:
             name = os.path.join(folder, 'two.pdf')

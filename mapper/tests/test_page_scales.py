@@ -9,7 +9,6 @@ from mapper.model import Run, Variogram
 from mapper.scales import alike, counted, decimals, fixed, length_words, plain, round_step, ticks
 from mapper.tables import area_words, level_range, node_words, origin_words
 from mapper.tests import samples
-from mapper.verdicts import verdict_advice, verdict_words
 
 
 class Steps(unittest.TestCase):
@@ -118,30 +117,6 @@ class Chart(unittest.TestCase):
         m.bins[-1].used = m.bins[-2].used = False
         self.assertEqual(chart(m).count('class="bin unused"'), 2)
         self.assertIn('hollow', bin_words(m))
-
-
-class Verdicts(unittest.TestCase):
-    COLUMNS = ['1', 'x', 'y', 'surface']
-
-    def test_words(self):
-        self.assertEqual(verdict_words(0, self.COLUMNS), 'passed the audit')
-        self.assertEqual(verdict_words(3, self.COLUMNS), 'the weights do not carry column y to the node within the tolerance')
-        self.assertIn('column surface', verdict_words(4, self.COLUMNS))
-        self.assertIn('rounding', verdict_words(5, self.COLUMNS))
-        self.assertIn('means nothing', verdict_words(255, self.COLUMNS))
-        self.assertIn('6', verdict_words(6, self.COLUMNS))
-
-    def test_every_failure_has_something_to_do(self):
-        self.assertEqual(verdict_advice(0, self.COLUMNS), '')
-        said = {verdict_advice(v, self.COLUMNS) for v in (3, 4, 5, 6, 255)}
-        self.assertEqual(len(said), 5)
-        self.assertNotIn('', said)
-
-    def test_the_origin_is_moved_once(self):
-        for verdict in (1, 2, 3):
-            self.assertIn('round corner', verdict_advice(verdict, self.COLUMNS))
-            self.assertNotIn('round corner', verdict_advice(verdict, self.COLUMNS, moved=True))
-        self.assertNotIn('round corner', verdict_advice(1, ['1']))
 
 
 if __name__ == '__main__':

@@ -1,11 +1,10 @@
-"""There are words for every refusal and every verdict, and they say what these wells have to do with it."""
+"""There are words for every refusal, and they say what these wells have to do with it."""
 import re
 import unittest
 
 from mapper.model import Well
-from mapper.survey_file import columns
 from mapper.tests.support import section
-from mapper.words import REFUSALS, refusal, verdict
+from mapper.words import REFUSALS, refusal
 
 
 def some(count):
@@ -43,15 +42,3 @@ class Words(unittest.TestCase):
 
     def test_number_that_nobody_knows(self):
         self.assertIn('not known', refusal(77))
-
-    def test_verdicts(self):
-        rows = columns('quadratic', 'ground')
-        self.assertEqual(rows, ['1', 'x', 'y', 'x²', 'xy', 'y²', 'ground'])
-        self.assertEqual(verdict(0, rows), 'passes the audit')
-        self.assertIn('do not add up to one', verdict(1, rows))
-        self.assertIn('do not carry xy to the node', verdict(5, rows))
-        self.assertIn('do not carry ground to the node', verdict(7, rows))
-        self.assertIn('weighted sum', verdict(8, rows))
-        self.assertIn('no number came out', verdict(255, rows))
-        for number in (*range(1, 9), 255):
-            self.assertIn('do not use the figure', verdict(number, rows))
