@@ -8,7 +8,7 @@ SIZES = [(12, 1, 25), (24, 1, 100), (24, 6, 100), (48, 1, 100), (48, 6, 100)]
 ZEROS = ("stopped", "near", "one-place")
 KINDS = ("whole", "first-row", "exact", "refused", *ZEROS)
 RUNS = {"original": "bench::kriging::original::Fit::run", "port": "bench::port::Fit::run"}
-NAMED = {"original": ["gauss_jordan_invert_uked"], "port": ["elimination::eliminate", "audit::row_met", "exact::add_products"]}
+NAMED = {"original": ["gauss_jordan_invert_uked"], "port": ["elimination::eliminate", "solution::fill_z", "audit::row_met"]}
 
 
 def profiled(program, out, side, words):
