@@ -46,7 +46,7 @@ fn high_bound(square: f64, b: usize, bin_width: f64, n_bins: usize) -> f64
 }
 
 // The bounds of the bins, and how many bins have them. Below the first and above the last there is no other: the one begins at 0, and the other ends
-// at the greatest. Bounds take two roots a bin and a look at each for every pair, so with as many bins as samples or more they save none.
+// at the greatest. Bounds take two roots a bin and a look at each for every pair, so with twice as many bins as samples they save none.
 pub(crate) fn bin_bounds(
     bin_width: f64,
     n_bins: usize,
@@ -58,7 +58,7 @@ pub(crate) fn bin_bounds(
     requires { ⌜ (1 ≤ «n_bins») × («n_bins» ≤ length (now lows)) × («n_bins» ≤ length (now highs)) × Signed false «bin_width» ⌝ }
     ensures { λ r. ⌜ (r ≤ «n_bins») × Bounds «bin_width» «n_bins» r (now (lows .exit)) (now (highs .exit)) ⌝ }
 {
-    if n_bins >= n {
+    if n_bins / 2 >= n {
         return 0;
     }
     lows[0] = 0.0;

@@ -93,7 +93,8 @@ loop-again c =
       omega arith,
       simp length-set (simp length-set at (v .2)),
       simp length-set (v .3),
-      next-set (IsLow w n) (l .loop .b) (l .loop .lows) (c .before .low-bound .result) (omega (arith, lows-long l, s .pre .1)) (c .before .low-bound .ensures) (v .4),
+      next-set (IsLow w n) (l .loop .b) (l .loop .lows) (c .before .low-bound .result) (omega (arith, lows-long l, s .pre .1))
+          (c .before .low-bound .ensures) (v .4),
       λ k h. next-set (IsHigh w n) (l .loop .b - 1) (l .loop .highs) (c .high-bound .result) (omega (arith, v .3, s .pre .2)) (c .high-bound .ensures) (v .5) k
           (omega arith),
     )
