@@ -35,11 +35,23 @@ at-start c = at-entry (at-squares c .before)
 abbrev at-width : tie.After-highs → tie.After-nearest-u64-to-f64
 at-width c = c .before .before
 
+abbrev bounds-home : tie.After-highs2 → tie.After-bin-bounds
+bounds-home c = c .before .before
+
+abbrev lists-lent : tie.After-highs3 → tie.After-highs2
+lists-lent c = c .before .before .before
+
 abbrev at-bounds : tie.After-bin-counts → tie.After-bin-bounds
-at-bounds c = let d = c .before .before .before .before in d .before .before .before
+at-bounds c = bounds-home (lists-lent (c .before .before))
+
+abbrev sums-home : tie.After-bin-counts2 → tie.After-add-pairs
+sums-home c = c .before .before
+
+abbrev sums-lent : tie.After-bin-counts3 → tie.After-bin-counts2
+sums-lent c = c .before .before
 
 abbrev at-added : tie.After-write-kept-arg3 → tie.After-add-pairs
-at-added c = let d = c .before .before .before .before in d .before .before .before
+at-added c = sums-home (sums-lent (c .before .before .before))
 
 abbrev at-written : tie.After-slice-known6 → tie.After-write-kept
 at-written c = let d = c .before .before .before in d .before .before .before

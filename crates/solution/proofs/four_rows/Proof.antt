@@ -22,6 +22,25 @@ abbrev μ-loop : tie.MeasureT-loop
 abbrev State : (tie.InvT-loop → tie.MeasureT-loop → Type 0) → Type 0
 State S = S Inv-loop μ-loop
 
+-- The states that the needs look back to, in the order of the code: past the read of each row, back to that of b; and from there to the function's entry.
+abbrev at-loop : State tie.After-shared-slice-known → State tie.At-loop
+at-loop c = c .before .before
+
+abbrev at-entry : State tie.After-shared-slice-known → State tie.Start
+at-entry c = at-loop c .before
+
+abbrev past-first : State tie.After-shared-slice-known2 → State tie.After-shared-slice-known
+past-first c = c .before
+
+abbrev past-second : State tie.After-shared-slice-known3 → State tie.After-shared-slice-known
+past-second c = past-first (c .before)
+
+abbrev past-third : State tie.After-shared-slice-known4 → State tie.After-shared-slice-known
+past-third c = past-second (c .before)
+
+abbrev past-fourth : State tie.After-shared-slice-known5 → State tie.After-shared-slice-known
+past-fourth c = past-third (c .before)
+
 -- the last of the four rows lies inside the work area, and so do those above it
 inside : (c : State tie.Start) → let a = c .args in (a .i + 3) * (2 * a .size) + 2 * a .size ≤ length (a .work .now)
 inside c = let a = c .args in row-inside (a .size) (a .i + 3) (length (a .work .now)) (c .pre .0) (c .pre .1)
@@ -64,51 +83,51 @@ shared-slice-read-x c = omega arith
 
 -- src/lib.rt:40:23
 add-first : tie.Need-add-first Inv-loop μ-loop
-add-first c = omega (arith, inside (c .before .before .before))
+add-first c = omega (arith, inside (at-entry c))
 
 -- src/lib.rt:40:18
 mul-first : tie.Need-mul-first Inv-loop μ-loop
-mul-first c = omega (arith, inside (c .before .before .before))
+mul-first c = omega (arith, inside (at-entry c))
 
 -- src/lib.rt:40:18
 shared-slice-read-first : tie.Need-shared-slice-read-first Inv-loop μ-loop
-shared-slice-read-first c = omega (arith, inside (c .before .before .before .before))
+shared-slice-read-first c = omega (arith, inside (at-entry (past-first c)))
 
 -- src/lib.rt:41:24
 add-second : tie.Need-add-second Inv-loop μ-loop
-add-second c = omega (arith, inside (c .before .before .before .before))
+add-second c = omega (arith, inside (at-entry (past-first c)))
 
 -- src/lib.rt:41:19
 mul-second : tie.Need-mul-second Inv-loop μ-loop
-mul-second c = omega (arith, inside (c .before .before .before .before))
+mul-second c = omega (arith, inside (at-entry (past-first c)))
 
 -- src/lib.rt:41:19
 shared-slice-read-second : tie.Need-shared-slice-read-second Inv-loop μ-loop
-shared-slice-read-second c = omega (arith, inside (c .before .before .before .before .before))
+shared-slice-read-second c = omega (arith, inside (at-entry (past-second c)))
 
 -- src/lib.rt:42:23
 add-third : tie.Need-add-third Inv-loop μ-loop
-add-third c = omega (arith, inside (c .before .before .before .before .before))
+add-third c = omega (arith, inside (at-entry (past-second c)))
 
 -- src/lib.rt:42:18
 mul-third : tie.Need-mul-third Inv-loop μ-loop
-mul-third c = omega (arith, inside (c .before .before .before .before .before))
+mul-third c = omega (arith, inside (at-entry (past-second c)))
 
 -- src/lib.rt:42:18
 shared-slice-read-third : tie.Need-shared-slice-read-third Inv-loop μ-loop
-shared-slice-read-third c = omega (arith, inside (c .before .before .before .before .before .before))
+shared-slice-read-third c = omega (arith, inside (at-entry (past-third c)))
 
 -- src/lib.rt:43:24
 add-fourth : tie.Need-add-fourth Inv-loop μ-loop
-add-fourth c = omega (arith, inside (c .before .before .before .before .before .before))
+add-fourth c = omega (arith, inside (at-entry (past-third c)))
 
 -- src/lib.rt:43:19
 mul-fourth : tie.Need-mul-fourth Inv-loop μ-loop
-mul-fourth c = omega (arith, inside (c .before .before .before .before .before .before))
+mul-fourth c = omega (arith, inside (at-entry (past-third c)))
 
 -- src/lib.rt:43:19
 shared-slice-read-fourth : tie.Need-shared-slice-read-fourth Inv-loop μ-loop
-shared-slice-read-fourth c = omega (arith, inside (c .before .before .before .before .before .before .before))
+shared-slice-read-fourth c = omega (arith, inside (at-entry (past-fourth c)))
 
 -- src/lib.rt:38:9
 add-j : tie.Need-add-j Inv-loop μ-loop
@@ -121,7 +140,7 @@ loop-less c = omega arith
 -- src/lib.rt:38:5
 loop-again : tie.Need-loop-again Inv-loop μ-loop
 loop-again c =
-    let g = c .before .before .before .before .before .before in
+    let g = at-loop (past-fourth c) in
     let a = g .before .args in
     let l = g .loop in
     let turn = term-turn (a .size) (a .work .now) (a .b .now) in (

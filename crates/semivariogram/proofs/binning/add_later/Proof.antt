@@ -35,8 +35,14 @@ abbrev State : (tie.InvT-loop → tie.MeasureT-loop → Type 0) → Type 0
 State S = S Inv-loop μ-loop
 
 -- The states that the needs look back to: a name takes a later state back to its own.
+abbrev known-samples : State tie.After-shared-slice-known2 → State tie.Start
+known-samples c = c .before .before
+
+abbrev known-bounds : State tie.After-shared-slice-known5 → State tie.Start
+known-bounds c = known-samples (c .before .before .before)
+
 abbrev known-lists : State tie.After-slice-known2 → State tie.Start
-known-lists c = let d = c .before .before .before in d .before .before .before .before
+known-lists c = known-bounds (c .before .before)
 
 abbrev at-entry : State tie.At-loop → State tie.Start
 at-entry c = known-lists (c .before)
