@@ -69,7 +69,8 @@ pub fn too_short(len: usize, size: usize) -> bool
     len / 2 / size < size
 }
 
-// The row from `i` down whose entry in column `i` has the greatest magnitude. Of equal ones the upper is kept. A NaN in row `i` is kept, and one below is never taken.
+// The row from `i` down whose entry in column `i` has the greatest magnitude. Of equal ones the upper is kept. A NaN in row `i` is kept,
+// and one below is never taken.
 fn find_pivot(work: &[f64], size: usize, i: usize) -> usize
     requires { ⌜ (i < size) × (2 * size * size ≤ length (now work)) ⌝ }
     ensures { λ r. ⌜ r ≡ hold size i (now (work .entry)) ⌝ }

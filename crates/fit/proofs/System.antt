@@ -1,4 +1,5 @@
--- The assembled matrix is the kriging system's, entry by entry, beside the identity; its right-hand side and its variance are the node's; and it is symmetric, bit for bit. Assumes nothing.
+-- The assembled matrix is the kriging system's, entry by entry, beside the identity; its right-hand side and its variance are the node's;
+-- and it is symmetric, bit for bit. Assumes nothing.
 use Prim.Native.Nat.{ℕ, _+_, _-_, _*_, _<_, _≤_}
 use native.Mathlib.Decide.{decLt, ℕ-discrete}
 use native.Mathlib.Omega.{arith}

@@ -40,7 +40,8 @@ fn fill_right_hand(
         × (q * k + k ≤ length (now «node_external»)) × (n + columnSum (now bases) ≤ length (now b)) ⌝ }
     ensures { λ _. ⌜ take (n + columnSum (now (bases .entry))) (now (b .exit))
         ≡ rightHandOf n (gammaTo variogram (now (coords .entry)) (xOf (now (nodes .entry)) q) (yOf (now (nodes .entry)) q))
-        (driftRow (now (bases .entry)) (xOf (now (nodes .entry)) q) (yOf (now (nodes .entry)) q) (λ c. getD (now («node_external» .entry)) (q * k + c) nan) 0) ⌝ }
+        (driftRow (now (bases .entry)) (xOf (now (nodes .entry)) q) (yOf (now (nodes .entry)) q)
+        (λ c. getD (now («node_external» .entry)) (q * k + c) nan) 0) ⌝ }
 {
     let x = nodes[2 * q];
     let y = nodes[2 * q + 1];

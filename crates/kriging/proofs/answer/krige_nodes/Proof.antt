@@ -18,7 +18,8 @@ use Rattle.kriging.proofs.answer.krige_nodes.Statement.{statement}
 use Rattle.kriging.proofs.answer.krige_nodes.Tie as tie
 
 abbrev Inv-loop : tie.InvT-loop
-Inv-loop values coords bases options nodes node-external tolerance drift p work predicted₀ variance₀ verdicts₀ weights₀ coefficients₀ n size k finite-drift q₀ q-end predicted variance verdicts weights coefficients q =
+Inv-loop values coords bases options nodes node-external tolerance drift p work predicted₀ variance₀ verdicts₀ weights₀ coefficients₀
+    n size k finite-drift q₀ q-end predicted variance verdicts weights coefficients q =
     (q ≤ q-end) × (q-end ≡ length nodes / 2) × (n ≡ length values) × (size ≡ n + p) × (k ≡ externalCount bases)
     × (finite-drift ≡ driftFinite n p (entryIn drift p))
     × (length predicted ≡ length predicted₀) × (length variance ≡ length variance₀) × (length verdicts ≡ length verdicts₀)
@@ -29,7 +30,8 @@ Inv-loop values coords bases options nodes node-external tolerance drift p work 
     (areasOf work predicted variance verdicts weights coefficients))
 
 abbrev μ-loop : tie.MeasureT-loop
-μ-loop values coords bases options nodes node-external tolerance drift p work predicted₀ variance₀ verdicts₀ weights₀ coefficients₀ n size k finite-drift q₀ q-end predicted variance verdicts weights coefficients q = q-end - q
+μ-loop values coords bases options nodes node-external tolerance drift p work predicted₀ variance₀ verdicts₀ weights₀ coefficients₀
+    n size k finite-drift q₀ q-end predicted variance verdicts weights coefficients q = q-end - q
 
 abbrev State : (tie.InvT-loop → tie.MeasureT-loop → Type 0) → Type 0
 State S = S Inv-loop μ-loop
