@@ -1,0 +1,4 @@
+pub mod Sums
+pub mod Terms
+pub mod Cauchy
+pub mod Products
