@@ -2,3 +2,5 @@ pub mod Sums
 pub mod Terms
 pub mod Cauchy
 pub mod Products
+pub mod Pairs
+pub mod Squares
