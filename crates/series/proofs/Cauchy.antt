@@ -25,11 +25,11 @@ by-powers x y zero = simp zero-add
 by-powers x y (suc n) =
     let before : total (suc n) (cauchy x y) ≡ triangle x y n = by-powers x y n in
     let rows : total (suc n) (λ i. x i * total (suc (suc n - i)) y) ≡ triangle x y n + total (suc n) (λ i. x i * y (suc n - i)) =
-        same (suc n) (λ i. x i * total (suc (suc n - i)) y) (λ i. x i * total (suc (n - i)) y + x i * y (suc n - i))
-        (λ i l. rw (suc-less n i l) (mul-add (x i) (total (suc (n - i)) y) (y (suc (n - i)))))
-        ∙ both (suc n) (λ i. x i * total (suc (n - i)) y) (λ i. x i * y (suc n - i)) in
+    same (suc n) (λ i. x i * total (suc (suc n - i)) y) (λ i. x i * total (suc (n - i)) y + x i * y (suc n - i))
+    (λ i l. rw (suc-less n i l) (mul-add (x i) (total (suc (n - i)) y) (y (suc (n - i)))))
+    ∙ both (suc n) (λ i. x i * total (suc (n - i)) y) (λ i. x i * y (suc n - i)) in
     let last : x (suc n) * total (suc (suc n - suc n)) y ≡ x (suc n) * y (suc n - suc n) =
-        ap (λ (k : ℕ). x (suc n) * total (suc k) y) (sub-self (suc n)) ∙ ap (λ (k : ℕ). x (suc n) * k) (zero-add (y 0)) ∙ ap (λ (k : ℕ). x (suc n) * y k) (sym (sub-self (suc n))) in
+    ap (λ (k : ℕ). x (suc n) * total (suc k) y) (sub-self (suc n)) ∙ ap (λ (k : ℕ). x (suc n) * k) (zero-add (y 0)) ∙ ap (λ (k : ℕ). x (suc n) * y k) (sym (sub-self (suc n))) in
     omega (arith, before, rows, last)
 
 -- ---- a row of the triangle is at most a row of the square, and a row of a square at most one of the triangle
@@ -77,18 +77,18 @@ module _ (a b d K : ℕ) (x y : ℕ → ℕ) (d-positive : 0 < d) (is-x : Terms 
       let f : ℕ → ℕ = λ i. d * i * x i * y (suc k - i) in
       let g : ℕ → ℕ = λ i. x i * (d * (suc k - i) * y (suc k - i)) in
       let apart : d * suc k * cauchy x y (suc k) ≡ total (suc (suc k)) f + total (suc (suc k)) g =
-          sym (scaled (suc (suc k)) (d * suc k) (λ i. x i * y (suc k - i)))
-          ∙ same (suc (suc k)) (λ i. d * suc k * (x i * y (suc k - i))) (λ i. f i + g i)
-            (λ i l. ap (λ (n : ℕ). d * n * (x i * y (suc k - i))) (sym (add-sub-of-le (le-of-suc-le-suc l))) ∙ parted i (suc k - i))
-          ∙ both (suc (suc k)) f g in
+      sym (scaled (suc (suc k)) (d * suc k) (λ i. x i * y (suc k - i)))
+      ∙ same (suc (suc k)) (λ i. d * suc k * (x i * y (suc k - i))) (λ i. f i + g i)
+      (λ i l. ap (λ (n : ℕ). d * n * (x i * y (suc k - i))) (sym (add-sub-of-le (le-of-suc-le-suc l))) ∙ parted i (suc k - i))
+      ∙ both (suc (suc k)) f g in
       let left : total (suc (suc k)) f ≡ a * cauchy x y k =
-          first (suc k) f
-          ∙ ap₂ (λ (m n : ℕ). m + n) (simp (mul-zero, zero-mul)) (same (suc k) (λ i. f (suc i)) (λ i. a * (x i * y (k - i))) (λ i l. lefts k i h l) ∙ scaled (suc k) a (λ i. x i * y (k - i)))
-          ∙ zero-add (a * cauchy x y k) in
+      first (suc k) f
+      ∙ ap₂ (λ (m n : ℕ). m + n) (simp (mul-zero, zero-mul)) (same (suc k) (λ i. f (suc i)) (λ i. a * (x i * y (k - i))) (λ i l. lefts k i h l) ∙ scaled (suc k) a (λ i. x i * y (k - i)))
+      ∙ zero-add (a * cauchy x y k) in
       let right : total (suc (suc k)) g ≡ b * cauchy x y k =
-          ap₂ (λ (m n : ℕ). m + n) (same (suc k) g (λ i. b * (x i * y (k - i))) (λ i l. rights k i h l) ∙ scaled (suc k) b (λ i. x i * y (k - i)))
-            (rw (sub-self (suc k)) (simp (mul-zero, zero-mul)))
-          ∙ add-zero (b * cauchy x y k) in
+      ap₂ (λ (m n : ℕ). m + n) (same (suc k) g (λ i. b * (x i * y (k - i))) (λ i l. rights k i h l) ∙ scaled (suc k) b (λ i. x i * y (k - i)))
+      (rw (sub-self (suc k)) (simp (mul-zero, zero-mul)))
+      ∙ add-zero (b * cauchy x y k) in
       apart ∙ ap₂ (λ (m n : ℕ). m + n) left right ∙ sym (add-mul a b (cauchy x y k))
 
   -- and they are the terms of a + b

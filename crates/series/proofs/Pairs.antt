@@ -35,8 +35,8 @@ over-choose d (suc i) (suc j) =
     ∙ ap (λ (n : ℕ). W * n) (mul-add d (suc i) (suc j))
     ∙ mul-add W (d * suc i) (d * suc j)
     ∙ ap₂ (λ (m n : ℕ). m + n)
-      (ap (λ (n : ℕ). n * (d * suc i)) left ∙ onto (choose i (suc j)) (over d i) (over d (suc j)) (d * suc i))
-      (ap (λ (n : ℕ). n * (d * suc j)) right ∙ onto' (choose (suc i) j) (over d (suc i)) (over d j) (d * suc j))
+    (ap (λ (n : ℕ). n * (d * suc i)) left ∙ onto (choose i (suc j)) (over d i) (over d (suc j)) (d * suc i))
+    (ap (λ (n : ℕ). n * (d * suc j)) right ∙ onto' (choose (suc i) j) (over d (suc i)) (over d j) (d * suc j))
     ∙ sym (add-mul (choose i (suc j)) (choose (suc i) j) (over d (suc i) * over d (suc j)))
 
 pub choose-back : (i j : ℕ) → choose i j ≡ choose j i
@@ -59,7 +59,9 @@ module _ (a d K : ℕ) (x : ℕ → ℕ) (d-positive : 0 < d) (is : Terms a d K 
     where
       swap : (p q r s : ℕ) → p * q * (r * s) ≡ p * r * (q * s)
       swap p q r s = simp sorted
+
       swap' : (p q r : ℕ) → p * r * (q * r) ≡ p * q * r * r
       swap' p q r = simp sorted
+
       swap'' : (p q r s : ℕ) → p * q * r * s ≡ q * (p * (s * r))
       swap'' p q r s = simp sorted

@@ -40,8 +40,15 @@ are-terms a d K h =
     let start : terms a d K 0 ≡ over d K = rw (pow-zero, one-mul, sub-zero) (sym (one-mul (rest d 0 K)) ∙ rest-over d 0 K ∙ ap (over d) (zero-add K)) in
     record {
       unit = subst (λ (n : ℕ). 0 < n) (sym start) (over-positive d K h);
-      term = λ i l. mul-left-comm (over d i) (a ^ i) (rest d i (K - i)) ∙ ap (λ (n : ℕ). a ^ i * n) (rest-over d i (K - i) ∙ ap (over d) (add-sub-of-le l) ∙ sym start)
+      term = λ i l. mul-left-comm (over d i) (a ^ i) (rest d i (K - i)) ∙ ap (λ (n : ℕ). a ^ i * n) (rest-over d i (K - i) ∙ ap (over d) (add-sub-of-le l) ∙ sym start);
     }
+
+-- the terms of the even powers up to n, and those of the odd ones
+abbrev pub evens : (ℕ → ℕ) → ℕ → ℕ
+evens x n = total (suc n) (λ i. cond (even i) (x i) 0)
+
+abbrev pub odds : (ℕ → ℕ) → ℕ → ℕ
+odds x n = total (suc n) (λ i. cond (even i) 0 (x i))
 
 module _ (a d K : ℕ) (x : ℕ → ℕ) (d-positive : 0 < d) (is : Terms a d K x) where
   -- from a term to the next
@@ -56,13 +63,6 @@ module _ (a d K : ℕ) (x : ℕ → ℕ) (d-positive : 0 < d) (is : Terms a d K 
       ∙ ap (λ (n : ℕ). a * n) (sym (is .term i (le-of-lt l)))
       ∙ mul-left-comm a (over d i) (x i))
 
-  -- the terms of the even powers up to n, and those of the odd ones
-  abbrev pub evens : ℕ → ℕ
-  evens n = total (suc n) (λ i. cond (even i) (x i) 0)
-
-  abbrev pub odds : ℕ → ℕ
-  odds n = total (suc n) (λ i. cond (even i) 0 (x i))
-
   -- in the units of the definitions
   next : (g o p e t v : ℕ) → x 0 * p ≡ o * e → o * g * t ≡ v * x 0 → x 0 * (p * g + v) ≡ o * g * (e + t)
   next g o p e t v h k =
@@ -72,22 +72,22 @@ module _ (a d K : ℕ) (x : ℕ → ℕ) (d-positive : 0 < d) (is : Terms a d K 
   none : (o : ℕ) → o * 0 ≡ 0 * x 0
   none o = mul-zero o ∙ sym (zero-mul (x 0))
 
-  pub added-sum : (n : ℕ) → n ≤ K → x 0 * added a d n ≡ over d n * evens n
+  pub added-sum : (n : ℕ) → n ≤ K → x 0 * added a d n ≡ over d n * evens x n
   unfolding added over total
   added-sum zero l = simp (mul-one, one-mul, zero-add)
   added-sum (suc n) l =
-      next (d * suc n) (over d n) (added a d n) (evens n) (cond (even (suc n)) (x (suc n)) 0) (cond (even (suc n)) (a ^ suc n) 0) (added-sum n (le-of-suc-le l))
+      next (d * suc n) (over d n) (added a d n) (evens x n) (cond (even (suc n)) (x (suc n)) 0) (cond (even (suc n)) (a ^ suc n) 0) (added-sum n (le-of-suc-le l))
       (go (even (suc n)))
     where
       go : (b : Bool) → over d (suc n) * cond b (x (suc n)) 0 ≡ cond b (a ^ suc n) 0 * x 0
       go true = is .term (suc n) l
       go false = none (over d (suc n))
 
-  pub taken-sum : (n : ℕ) → n ≤ K → x 0 * taken a d n ≡ over d n * odds n
+  pub taken-sum : (n : ℕ) → n ≤ K → x 0 * taken a d n ≡ over d n * odds x n
   unfolding taken over total
   taken-sum zero l = simp (mul-zero, zero-add)
   taken-sum (suc n) l =
-      next (d * suc n) (over d n) (taken a d n) (odds n) (cond (even (suc n)) 0 (x (suc n))) (cond (even (suc n)) 0 (a ^ suc n)) (taken-sum n (le-of-suc-le l))
+      next (d * suc n) (over d n) (taken a d n) (odds x n) (cond (even (suc n)) 0 (x (suc n))) (cond (even (suc n)) 0 (a ^ suc n)) (taken-sum n (le-of-suc-le l))
       (go (even (suc n)))
     where
       go : (b : Bool) → over d (suc n) * cond b 0 (x (suc n)) ≡ cond b 0 (a ^ suc n) * x 0
@@ -99,7 +99,7 @@ module _ (a d K : ℕ) (x : ℕ → ℕ) (d-positive : 0 < d) (is : Terms a d K 
   all-sum n l =
       mul-add (x 0) (added a d n) (taken a d n)
       ∙ ap₂ (λ (p q : ℕ). p + q) (added-sum n l) (taken-sum n l)
-      ∙ sym (mul-add (over d n) (evens n) (odds n))
+      ∙ sym (mul-add (over d n) (evens x n) (odds x n))
       ∙ ap (λ (k : ℕ). over d n * k) (sym (both (suc n) (λ i. cond (even i) (x i) 0) (λ i. cond (even i) 0 (x i))) ∙ same (suc n) (λ i. cond (even i) (x i) 0 + cond (even i) 0 (x i)) x (λ i h. one (even i) (x i)))
     where
       one : (b : Bool) (v : ℕ) → cond b v 0 + cond b 0 v ≡ v
