@@ -4,3 +4,5 @@ pub mod Cauchy
 pub mod Products
 pub mod Pairs
 pub mod Squares
+pub mod Steps
+pub mod Bounds
