@@ -6,3 +6,5 @@ pub mod Pairs
 pub mod Squares
 pub mod Steps
 pub mod Bounds
+pub mod Bracket
+pub mod Near
