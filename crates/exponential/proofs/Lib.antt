@@ -1,3 +1,4 @@
 pub mod Table
 pub mod Wholes
 pub mod Fractions
+pub mod Times
