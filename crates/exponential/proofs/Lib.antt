@@ -2,3 +2,4 @@ pub mod Table
 pub mod Wholes
 pub mod Fractions
 pub mod Times
+pub mod ShortSeries

@@ -1,40 +1,48 @@
+-- `exponential::exp_units` meets its contract: the entries of the tables and the short series are at most 1, so their products may be asked for. Assumes nothing.
+use Prim.Native.Nat.{_*_, _/_, _%_, _^_, _≤_}
+use native.Mathlib.Omega.{arith}
+use mathlib.Core.Path.{ap₂, _∙_}
 use borrow.Author.Needs.{needs}
+use Rattle.exponential.specs.Exponential.{units, times, whole, fraction, shortSeries}
+use Rattle.exponential.proofs.Times.{times-le}
+use Rattle.exponential.proofs.Wholes.{whole-le}
+use Rattle.exponential.proofs.Fractions.{fraction-le}
+use Rattle.exponential.proofs.ShortSeries.{short-series-le}
 use Rattle.exponential.proofs.exp_units.Statement.{statement}
 use Rattle.exponential.proofs.exp_units.Tie as tie
-use Rattle.exponential.proofs.exp_units.Reads as reads
-use Rattle.exponential.proofs.exp_units.Lts as lts
-use Rattle.exponential.proofs.fraction_entry.Reads as fraction-entry-reads
-use Rattle.exponential.proofs.product.Reads as product-reads
-use Rattle.exponential.proofs.short_series.Reads as short-series-reads
-use Rattle.exponential.proofs.whole_entry.Reads as whole-entry-reads
 
--- src/rt:610:9
 whole-entry-requires : tie.Need-whole-entry-requires
 whole-entry-requires c κs = search needs
 
--- src/rt:611:9
 fraction-entry-requires : tie.Need-fraction-entry-requires
 fraction-entry-requires c κs = search needs
 
--- src/rt:613:9
-product-requires : tie.Need-product-requires
-product-requires c κs = ?
+-- the two entries
+whole-small : (c : tie.After-whole-entry) → c .whole-entry .result ≤ 2 ^ 62
+whole-small c = omega (arith, whole-le (c .before .args .w / 2 ^ 57) (omega arith))
 
--- src/rt:614:22
+fraction-small : (c : tie.After-fraction-entry) → c .fraction-entry .result ≤ 2 ^ 62
+fraction-small c = omega (arith, fraction-le (c .before .before .args .w / 2 ^ 48 % 512) (omega arith))
+
+product-requires : tie.Need-product-requires
+product-requires c κs = (whole-small (c .before), fraction-small c)
+
 mul-short-series : tie.Need-mul-short-series
 mul-short-series c = search needs
 
--- src/rt:614:9
 short-series-requires : tie.Need-short-series-requires
 short-series-requires c κs = search needs
 
--- src/rt:612:5
 product-requires-2 : tie.Need-product-requires-2
-product-requires-2 c κs = ?
+product-requires-2 c κs =
+    let s = c .before .before in
+    let w = s .before .before .args .w in
+    (omega (arith, times-le (s .before .whole-entry .result) (s .fraction-entry .result) (2 ^ 62) (whole-small (s .before)) (fraction-small s)),
+    omega (arith, short-series-le (w % 2 ^ 48 * 32) (omega arith)))
 
--- src/rt:606:1
 returns : tie.Need-returns
-returns c = ?
+unfolding units
+returns c = cc
 
 pub exp-units-spec : {M : Type 1} → statement M
 exp-units-spec =
