@@ -1,44 +1,40 @@
 -- `exponential::exp_units` meets its contract: the entries of the tables and the short series are at most 1, so their products may be asked for. Assumes nothing.
-use Prim.Native.Nat.{_*_, _/_, _%_, _^_, _≤_}
+use Prim.Native.Nat.{ℕ}
 use native.Mathlib.Omega.{arith}
-use mathlib.Core.Path.{ap₂, _∙_}
 use borrow.Author.Needs.{needs}
-use Rattle.exponential.specs.Exponential.{units, times, whole, fraction, shortSeries}
-use Rattle.exponential.proofs.Times.{times-le}
-use Rattle.exponential.proofs.Wholes.{whole-le}
-use Rattle.exponential.proofs.Fractions.{fraction-le}
-use Rattle.exponential.proofs.ShortSeries.{short-series-le}
+use Rattle.exponential.specs.Exponential.{units}
+use Rattle.exponential.proofs.Units.{whole-part-le, fraction-part-le, series-part-le, parts-le}
 use Rattle.exponential.proofs.exp_units.Statement.{statement}
 use Rattle.exponential.proofs.exp_units.Tie as tie
 
+-- let whole = whole_entry((w / 0x200_0000_0000_0000) as usize);
 whole-entry-requires : tie.Need-whole-entry-requires
 whole-entry-requires c κs = search needs
 
+-- let fraction = fraction_entry((w / 0x1_0000_0000_0000 % 512) as usize);
 fraction-entry-requires : tie.Need-fraction-entry-requires
 fraction-entry-requires c κs = search needs
 
--- the two entries
-whole-small : (c : tie.After-whole-entry) → c .whole-entry .result ≤ 2 ^ 62
-whole-small c = omega (arith, whole-le (c .before .args .w / 2 ^ 57) (omega arith))
-
-fraction-small : (c : tie.After-fraction-entry) → c .fraction-entry .result ≤ 2 ^ 62
-fraction-small c = omega (arith, fraction-le (c .before .before .args .w / 2 ^ 48 % 512) (omega arith))
-
+-- product(whole, fraction)
 product-requires : tie.Need-product-requires
-product-requires c κs = (whole-small (c .before), fraction-small c)
+product-requires c κs =
+    let s = c .before .before in
+    (omega (arith, whole-part-le (s .args .w) (s .pre)), omega (arith, fraction-part-le (s .args .w) (s .pre)))
 
+-- short_series(w % 0x1_0000_0000_0000 * 32)
 mul-short-series : tie.Need-mul-short-series
 mul-short-series c = search needs
 
 short-series-requires : tie.Need-short-series-requires
 short-series-requires c κs = search needs
 
+-- the product of these two
 product-requires-2 : tie.Need-product-requires-2
 product-requires-2 c κs =
     let s = c .before .before in
-    let w = s .before .before .args .w in
-    (omega (arith, times-le (s .before .whole-entry .result) (s .fraction-entry .result) (2 ^ 62) (whole-small (s .before)) (fraction-small s)),
-    omega (arith, short-series-le (w % 2 ^ 48 * 32) (omega arith)))
+    let t = s .before .before in
+    let p = rw (← s .before .whole-entry .ensures, ← s .fraction-entry .ensures) at (parts-le (t .args .w) (t .pre)) in
+    (omega arith, omega (arith, series-part-le (t .args .w) (t .pre)))
 
 returns : tie.Need-returns
 unfolding units
