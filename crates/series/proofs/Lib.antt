@@ -8,3 +8,4 @@ pub mod Steps
 pub mod Bounds
 pub mod Bracket
 pub mod Near
+pub mod Scale
