@@ -1,6 +1,8 @@
--- `exponential::fraction_entry` meets its contract: what stands in the table is the entry asked for (proofs/Fractions.antt). Assumes nothing.
+-- `exponential::fraction_entry` meets its contract, by one test over the 512 entries of its table, which is computed. Assumes nothing.
+use borrow.Author.Tests.{lt-ltb}
 use borrow.Author.Needs.{needs}
-use Rattle.exponential.proofs.Fractions.{fraction-entry}
+use Rattle.exponential.specs.Exponential.{fraction}
+use Rattle.exponential.proofs.Table.{looked-up}
 use Rattle.exponential.proofs.fraction_entry.Statement.{statement}
 use Rattle.exponential.proofs.fraction_entry.Tie as tie
 
@@ -11,7 +13,8 @@ array-read-result : tie.Need-array-read-result
 array-read-result c = search needs
 
 returns : tie.Need-returns
-returns c = fraction-entry (c .args .i) (c .pre)
+unfolding fraction
+returns c = rw (looked-up fraction, lt-ltb _ _ (c .pre))
 
 pub fraction-entry-spec : {M : Type 1} → statement M
 fraction-entry-spec = tie.close (tie.spec mul-result array-read-result returns)
