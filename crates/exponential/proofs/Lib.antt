@@ -4,3 +4,6 @@ pub mod ShortSeries
 pub mod Digits
 pub mod Units
 pub mod Cases
+pub mod Rule
+pub mod ShortSums
+pub mod SeriesNear

@@ -9,15 +9,15 @@ use native.Mathlib.Omega.{arith}
 use lib.Dec.{T, ltb, ltb→lt, eqb, leb, eqb→eq, leb→le}
 use lib.ListN.{length, getD}
 
-abbrev both : Bool → Bool → Bool
+abbrev pub both : Bool → Bool → Bool
 both true b = b
 both false b = false
 
-both-left : (a b : Bool) → T (both a b) → T a
+pub both-left : (a b : Bool) → T (both a b) → T a
 both-left true b t = tt
 both-left false b t = t
 
-both-right : (a b : Bool) → T (both a b) → T b
+pub both-right : (a b : Bool) → T (both a b) → T b
 both-right true b t = t
 both-right false b t = absurd t
 
@@ -51,17 +51,17 @@ looked-up f xs k = go (holds f xs) (ltb k (length xs)) (λ t. t) (ltb→lt k (le
     go true false g h = refl
     go true true g h = entry f xs (g tt) k (h tt)
 
--- f k is at most a bound for every k below n
-abbrev pub within : (ℕ → ℕ) → ℕ → ℕ → Bool
-within f bound zero = true
-within f bound (suc n) = both (leb (f n) bound) (within f bound n)
+-- a test that passes at every number below n
+abbrev pub each : (ℕ → Bool) → ℕ → Bool
+each f zero = true
+each f (suc n) = both (f n) (each f n)
 
-pub bounded : (f : ℕ → ℕ) (bound n : ℕ) → T (within f bound n) → (k : ℕ) → k < n → f k ≤ bound
-bounded f bound zero t k h = absurd (not-suc-le-zero h)
-bounded f bound (suc n) t k h =
-    let last = both-left (leb (f n) bound) (within f bound n) t in
-    let rest = both-right (leb (f n) bound) (within f bound n) t in
+pub passes : (f : ℕ → Bool) (n : ℕ) → T (each f n) → (k : ℕ) → k < n → T (f k)
+passes f zero t k h = absurd (not-suc-le-zero h)
+passes f (suc n) t k h =
+    let last = both-left (f n) (each f n) t in
+    let rest = both-right (f n) (each f n) t in
     elim (decLt k n) [
-      | yes p ↦ bounded f bound n rest k p
-      | no q ↦ let e : n ≡ k = omega arith in subst (λ (m : ℕ). f m ≤ bound) e (leb→le (f n) bound last)
+      | yes p ↦ passes f n rest k p
+      | no q ↦ let e : n ≡ k = omega arith in subst (λ (m : ℕ). T (f m)) e last
     ]
