@@ -7,3 +7,5 @@ pub mod Cases
 pub mod Rule
 pub mod ShortSums
 pub mod SeriesNear
+pub mod UnitsNear
+pub mod Shown
