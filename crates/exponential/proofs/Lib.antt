@@ -9,3 +9,4 @@ pub mod ShortSums
 pub mod SeriesNear
 pub mod UnitsNear
 pub mod Shown
+pub mod Exact
