@@ -19,7 +19,7 @@ use Rattle.series.proofs.Bounds.{Under, Above}
 use Rattle.series.proofs.Bracket.{within, none-under}
 use Rattle.series.proofs.Near.{Near, under-units, above-units, above-product}
 use Rattle.series.proofs.Scale.{above-scaled}
-use Rattle.exponential.specs.Exponential.{cut, units, shown, expNeg}
+use Rattle.exponential.specs.Exponential.{cut, units, shown, byRange, expNeg}
 use Rattle.exponential.specs.Exact.{Close, EveryClose, OtherExponentials}
 use Rattle.exponential.proofs.Cases.{from-cut, inside, elsewhere}
 use Rattle.exponential.proofs.Digits.{under-cut, scaled-below}
@@ -32,7 +32,7 @@ module _ (a b y q : ℕ) (b-positive : 0 < b) (low : q * 2 ^ 9 ≤ y + 2 ^ 8) (h
   less : (q * 2 ^ 9 * b - 4096 * b) * 2 ^ 62 ≤ (y - 1140) * (2 ^ 62 * b)
   less =
       let e : q * 2 ^ 9 * b - 4096 * b ≡ (q * 2 ^ 9 - 4096) * b =
-          ap₂ (λ (m n : ℕ). m - n) (mul-comm (q * 2 ^ 9) b) (mul-comm 4096 b) ∙ sym (mul-sub b (q * 2 ^ 9) 4096) ∙ mul-comm b (q * 2 ^ 9 - 4096) in
+      ap₂ (λ (m n : ℕ). m - n) (mul-comm (q * 2 ^ 9) b) (mul-comm 4096 b) ∙ sym (mul-sub b (q * 2 ^ 9) 4096) ∙ mul-comm b (q * 2 ^ 9 - 4096) in
       let h : q * 2 ^ 9 - 4096 ≤ y - 1140 = omega arith in
       le-trans (le-of-eq (ap (λ (n : ℕ). n * 2 ^ 62) e ∙ mul-assoc (q * 2 ^ 9 - 4096) b (2 ^ 62) ∙ ap (λ (n : ℕ). (q * 2 ^ 9 - 4096) * n) (mul-comm b (2 ^ 62))))
       (mul-le-mul-right (2 ^ 62 * b) h)
@@ -109,33 +109,34 @@ below-35 u not-below under =
     let value = shown-is y y-small in
     let whole : w * (32 * 2 ^ 1012) + v % 2 ^ 1017 ≡ v = div-add-mod' v (2 ^ 1017) in
     let near : Near v (2 ^ 1074) (2 ^ 62) y 1140 =
-        subst (λ (a : ℕ). Near a (2 ^ 1074) (2 ^ 62) y 1140) whole (units-near w (2 ^ 1012) small (pow-pos 1012) (v % 2 ^ 1017) (mod-lt v (pow-pos 1017))) in
+    subst (λ (a : ℕ). Near a (2 ^ 1074) (2 ^ 62) y 1140) whole (units-near w (2 ^ 1012) small (pow-pos 1012) (v % 2 ^ 1017) (mod-lt v (pow-pos 1017))) in
     let R : multiple (shown y) ≡ q * 2 ^ 9 * 2 ^ 1012 = value .its-multiple ∙ sym (mul-assoc q (2 ^ 9) (2 ^ 1012)) in
     record {
       format = shown-fits y y-small;
       number = value .is-finite;
       sign = value .its-sign;
       at-most-one = subst (λ (r : ℕ). r ≤ 2 ^ 1074) (sym (value .its-multiple)) (mul-le-mul-right (2 ^ 1021) (last-digit y y-small));
-      within = subst (λ (r : ℕ). Within v (2 ^ 1074) r (2 ^ 1074) (2 ^ 1024)) (sym R) (within-shown v (2 ^ 1012) y q (pow-pos 1012) (omega arith) (omega arith) near)
+      within = subst (λ (r : ℕ). Within v (2 ^ 1074) r (2 ^ 1074) (2 ^ 1024)) (sym R) (within-shown v (2 ^ 1012) y q (pow-pos 1012) (omega arith) (omega arith) near);
     }
 
 pub every-close : EveryClose
+unfolding expNeg
 every-close u f finite-u not-below = go (le cut u) refl
   where
-    go : (b : Bool) → le cut u ≡ b → Close u (expNeg u)
-    go false h = subst (λ (r : Float). Close u r) (sym (inside u h (truth (le zeroFloat u) not-below))) (below-35 u not-below h)
-    go true h = subst (λ (r : Float). Close u r) (sym (from-cut u h)) (zero-close u (above-cut u finite-u h))
+    go : (b : Bool) → le cut u ≡ b → Close u (byRange u (shown (units (multiple u / 2 ^ 1017))))
+    go false h = subst (λ (r : Float). Close u r) (sym (inside u (shown (units (multiple u / 2 ^ 1017))) h (truth (le zeroFloat u) not-below))) (below-35 u not-below h)
+    go true h = subst (λ (r : Float). Close u r) (sym (from-cut u (shown (units (multiple u / 2 ^ 1017))) h)) (zero-close u (above-cut u finite-u h))
 
 one : shown (units 0) ≡ oneFloat
 unfolding units shown ofBits ofInt mul
 one = refl
 
 pub other-exponentials : OtherExponentials
-unfolding le lt eq ofBits
+unfolding le lt eq ofBits expNeg
 other-exponentials =
     record {
-      infinity = from-cut (inf false) refl;
-      not-a-number = elsewhere nan refl refl;
-      at-zero = inside (fin false 0 (pos 0)) refl refl ∙ one;
-      at-minus-zero = inside (fin true 0 (pos 0)) refl refl ∙ one
+      infinity = from-cut (inf false) (shown (units 0)) refl;
+      not-a-number = elsewhere nan (shown (units 0)) refl refl;
+      at-zero = inside (fin false 0 (pos 0)) _ refl refl ∙ one;
+      at-minus-zero = inside (fin true 0 (pos 0)) _ refl refl ∙ one;
     }

@@ -10,3 +10,4 @@ pub mod SeriesNear
 pub mod UnitsNear
 pub mod Shown
 pub mod Exact
+pub mod Lent

@@ -27,7 +27,7 @@ near n d a x positive odd ev t =
     let rest = both-right low (both high past) t in
     record {
       under = from-lower a d (x - 1) (2 ^ 62) positive n odd (ltb→lt a (n * d) (both-right high past rest)) (leb→le _ _ (both-left low (both high past) t));
-      above = from-upper a d (x + 1) (2 ^ 62) positive (suc n) ev (leb→le _ _ (both-left high past rest))
+      above = from-upper a d (x + 1) (2 ^ 62) positive (suc n) ev (leb→le _ _ (both-left high past rest));
     }
 
 fractions-close : T (each (λ i. close 23 512 i (fraction i)) 512)
@@ -49,5 +49,5 @@ unfolding fraction
 table-rule =
     record {
       entries = λ i h. within i 512 (fraction i) (2 ^ 62) 1 (omega arith) (fraction-near i h .under) (fraction-near i h .above);
-      first = refl
+      first = refl;
     }

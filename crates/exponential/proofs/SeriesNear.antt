@@ -72,15 +72,15 @@ module _ (f f2 f3 f4 f5 : ℕ) (small : f < 2 ^ 53) (e2 : f2 ≡ times f f) (e3 
       let p = 2 ^ 62 + f2 / 2 + f4 / 24 - (f + f3 / 6 + f5 / 120) in
       record {
         under = from-lower f (2 ^ 62) (p - 1100) (2 ^ 62) (omega arith) 5 refl (omega arith)
-          (lower-sum (2 ^ 62) (p - 1100) f f2 f3 f4 (omega arith) second-low
-          (fourth-low (2 ^ 62) f f2 f3 f4 (omega arith) second-low second-high (omega arith))
-          (third-high (2 ^ 62) f f2 f3 f4 (omega arith) second-low second-high (omega arith))
-          fifth-small (under-linear f f2 f3 f4 (f2 / 2) (f3 / 6) (f4 / 24) (f5 / 120) small third-units (halves f2) (sixths f3) (parts-of-24 f4)));
+            (lower-sum (2 ^ 62) (p - 1100) f f2 f3 f4 (omega arith) second-low
+            (fourth-low (2 ^ 62) f f2 f3 f4 (omega arith) second-low second-high (omega arith))
+            (third-high (2 ^ 62) f f2 f3 f4 (omega arith) second-low second-high (omega arith))
+            fifth-small (under-linear f f2 f3 f4 (f2 / 2) (f3 / 6) (f4 / 24) (f5 / 120) small third-units (halves f2) (sixths f3) (parts-of-24 f4)));
         above = from-upper f (2 ^ 62) (p + 1100) (2 ^ 62) (omega arith) 4 refl
-          (upper-sum (2 ^ 62) (p + 1100) f f2 f3 f4 (omega (arith, second-units)) second-high
-          (third-low (2 ^ 62) f f2 f3 f4 (omega arith) second-low second-high (omega arith))
-          (fourth-high (2 ^ 62) f f2 f3 f4 (omega arith) second-low second-high (omega arith))
-          (above-linear f f2 f3 f4 (f2 / 2) (f3 / 6) (f4 / 24) (f5 / 120) small (sixth-small f3 third-units) (small-part f5 fifth-units) (halves' f2) (sixths' f3) (parts-of-24' f4)))
+            (upper-sum (2 ^ 62) (p + 1100) f f2 f3 f4 (omega (arith, second-units)) second-high
+            (third-low (2 ^ 62) f f2 f3 f4 (omega arith) second-low second-high (omega arith))
+            (fourth-high (2 ^ 62) f f2 f3 f4 (omega arith) second-low second-high (omega arith))
+            (above-linear f f2 f3 f4 (f2 / 2) (f3 / 6) (f4 / 24) (f5 / 120) small (sixth-small f3 third-units) (small-part f5 fifth-units) (halves' f2) (sixths' f3) (parts-of-24' f4)));
       }
 
 pub series-near : (f : ℕ) → f < 2 ^ 53 → Near f (2 ^ 62) (2 ^ 62) (shortSeries f) 1100

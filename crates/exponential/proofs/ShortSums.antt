@@ -133,14 +133,19 @@ lower-sum z c f f2 f3 f4 large second-low fourth-low third-high fifth-small line
   where
     a : f2 * (z * z * z * z * z) ≤ f * f * (z * z * z * z)
     a = let k : f2 * z * (z * z * z * z) ≤ f * f * (z * z * z * z) = mul-le-mul-right (z * z * z * z) second-low in omega (arith, k)
+
     b : f4 * (z * z * z * z * z) ≤ f * f * f * f * (z * z)
     b = let k : f4 * (z * z * z) * (z * z) ≤ f * f * f * f * (z * z) = mul-le-mul-right (z * z) fourth-low in omega (arith, k)
+
     d : f * f * f * (z * z * z) ≤ f3 * (z * z * z * z * z) + z * z * z * z * z + f * (z * z * z * z)
     d = let k : f * f * f * (z * z * z) ≤ (f3 * (z * z) + z * z + f * z) * (z * z * z) = mul-le-mul-right (z * z * z) third-high in omega (arith, k)
+
     g : f * (z * z * z * z) ≤ z * z * z * z * z
     g = let k : f * (z * z * z * z) ≤ z * (z * z * z * z) = mul-le-mul-right (z * z * z * z) large in omega (arith, k)
+
     e : f * f * f * f * f * z ≤ 131072 * (z * z * z * z * z)
     e = let k : f * f * f * f * f * z ≤ 131072 * (z * z * z * z) * z = mul-le-mul-right z fifth-small in omega (arith, k)
+
     h : 24 * (c * (z * z * z * z * z)) + 24 * (f * (z * z * z * z * z)) + 4 * (f3 * (z * z * z * z * z)) + 26372 * (z * z * z * z * z)
         ≤ 24 * (z * (z * z * z * z * z)) + 12 * (f2 * (z * z * z * z * z)) + f4 * (z * z * z * z * z)
     h =
@@ -157,13 +162,16 @@ upper-sum z c f f2 f3 f4 large second-high third-low fourth-high linear =
   where
     a : f * f * (z * z * z) ≤ f2 * (z * z * z * z) + z * z * z * z
     a = let k : f * f * (z * z * z) ≤ (f2 * z + z) * (z * z * z) = mul-le-mul-right (z * z * z) second-high in omega (arith, k)
+
     b : f * f * f * f * z ≤ f4 * (z * z * z * z) + z * z * z * z + z * z * z * z
     b =
         let k : f * f * f * f * z ≤ (f4 * (z * z * z) + z * z * z + 2 * (f2 * (z * z)) + z * z) * z = mul-le-mul-right z fourth-high in
         let m : (2 * f2 + 1) * (z * z * z) ≤ z * (z * z * z) = mul-le-mul-right (z * z * z) large in
         omega (arith, k, m)
+
     d : f3 * (z * z * z * z) ≤ f * f * f * (z * z)
     d = let k : f3 * (z * z) * (z * z) ≤ f * f * f * (z * z) = mul-le-mul-right (z * z) third-low in omega (arith, k)
+
     h : 24 * (z * (z * z * z * z)) + 12 * (f2 * (z * z * z * z)) + f4 * (z * z * z * z) + 14 * (z * z * z * z)
         ≤ 24 * (c * (z * z * z * z)) + 24 * (f * (z * z * z * z)) + 4 * (f3 * (z * z * z * z))
     h =

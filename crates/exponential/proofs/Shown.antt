@@ -43,7 +43,7 @@ scaled-down (inf s) n h = absurd h
 scaled-down (fin s m e) n h =
     ap (λ (t : Bool). round binary64 (unlike t false) (m * up e * 1) (down e * 2 ^ 53)) (h .0)
     ∙ round-same binary64 false (m * up e * 1) (down e * 2 ^ 53) n (2 ^ 53) (mul-pos (down-pos e) (pow-pos 53)) (pow-pos 53)
-      (ap (λ (k : ℕ). k * 2 ^ 53) (h .1) ∙ mul-assoc n (down e) (2 ^ 53))
+    (ap (λ (k : ℕ). k * 2 ^ 53) (h .1) ∙ mul-assoc n (down e) (2 ^ 53))
 
 -- the same number as another fraction
 raised : (x : Float) (a c k : ℕ) → HasValue x false a c → HasValue x false (a * k) (c * k)

@@ -27,9 +27,9 @@ rest-near b r positive h =
     let large : 0 < U = mul-pos (omega arith) positive in
     record {
       under = from-lower r U (2 ^ 62 - 32) (2 ^ 62) large 1 refl (omega arith)
-        (subst (λ (n : ℕ). (2 ^ 62 - 32) * (1 * (U * 1)) + 2 ^ 62 * (0 * (U * 1) + n) ≤ 2 ^ 62 * (1 * (U * 1) + 0)) (sym (pow-suc r 0 ∙ ap (λ (n : ℕ). n * r) (pow-zero r) ∙ one-mul r))
-        (rest-lower (2 ^ 62) b r (omega arith) (le-of-lt h)));
-      above = from-upper r U (2 ^ 62 + 32) (2 ^ 62) large 0 refl (omega arith)
+          (subst (λ (n : ℕ). (2 ^ 62 - 32) * (1 * (U * 1)) + 2 ^ 62 * (0 * (U * 1) + n) ≤ 2 ^ 62 * (1 * (U * 1) + 0)) (sym (pow-suc r 0 ∙ ap (λ (n : ℕ). n * r) (pow-zero r) ∙ one-mul r))
+          (rest-lower (2 ^ 62) b r (omega arith) (le-of-lt h)));
+      above = from-upper r U (2 ^ 62 + 32) (2 ^ 62) large 0 refl (omega arith);
     }
 
 one-more : (n : ℕ) → n < n + 2 ^ 62
@@ -87,12 +87,12 @@ module _ (w b : ℕ) (below : w < 35 * 2 ^ 57) (b-positive : 0 < b) where
       let a2 = 2 ^ 53 * b * (w / 2 ^ 48 % 512) in
       let a3 = b * (w % 2 ^ 48 * 2 ^ 5) in
       let two : Near (a1 + a2) U (2 ^ 62) (times k i) 4 =
-          near-product a1 a2 U (2 ^ 62) k i 1 1 (times k i) U-positive (omega arith) whole-part fraction-part (whole-part-le w below) (fraction-part-le w below)
-          (omega arith) (cut-low k i) (cut-high k i) in
+      near-product a1 a2 U (2 ^ 62) k i 1 1 (times k i) U-positive (omega arith) whole-part fraction-part (whole-part-le w below) (fraction-part-le w below)
+      (omega arith) (cut-low k i) (cut-high k i) in
       let three : Near (a1 + a2 + a3) U (2 ^ 62) (times (times k i) s) 1106 =
-          near-product (a1 + a2) a3 U (2 ^ 62) (times k i) s 4 1100 (times (times k i) s) U-positive (omega arith) two series-part (parts-le w below) (series-part-le w below)
-          (omega arith) (cut-low (times k i) s) (cut-high (times k i) s) in
+      near-product (a1 + a2) a3 U (2 ^ 62) (times k i) s 4 1100 (times (times k i) s) U-positive (omega arith) two series-part (parts-le w below) (series-part-le w below)
+      (omega arith) (cut-low (times k i) s) (cut-high (times k i) s) in
       let four : Near (a1 + a2 + a3 + rest) U (2 ^ 62) (units w) 1140 =
-          near-product (a1 + a2 + a3) rest U (2 ^ 62) (units w) (2 ^ 62) 1106 32 (units w) U-positive (omega arith) three (rest-near b rest b-positive h) (units-le w below)
-          (le-refl (2 ^ 62)) (omega arith) (le-refl (units w * 2 ^ 62)) (one-more (units w * 2 ^ 62)) in
+      near-product (a1 + a2 + a3) rest U (2 ^ 62) (units w) (2 ^ 62) 1106 32 (units w) U-positive (omega arith) three (rest-near b rest b-positive h) (units-le w below)
+      (le-refl (2 ^ 62)) (omega arith) (le-refl (units w * 2 ^ 62)) (one-more (units w * 2 ^ 62)) in
       subst (λ (a : ℕ). Near (a + rest) U (2 ^ 62) (units w) 1140) (digits w b) four

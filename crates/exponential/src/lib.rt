@@ -5,7 +5,7 @@ ghost use lib.Dec.{T};
 ghost use lib.Ieee.{le, lt};
 ghost use Rattle.ieee.specs.Floats.{zeroFloat};
 ghost use Rattle.ieee.specs.Values.{multiple};
-ghost use Rattle.exponential.specs.Exponential.{fraction, whole, times, shortSeries, units, cut, expNeg};
+ghost use Rattle.exponential.specs.Exponential.{whole, fractionTable, entryOf, times, shortSeries, unitsBy, cut, expNegBy, expNeg};
 
 // e^−k for k from 0 to 34.
 const WHOLES: [u64; 35] = [
@@ -569,11 +569,23 @@ fn whole_entry(k: usize) -> u64
     WHOLES[k]
 }
 
-fn fraction_entry(i: usize) -> u64
-    requires { ⌜ i < 512 ⌝ }
-    ensures { λ r. ⌜ r ≡ fraction i ⌝ }
+// The table, for a caller that asks for many: where a constant is read all of it is written out first.
+pub fn fraction_table() -> [u64; 512]
+    ensures { λ r. ⌜ r ≡ fractionTable ⌝ }
 {
-    FRACTIONS[i]
+    FRACTIONS
+}
+
+// Entry i of a table that is lent: whatever that holds, no more than 1.
+fn fraction_entry(lent: &[u64; 512], i: usize) -> u64
+    requires { ⌜ i < 512 ⌝ }
+    ensures { λ r. ⌜ r ≡ entryOf (now (lent .entry)) i ⌝ }
+{
+    let entry = lent[i];
+    if entry > 0x4000_0000_0000_0000 {
+        return 0x4000_0000_0000_0000;
+    }
+    entry
 }
 
 // a·b·2^-62, the rest cut off, by halves of 31 digits: no product of two halves passes a word.
@@ -602,12 +614,12 @@ fn short_series(f: u64) -> u64
 }
 
 // e^−u for u = w·2^-57: the product of its three parts.
-fn exp_units(w: u64) -> u64
+fn exp_units(lent: &[u64; 512], w: u64) -> u64
     requires { ⌜ w < 35 * 2 ^ 57 ⌝ }
-    ensures { λ r. ⌜ r ≡ units w ⌝ }
+    ensures { λ r. ⌜ (r ≡ unitsBy (now (lent .entry)) w) × (r ≤ 2 ^ 62) ⌝ }
 {
     let whole = whole_entry((w / 0x200_0000_0000_0000) as usize);
-    let fraction = fraction_entry((w / 0x1_0000_0000_0000 % 512) as usize);
+    let fraction = fraction_entry(lent, (w / 0x1_0000_0000_0000 % 512) as usize);
     product(
         product(whole, fraction),
         short_series(w % 0x1_0000_0000_0000 * 32),
@@ -631,16 +643,25 @@ fn scaled(u: f64) -> u64
     digits << (field - 1018)
 }
 
-// e^−u. An infinite u gives 0 and a NaN gives a NaN; −0 counts as 0, and below zero it is a NaN.
-pub fn exp_neg(u: f64) -> f64
-    ensures { λ r. ⌜ r ≡ expNeg u ⌝ }
+// e^−u by a table that is lent, which is `fraction_table`'s where the answer is to be e^−u. An infinite u gives 0 and a NaN gives a NaN; −0 counts as 0,
+// and below zero it is a NaN.
+pub fn exp_neg_by(lent: &[u64; 512], u: f64) -> f64
+    ensures { λ r. ⌜ r ≡ expNegBy (now (lent .entry)) u ⌝ }
 {
     if u >= 35.0 {
         return 0.0;
     }
     if u >= 0.0 {
-        let y = exp_units(scaled(u));
+        let y = exp_units(lent, scaled(u));
         return ((y + 256) / 512) as f64 * 1.1102230246251565e-16;
     }
     0.0 / 0.0
+}
+
+// e^−u.
+pub fn exp_neg(u: f64) -> f64
+    ensures { λ r. ⌜ r ≡ expNeg u ⌝ }
+{
+    let table = fraction_table();
+    exp_neg_by(&table, u)
 }

@@ -84,7 +84,7 @@ module _ (a d c q : ℕ) (d-positive : 0 < d) where
   from-upper n ev l =
       record {
         power = n;
-        enough = even-above c q (over d n) (added a d n) (taken a d n) (over-positive d n d-positive) (even-square a d n d-positive ev) l
+        enough = even-above c q (over d n) (added a d n) (taken a d n) (over-positive d n d-positive) (even-square a d n d-positive ev) l;
       }
 
   -- ---- to all of the definitions' sums

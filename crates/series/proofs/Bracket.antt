@@ -24,7 +24,7 @@ module _ (a d n m : ℕ) (d-positive : 0 < d) (odd : even n ≡ false) (past : a
           let c = added a d n - taken a d n in
           let is : c + taken a d n ≡ added a d n = sub-add-cancel h in
           let exact : c * over d n + over d n * taken a d n ≤ over d n * added a d n =
-              le-of-eq (ap (λ (k : ℕ). k + over d n * taken a d n) (mul-comm c (over d n)) ∙ sym (native.Mathlib.Nat.mul-add (over d n) c (taken a d n)) ∙ ap (λ (k : ℕ). over d n * k) is) in
+          le-of-eq (ap (λ (k : ℕ). k + over d n * taken a d n) (mul-comm c (over d n)) ∙ sym (native.Mathlib.Nat.mul-add (over d n) c (taken a d n)) ∙ ap (λ (k : ℕ). over d n * k) is) in
           let upper = to-upper a d c (over d n) d-positive (from-lower a d c (over d n) d-positive n odd past exact) m ev in
           let whole : added a d n * over d m ≡ c * over d m + taken a d n * over d m = ap (λ (k : ℕ). k * over d m) (sym is) ∙ add-mul c (taken a d n) (over d m) in
           omega (arith, upper, whole)
@@ -38,7 +38,7 @@ pub within : (a d y q t : ℕ) → 0 < d → Under a d (y - t) q → Above a d (
 within a d y q t d-positive u v =
     record {
       not-above = λ n ev h. above n (to-upper a d (y - t) q d-positive u n ev);
-      not-below = λ n odd h. to-lower a d (y + t) q d-positive v n odd h
+      not-below = λ n odd h. to-lower a d (y + t) q d-positive v n odd h;
     }
   where
     above : (n : ℕ) → (y - t) * over d n + q * taken a d n ≤ q * added a d n → y * over d n + q * taken a d n ≤ q * added a d n + t * over d n

@@ -21,6 +21,7 @@ under-product a b d c e q r h u v n =
   where
     crossed : (s t x y : ℕ) → s * t * (x * y) ≡ s * x * (t * y)
     crossed s t x y = simp sorted
+
     turned : (s t x : ℕ) → s * x * (t * x) ≡ x * (s * t * x)
     turned s t x = simp sorted
 
@@ -32,16 +33,17 @@ above-product a b d c e q r h u v =
     record {
       power = n + m;
       enough =
-        le-of-mul-le-mul-left
-        (le-trans (le-of-eq (out q r (over d n) (over d m) (over d (n + m))))
-        (le-trans (mul-le-mul-left (over d (n + m)) (mul-le-mul (u .enough) (v .enough)))
-        (le-trans (le-of-eq (turned (over d (n + m)) c e (all a d n) (all b d m)))
-        (le-trans (mul-le-mul-left (c * e) (product-over a b d n m h)) (le-of-eq (mul-left-comm (c * e) o (all (a + b) d (n + m))))))))
-        (mul-pos (over-positive d n h) (over-positive d m h))
+          le-of-mul-le-mul-left
+          (le-trans (le-of-eq (out q r (over d n) (over d m) (over d (n + m))))
+          (le-trans (mul-le-mul-left (over d (n + m)) (mul-le-mul (u .enough) (v .enough)))
+          (le-trans (le-of-eq (turned (over d (n + m)) c e (all a d n) (all b d m)))
+          (le-trans (mul-le-mul-left (c * e) (product-over a b d n m h)) (le-of-eq (mul-left-comm (c * e) o (all (a + b) d (n + m))))))))
+          (mul-pos (over-positive d n h) (over-positive d m h));
     }
   where
     out : (s t x y z : ℕ) → x * y * (s * t * z) ≡ z * (s * x * (t * y))
     out s t x y z = simp sorted
+
     turned : (z s t x y : ℕ) → z * (s * x * (t * y)) ≡ s * t * (z * (x * y))
     turned z s t x y = simp sorted
 
@@ -56,8 +58,10 @@ under-units a d c q e r positive h u n =
   where
     turned : (s t x : ℕ) → s * (t * x) ≡ t * s * x
     turned s t x = simp sorted
+
     turned' : (s t x : ℕ) → s * t * x ≡ t * (s * x)
     turned' s t x = simp sorted
+
     turned'' : (s t x : ℕ) → s * (t * x) ≡ t * (s * x)
     turned'' s t x = mul-left-comm s t x
 
@@ -66,15 +70,16 @@ above-units a d c q e r positive h u =
     record {
       power = u .power;
       enough =
-        le-of-mul-le-mul-left
-        (le-trans (le-of-eq (mul-left-comm q r (over d (u .power))))
-        (le-trans (mul-le-mul-left r (u .enough))
-        (le-trans (le-of-eq (turned r c (all a d (u .power)))) (le-trans (mul-le-mul-right (all a d (u .power)) h) (le-of-eq (turned' e q (all a d (u .power))))))))
-        positive
+          le-of-mul-le-mul-left
+          (le-trans (le-of-eq (mul-left-comm q r (over d (u .power))))
+          (le-trans (mul-le-mul-left r (u .enough))
+          (le-trans (le-of-eq (turned r c (all a d (u .power)))) (le-trans (mul-le-mul-right (all a d (u .power)) h) (le-of-eq (turned' e q (all a d (u .power))))))))
+          positive;
     }
   where
     turned : (s t x : ℕ) → s * (t * x) ≡ t * s * x
     turned s t x = simp sorted
+
     turned' : (s t x : ℕ) → s * t * x ≡ t * (s * x)
     turned' s t x = simp sorted
 
@@ -119,9 +124,9 @@ pub near-product : (a b d q y z s t w : ℕ) → 0 < d → 0 < q → Near a d q 
 near-product a b d q y z s t w h positive u v y-small z-small errors low high =
     record {
       under = under-units (a + b) d ((y - s) * (z - t)) (q * q) (w - (s + t + 2)) q (mul-pos positive positive)
-        (le-trans (le-of-eq (sym (mul-assoc (w - (s + t + 2)) q q))) (mul-le-mul-right q (below q y z s t w y-small z-small errors low high)))
-        (under-product a b d (y - s) (z - t) q q h (u .under) (v .under));
+          (le-trans (le-of-eq (sym (mul-assoc (w - (s + t + 2)) q q))) (mul-le-mul-right q (below q y z s t w y-small z-small errors low high)))
+          (under-product a b d (y - s) (z - t) q q h (u .under) (v .under));
       above = above-units (a + b) d ((y + s) * (z + t)) (q * q) (w + (s + t + 2)) q (mul-pos positive positive)
-        (le-trans (mul-le-mul-right q (beyond q y z s t w y-small z-small errors low high)) (le-of-eq (mul-assoc (w + (s + t + 2)) q q)))
-        (above-product a b d (y + s) (z + t) q q h (u .above) (v .above))
+          (le-trans (mul-le-mul-right q (beyond q y z s t w y-small z-small errors low high)) (le-of-eq (mul-assoc (w + (s + t + 2)) q q)))
+          (above-product a b d (y + s) (z + t) q q h (u .above) (v .above));
     }

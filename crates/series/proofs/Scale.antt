@@ -32,8 +32,8 @@ all-scaled k a d zero = sym (mul-one (k ^ 0) ∙ pow-zero k)
 all-scaled k a d (suc n) =
     all-next (k * a) (k * d) n
     ∙ ap₂ (λ (x y : ℕ). x + y)
-      (ap (λ (x : ℕ). x * (k * d * suc n)) (all-scaled k a d n) ∙ next (k ^ n) (all a d n) k d (suc n) ∙ ap (λ (x : ℕ). x * (all a d n * (d * suc n))) (sym (pow-suc k n)))
-      (pow-mul k a (suc n))
+    (ap (λ (x : ℕ). x * (k * d * suc n)) (all-scaled k a d n) ∙ next (k ^ n) (all a d n) k d (suc n) ∙ ap (λ (x : ℕ). x * (all a d n * (d * suc n))) (sym (pow-suc k n)))
+    (pow-mul k a (suc n))
     ∙ sym (mul-add (k ^ suc n) (all a d n * (d * suc n)) (a ^ suc n))
     ∙ ap (λ (x : ℕ). k ^ suc n * x) (sym (all-next a d n))
 
@@ -49,8 +49,8 @@ module _ (k a d c q : ℕ) where
       record {
         power = n;
         enough =
-          le-trans (le-of-eq (ap (λ (x : ℕ). q * x) (over-scaled k d n) ∙ mul-left-comm q (k ^ n) (over d n)))
-          (le-trans (mul-le-mul-left (k ^ n) (u .enough)) (le-of-eq (mul-left-comm (k ^ n) c (all a d n) ∙ ap (λ (x : ℕ). c * x) (sym (all-scaled k a d n)))))
+            le-trans (le-of-eq (ap (λ (x : ℕ). q * x) (over-scaled k d n) ∙ mul-left-comm q (k ^ n) (over d n)))
+            (le-trans (mul-le-mul-left (k ^ n) (u .enough)) (le-of-eq (mul-left-comm (k ^ n) c (all a d n) ∙ ap (λ (x : ℕ). c * x) (sym (all-scaled k a d n)))));
       }
 
 pub near-scaled : (k a d q y t : ℕ) → Near a d q y t → Near (k * a) (k * d) q y t
