@@ -1,7 +1,10 @@
 -- The variogram at a distance: paper 01, "Variogram", each operation rounded once and in the order in which it stands there. Assumes nothing.
-use mathlib.Core.Bool.{Bool, true, false, cond}
-use lib.Ieee.{Float, nan, binary64, add, sub, mul, div, lt, le, ofBits}
+use mathlib.Core.Path.{_≡_}
+use mathlib.Core.Bool.{Bool, true, false, not, cond}
+use lib.IntN.{ℤ}
+use lib.Ieee.{Float, nan, fin, binary64, add, sub, mul, div, lt, le, ofBits}
 use Rattle.ieee.specs.Floats.{zeroFloat, epsilon}
+use Rattle.ieee.specs.Values.{Signed}
 use Rattle.variogram.specs.declared.Variogram.{Variogram}
 use Rattle.variogram.specs.declared.VariogramModel.{VariogramModel}
 use Rattle.variogram.specs.declared.VariogramModel.the-variants.{Spherical, Exponential, Gaussian, Linear}
@@ -42,13 +45,22 @@ unfoldable pub semivariance : Variogram → Float → Float
 unfolding spherical linear
 semivariance v h = cond (lt h epsilon) zeroFloat (ofModel (v .model) (v .nugget) (v .sill) (v .range) h)
 
--- "12 Exponential or Gaussian": what a call that takes a model refuses, as a test and as the paper says it
-abbrev pub notOffered : VariogramModel → Bool
-notOffered Spherical = false
-notOffered Exponential = true
-notOffered Gaussian = true
-notOffered Linear = false
+-- "12 now means an Exponential survey whose range is not above zero, and nothing else": as a test
+abbrev pub wrongRange : VariogramModel → Float → Bool
+wrongRange Spherical range = false
+wrongRange Exponential range = not (lt zeroFloat range)
+wrongRange Gaussian range = false
+wrongRange Linear range = false
 
-pub data NotOffered : VariogramModel → Type 0 where
-  exponential : NotOffered Exponential
-  gaussian : NotOffered Gaussian
+abbrev pub wrongModel : Variogram → Bool
+wrongModel v = wrongRange (v .model) (v .range)
+
+-- and as the paper says it. "not above zero": a zero of either sign, or whatever has a minus; a NaN is not above zero either, but 11 comes before
+pub data NotAboveZero : Float → Type 0 where
+  a-zero : (s : Bool) (e : ℤ) → NotAboveZero (fin s 0 e)
+  negative : {x : Float} → Signed true x → NotAboveZero x
+  not-a-number : NotAboveZero nan
+
+pub record WrongModel (v : Variogram) : Type 0 where
+  pub model-is : v .model ≡ Exponential
+  pub range-is : NotAboveZero (v .range)
