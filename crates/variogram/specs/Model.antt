@@ -3,8 +3,9 @@ use mathlib.Core.Path.{_≡_}
 use mathlib.Core.Bool.{Bool, true, false, not, cond}
 use lib.IntN.{ℤ}
 use lib.Ieee.{Float, nan, fin, binary64, add, sub, mul, div, lt, le, ofBits}
-use Rattle.ieee.specs.Floats.{zeroFloat, epsilon}
+use Rattle.ieee.specs.Floats.{zeroFloat, oneFloat, epsilon}
 use Rattle.ieee.specs.Values.{Signed}
+use Rattle.exponential.specs.Exponential.{expNeg}
 use Rattle.variogram.specs.declared.Variogram.{Variogram}
 use Rattle.variogram.specs.declared.VariogramModel.{VariogramModel}
 use Rattle.variogram.specs.declared.VariogramModel.the-variants.{Spherical, Exponential, Gaussian, Linear}
@@ -33,16 +34,28 @@ spherical nugget sill range h =
 unfoldable pub linear : Float → Float → Float → Float → Float
 linear nugget sill range h = add binary64 nugget (mul binary64 (div binary64 sill range) (cond (lt h range) h range))
 
--- Past the zero test, by the model. "Outside: the Exponential and Gaussian models": a NaN stands for them.
+-- "Both follow the formulas of source document 000": nugget + partial_sill · (1 − e^−u), "partial_sill = sill − nugget"
+abbrev pub towardsSill : Float → Float → Float → Float
+towardsSill nugget sill u = add binary64 nugget (mul binary64 (sub binary64 sill nugget) (sub binary64 oneFloat (expNeg u)))
+
+-- Exponential: u is h / range
+unfoldable pub exponentialModel : Float → Float → Float → Float → Float
+exponentialModel nugget sill range h = towardsSill nugget sill (div binary64 h range)
+
+-- Gaussian: u is "(h * h) / (range * range)"
+unfoldable pub gaussian : Float → Float → Float → Float → Float
+gaussian nugget sill range h = towardsSill nugget sill (div binary64 (mul binary64 h h) (mul binary64 range range))
+
+-- past the zero test, by the model
 abbrev pub ofModel : VariogramModel → Float → Float → Float → Float → Float
 ofModel Spherical = spherical
-ofModel Exponential = λ nugget sill range h. nan
-ofModel Gaussian = λ nugget sill range h. nan
+ofModel Exponential = exponentialModel
+ofModel Gaussian = gaussian
 ofModel Linear = linear
 
 -- "0 if h < 2^-52", of every model
 unfoldable pub semivariance : Variogram → Float → Float
-unfolding spherical linear
+unfolding spherical exponentialModel gaussian linear
 semivariance v h = cond (lt h epsilon) zeroFloat (ofModel (v .model) (v .nugget) (v .sill) (v .range) h)
 
 -- "12 now means an Exponential survey whose range is not above zero, and nothing else": as a test
