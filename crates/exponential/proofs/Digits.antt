@@ -1,12 +1,12 @@
 -- An f64 from 0 up to 35: it is finite and its multiple of 2^-1074 is below that of 35; and its multiple of 2^-57, from the fields of its pattern.
 -- Assumes nothing.
 use Prim.Native.Nat.{ℕ, zero, suc, _+_, _*_, _/_, _%_, _^_, _≤_, _<_}
-use native.Mathlib.Nat.{add-comm, zero-mul, mul-one, one-mul, mul-assoc, mul-right-comm, mul-lt-mul-of-pos-right, lt-of-mul-lt-mul-right, lt-of-le-of-lt, lt-of-lt-of-le, div-eq-of-lt, div-lt-iff-lt-mul, mul-div-cancel, mul-div-mul-right, mod-eq-of-lt, zero-div}
+use native.Mathlib.Nat.{add-comm, mul-assoc, mul-right-comm, mul-lt-mul-of-pos-right, lt-of-mul-lt-mul-right, lt-of-lt-of-le, mod-eq-of-lt}
+use native.Mathlib.Nat.{div-eq-of-lt, div-lt-iff-lt-mul, mul-div-cancel, mul-div-mul-right}
 use native.Mathlib.Decide.{decLt}
 use native.Mathlib.Omega.{arith}
 use mathlib.Core.Path.{_≡_, refl, ap, sym, _∙_, subst}
 use mathlib.Core.Bool.{Bool, true, false, not, _&&_, _||_, true≢false}
-use lib.IntN.{ℤ}
 use lib.Dec.{T, ltb, ltb→lt, lt→ltb, eqb, eqb→eq}
 use borrow.Author.Tests.{ltb-false, eqb-false}
 use lib.Pow.{pow-add, pow-pos, pow-mono, shl-lt}
@@ -83,7 +83,10 @@ to-the-right (suc e) t k is p =
     ∙ ap (λ (n : ℕ). (2 ^ 52 + t) * 2 ^ e / n) unit
 
 shifted : (e t k : ℕ) → e ≡ k + 1017 → (2 ^ 52 + t) * 2 ^ e ≡ (2 ^ 52 + t) * 2 ^ k * 2 ^ 1017
-shifted e t k is = ap (λ (n : ℕ). (2 ^ 52 + t) * 2 ^ n) is ∙ ap (λ (n : ℕ). (2 ^ 52 + t) * n) (pow-add 2 k 1017) ∙ sym (mul-assoc (2 ^ 52 + t) (2 ^ k) (2 ^ 1017))
+shifted e t k is =
+    ap (λ (n : ℕ). (2 ^ 52 + t) * 2 ^ n) is
+    ∙ ap (λ (n : ℕ). (2 ^ 52 + t) * n) (pow-add 2 k 1017)
+    ∙ sym (mul-assoc (2 ^ 52 + t) (2 ^ k) (2 ^ 1017))
 
 shifted-small : (e t k : ℕ) → e ≡ k + 1018 → fieldsMultiple e t < 35 * 2 ^ 1074 → (2 ^ 52 + t) * 2 ^ k < 35 * 2 ^ 57
 shifted-small zero t k is h = absurd (omega arith)

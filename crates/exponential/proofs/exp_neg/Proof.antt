@@ -3,11 +3,10 @@ use Prim.Native.Nat.{ℕ, _+_, _*_, _/_, _^_, _≤_, _<_}
 use native.Mathlib.Omega.{arith}
 use mathlib.Core.Path.{ap, sym, _∙_, subst}
 use lib.Dec.{T, le→leb}
-use lib.Ieee.{binary64, ofBits, div, le, lt, inFloat}
-use Rattle.ieee.specs.Values.{multiple}
+use lib.Ieee.{ofBits, div, le, lt, inFloat}
 use Rattle.ieee.specs.Floats.{zeroFloat}
 use Rattle.ieee.proofs.Zero.{holds}
-use Rattle.exponential.specs.Exponential.{cut, units, shown, expNeg}
+use Rattle.exponential.specs.Exponential.{cut, units, shown}
 use Rattle.exponential.proofs.Cases.{from-cut, inside, elsewhere}
 use Rattle.exponential.proofs.Digits.{under-cut, scaled-below}
 use Rattle.exponential.proofs.Units.{units-le}

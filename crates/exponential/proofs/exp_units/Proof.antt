@@ -1,5 +1,4 @@
--- `exponential::exp_units` meets its contract: the entries of the tables and the short series are at most 1, so their products may be asked for. Assumes nothing.
-use Prim.Native.Nat.{ℕ}
+-- `exponential::exp_units` meets its contract: the three parts of e^−u are at most 1, so that their products may be asked for. Assumes nothing.
 use native.Mathlib.Omega.{arith}
 use borrow.Author.Needs.{needs}
 use Rattle.exponential.specs.Exponential.{units}

@@ -1,11 +1,9 @@
 -- `exponential::scaled` meets its contract, by the three ranges of the exponent field (proofs/Digits.antt). Assumes nothing.
-use Prim.Native.Nat.{ℕ, _+_, _-_, _*_, _/_, _%_, _^_, _<_}
+use Prim.Native.Nat.{ℕ, _-_, _*_, _/_, _%_, _^_, _<_}
 use native.Mathlib.Omega.{arith}
 use mathlib.Core.Path.{_≡_, ap, sym, _∙_, subst}
 use borrow.Author.Needs.{needs}
-use lib.Dec.{T}
 use lib.Ieee.{binary64, fits, toBits}
-use lib.Ieee.Scale.{finite}
 use Rattle.ieee.specs.Values.{multiple, fieldsMultiple}
 use Rattle.ieee.proofs.Zero.{holds}
 use Rattle.ieee.proofs.Fields.{multiple-of-bits}
