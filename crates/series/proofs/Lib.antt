@@ -9,3 +9,4 @@ pub mod Bounds
 pub mod Bracket
 pub mod Near
 pub mod Scale
+pub mod Signs
