@@ -1,21 +1,22 @@
--- e^−u lies within 2^-50 of the exact value for every finite u that is not below 0, and from 0 to 1; what it is at an infinity, a NaN and the zeros. Assumes nothing.
+-- e^−u lies within 2^-50 of the exact value for every finite u that is not below 0, and from 0 to 1; what it is at an infinity, a NaN and the zeros. Assumes
+-- nothing.
 use Prim.Native.Nat.{ℕ, _+_, _-_, _*_, _/_, _%_, _^_, _≤_, _<_}
-use native.Mathlib.Nat.{le-refl, le-trans, le-of-eq, mul-assoc, mul-comm, mul-left-comm, mul-one, one-mul, mul-sub, mul-add, add-mul, mul-le-mul-right, div-add-mod', mod-lt, add-sub-of-le, mul-pos, mul-right-comm, le-div-iff-mul-le, zero-mul}
+use native.Mathlib.Nat.{le-refl, le-trans, le-of-eq, mul-assoc, mul-comm, mul-sub, add-mul, mul-le-mul-right, div-add-mod', mod-lt, add-sub-of-le, mul-pos}
+use native.Mathlib.Nat.{mul-right-comm, le-div-iff-mul-le}
 use native.Mathlib.Omega.{arith}
-use mathlib.Core.Path.{_≡_, refl, ap, ap₂, sym, _∙_, subst, subst₂}
+use mathlib.Core.Path.{_≡_, refl, ap, ap₂, sym, _∙_, subst}
 use mathlib.Core.Bool.{Bool, true, false, _&&_, _||_, true≢false}
-use lib.Dec.{T, lit<, lit≤, leb→le, ltb, eqb, leb, ltb→lt, eqb→eq}
+use lib.Dec.{T, lit≤, ltb, eqb, ltb→lt, eqb→eq}
 use lib.Pow.{pow-pos}
 use lib.IntN.{pos}
-use lib.Ieee.{Float, nan, inf, fin, binary64, fits, ofBits, ofInt, mul, le, lt, eq, up, down}
+use lib.Ieee.{Float, nan, inf, fin, fits, ofBits, ofInt, mul, le, lt, eq, up, down}
 use lib.Ieee.Fits.{down-pos}
 use lib.Ieee.Scale.{finite}
 use Rattle.ieee.specs.Floats.{zeroFloat, oneFloat}
-use Rattle.ieee.specs.Values.{multiple, signOf}
-use Rattle.ieee.proofs.RoundingNearest.{Is}
+use Rattle.ieee.specs.Values.{multiple}
 use Rattle.series.specs.Series.{over, added, taken}
 use Rattle.series.specs.Bracket.{Within}
-use Rattle.series.proofs.Bounds.{Under, Above}
+use Rattle.series.proofs.Bounds.{Above}
 use Rattle.series.proofs.Bracket.{within, none-under}
 use Rattle.series.proofs.Near.{Near, under-units, above-units, above-product}
 use Rattle.series.proofs.Scale.{above-scaled}
@@ -28,20 +29,23 @@ use Rattle.exponential.proofs.UnitsNear.{units-near}
 use Rattle.exponential.proofs.Shown.{shown-fits, shown-is}
 
 -- ---- below 35: y units, shown as q multiples of 2^-53. With b for 2^1012, u and the result count 1 / (2^62·b), and 2^-50 is 4,096·b
-module _ (a b y q : ℕ) (b-positive : 0 < b) (low : q * 2 ^ 9 ≤ y + 2 ^ 8) (high : y + 2 ^ 8 < q * 2 ^ 9 + 2 ^ 9) (near : Near a (2 ^ 62 * b) (2 ^ 62) y 1140) where
+module _ (a b y q : ℕ) (b-positive : 0 < b) (low : q * 2 ^ 9 ≤ y + 2 ^ 8) (high : y + 2 ^ 8 < q * 2 ^ 9 + 2 ^ 9)
+    (near : Near a (2 ^ 62 * b) (2 ^ 62) y 1140) where
   less : (q * 2 ^ 9 * b - 4096 * b) * 2 ^ 62 ≤ (y - 1140) * (2 ^ 62 * b)
   less =
       let e : q * 2 ^ 9 * b - 4096 * b ≡ (q * 2 ^ 9 - 4096) * b =
       ap₂ (λ (m n : ℕ). m - n) (mul-comm (q * 2 ^ 9) b) (mul-comm 4096 b) ∙ sym (mul-sub b (q * 2 ^ 9) 4096) ∙ mul-comm b (q * 2 ^ 9 - 4096) in
       let h : q * 2 ^ 9 - 4096 ≤ y - 1140 = omega arith in
-      le-trans (le-of-eq (ap (λ (n : ℕ). n * 2 ^ 62) e ∙ mul-assoc (q * 2 ^ 9 - 4096) b (2 ^ 62) ∙ ap (λ (n : ℕ). (q * 2 ^ 9 - 4096) * n) (mul-comm b (2 ^ 62))))
+      le-trans (le-of-eq (ap (λ (n : ℕ). n * 2 ^ 62) e ∙ mul-assoc (q * 2 ^ 9 - 4096) b (2 ^ 62)
+      ∙ ap (λ (n : ℕ). (q * 2 ^ 9 - 4096) * n) (mul-comm b (2 ^ 62))))
       (mul-le-mul-right (2 ^ 62 * b) h)
 
   more : (y + 1140) * (2 ^ 62 * b) ≤ (q * 2 ^ 9 * b + 4096 * b) * 2 ^ 62
   more =
       let h : y + 1140 ≤ q * 2 ^ 9 + 4096 = omega arith in
       le-trans (mul-le-mul-right (2 ^ 62 * b) h)
-      (le-of-eq (sym (ap (λ (n : ℕ). n * 2 ^ 62) (sym (add-mul (q * 2 ^ 9) 4096 b)) ∙ mul-assoc (q * 2 ^ 9 + 4096) b (2 ^ 62) ∙ ap (λ (n : ℕ). (q * 2 ^ 9 + 4096) * n) (mul-comm b (2 ^ 62)))))
+      (le-of-eq (sym (ap (λ (n : ℕ). n * 2 ^ 62) (sym (add-mul (q * 2 ^ 9) 4096 b)) ∙ mul-assoc (q * 2 ^ 9 + 4096) b (2 ^ 62)
+      ∙ ap (λ (n : ℕ). (q * 2 ^ 9 + 4096) * n) (mul-comm b (2 ^ 62)))))
 
   within-shown : Within a (2 ^ 62 * b) (q * 2 ^ 9 * b) (2 ^ 62 * b) (4096 * b)
   within-shown =
@@ -63,14 +67,16 @@ from-35 a h =
     let U = 2 ^ 1074 in
     let whole : Above (U * 35) (U * 1) 1 (2 ^ 50) = above-scaled U 35 1 1 (2 ^ 50) above-35 in
     let sum : U * 35 + (a - U * 35) ≡ a = add-sub-of-le (subst (λ (n : ℕ). n ≤ a) (mul-comm 35 U) h) in
-    let both : Above a U 1 (2 ^ 50) = subst (λ (n : ℕ). Above n U 1 (2 ^ 50)) sum (above-product (U * 35) (a - U * 35) U 1 1 (2 ^ 50) 1 (pow-pos 1074) whole (none-more (a - U * 35) U)) in
+    let both : Above a U 1 (2 ^ 50) = subst (λ (n : ℕ). Above n U 1 (2 ^ 50)) sum
+    (above-product (U * 35) (a - U * 35) U 1 1 (2 ^ 50) 1 (pow-pos 1074) whole (none-more (a - U * 35) U)) in
     within a U 0 U (2 ^ 1024) (pow-pos 1074) (none-under a U U) (above-units a U 1 (2 ^ 50) (2 ^ 1024) U (pow-pos 50) (lit≤ tt) both)
 
 above-cut : (u : Float) → T (finite u) → le cut u ≡ true → 35 * 2 ^ 1074 ≤ multiple u
 unfolding le lt eq ofBits
 above-cut nan f h = absurd f
 above-cut (inf s) f h = absurd f
-above-cut (fin true m e) f h = let p = down-pos e in absurd (none (eqb (35 * 1 * down e) (m * up e * 1)) (eqb (35 * 1 * down e) 0) h (λ t. let z = eqb→eq (35 * 1 * down e) 0 t in omega arith))
+above-cut (fin true m e) f h = let p = down-pos e in absurd
+    (none (eqb (35 * 1 * down e) (m * up e * 1)) (eqb (35 * 1 * down e) 0) h (λ t. let z = eqb→eq (35 * 1 * down e) 0 t in omega arith))
   where
     none : (p q : Bool) → (false || (p && (false || q))) ≡ true → (T q → ⊥) → ⊥
     none true true h f = f tt
@@ -79,7 +85,9 @@ above-cut (fin true m e) f h = let p = down-pos e in absurd (none (eqb (35 * 1 *
 above-cut (fin false m e) f h =
     le-div-iff-mul-le (down-pos e) .1
     (le-trans (le-of-eq (mul-right-comm 35 (2 ^ 1074) (down e)))
-    (mul-le-mul-right (2 ^ 1074) (go (ltb (35 * 1 * down e) (m * up e * 1)) (eqb (35 * 1 * down e) (m * up e * 1)) (ltb→lt (35 * 1 * down e) (m * up e * 1)) (eqb→eq (35 * 1 * down e) (m * up e * 1)) h)))
+    (mul-le-mul-right (2 ^ 1074)
+    (go (ltb (35 * 1 * down e) (m * up e * 1)) (eqb (35 * 1 * down e) (m * up e * 1)) (ltb→lt (35 * 1 * down e) (m * up e * 1))
+    (eqb→eq (35 * 1 * down e) (m * up e * 1)) h)))
   where
     go : (p q : Bool) → (T p → 35 * 1 * down e < m * up e * 1) → (T q → 35 * 1 * down e ≡ m * up e * 1) → (p || (q && true)) ≡ true → 35 * down e ≤ m * up e
     go true q f g h = let x = f tt in omega arith
@@ -116,7 +124,8 @@ below-35 u not-below under =
       number = value .is-finite;
       sign = value .its-sign;
       at-most-one = subst (λ (r : ℕ). r ≤ 2 ^ 1074) (sym (value .its-multiple)) (mul-le-mul-right (2 ^ 1021) (last-digit y y-small));
-      within = subst (λ (r : ℕ). Within v (2 ^ 1074) r (2 ^ 1074) (2 ^ 1024)) (sym R) (within-shown v (2 ^ 1012) y q (pow-pos 1012) (omega arith) (omega arith) near);
+      within = subst (λ (r : ℕ). Within v (2 ^ 1074) r (2 ^ 1074) (2 ^ 1024)) (sym R)
+          (within-shown v (2 ^ 1012) y q (pow-pos 1012) (omega arith) (omega arith) near);
     }
 
 pub every-close : EveryClose
@@ -124,7 +133,8 @@ unfolding expNeg
 every-close u f finite-u not-below = go (le cut u) refl
   where
     go : (b : Bool) → le cut u ≡ b → Close u (byRange u (shown (units (multiple u / 2 ^ 1017))))
-    go false h = subst (λ (r : Float). Close u r) (sym (inside u (shown (units (multiple u / 2 ^ 1017))) h (truth (le zeroFloat u) not-below))) (below-35 u not-below h)
+    go false h = subst (λ (r : Float). Close u r) (sym (inside u (shown (units (multiple u / 2 ^ 1017))) h (truth (le zeroFloat u) not-below)))
+        (below-35 u not-below h)
     go true h = subst (λ (r : Float). Close u r) (sym (from-cut u (shown (units (multiple u / 2 ^ 1017))) h)) (zero-close u (above-cut u finite-u h))
 
 one : shown (units 0) ≡ oneFloat

@@ -1,11 +1,10 @@
 -- The tables' rule, by one computed test over each of them: every entry lies within one unit of 2^-62 of e^−(i/512), and of e^−k. Assumes nothing.
-use Prim.Native.Nat.{ℕ, suc, _+_, _-_, _*_, _^_, _≤_, _<_}
+use Prim.Native.Nat.{ℕ, suc, _+_, _-_, _*_, _^_, _<_}
 use native.Mathlib.Omega.{arith}
 use mathlib.Core.Path.{_≡_, refl}
 use mathlib.Core.Bool.{Bool, true, false}
 use lib.Dec.{T, leb, ltb, leb→le, ltb→lt}
 use Rattle.series.specs.Series.{even, over, added, taken}
-use Rattle.series.specs.Bracket.{Within}
 use Rattle.series.proofs.Bounds.{from-lower, from-upper}
 use Rattle.series.proofs.Bracket.{within}
 use Rattle.series.proofs.Near.{Near}

@@ -1,12 +1,12 @@
 -- The short series for an f below 1/512 lies within 1,100 units of 2^-62 of e^−f: its terms up to the fourth power are an upper sum, those up to the fifth a
 -- lower one, and what the products cut off is a few units. Assumes nothing.
 use Prim.Native.Nat.{ℕ, _+_, _-_, _*_, _/_, _^_, _≤_, _<_}
-use native.Mathlib.Nat.{le-of-lt, mul-le-mul, le-trans, le-of-eq, mul-assoc}
+use native.Mathlib.Nat.{mul-add, mul-one, mul-div-le, lt-mul-div-succ, le-of-lt, mul-le-mul}
 use native.Mathlib.Omega.{arith}
-use mathlib.Core.Path.{_≡_, refl}
+use mathlib.Core.Path.{_≡_, refl, ap, _∙_, subst}
 use Rattle.series.proofs.Bounds.{from-lower, from-upper}
 use Rattle.series.proofs.Near.{Near}
-use Rattle.exponential.specs.Exponential.{times, fromPowers, shortSeries}
+use Rattle.exponential.specs.Exponential.{times, shortSeries}
 use Rattle.exponential.proofs.ShortSums.{third-low, third-high, fourth-low, fourth-high, lower-sum, upper-sum}
 
 -- the series and its powers in units, g2, g3, g4 and g5 their quotients
@@ -18,29 +18,15 @@ above-linear : (f f2 f3 f4 g2 g3 g4 g5 : ℕ) → f < 2 ^ 53 → g3 ≤ 2 ^ 35 �
     → 24 * 2 ^ 62 + 12 * f2 + f4 + 14 ≤ 24 * (2 ^ 62 + g2 + g4 - (f + g3 + g5) + 1100) + 24 * f + 4 * f3
 above-linear f f2 f3 f4 g2 g3 g4 g5 a b c d e h = omega arith
 
-halves : (n : ℕ) → 2 * (n / 2) ≤ n
-halves n = omega arith
-
-halves' : (n : ℕ) → n < 2 * (n / 2) + 2
-halves' n = omega arith
-
-sixths : (n : ℕ) → n < 6 * (n / 6) + 6
-sixths n = omega arith
-
-sixths' : (n : ℕ) → 6 * (n / 6) ≤ n
-sixths' n = omega arith
-
 sixth-small : (n : ℕ) → n ≤ 2 ^ 35 → n / 6 ≤ 2 ^ 35
 sixth-small n h = omega arith
 
-parts-of-24 : (n : ℕ) → 24 * (n / 24) ≤ n
-parts-of-24 n = omega arith
-
-parts-of-24' : (n : ℕ) → n < 24 * (n / 24) + 24
-parts-of-24' n = omega arith
-
 small-part : (n : ℕ) → n ≤ 2 ^ 17 → n / 120 ≤ 1093
 small-part n h = omega arith
+
+-- a quotient's rest is less than the divisor
+quotient : (k n : ℕ) → 0 < k → n < k * (n / k) + k
+quotient k n h = subst (λ (m : ℕ). n < m) (mul-add k (n / k) 1 ∙ ap (λ (m : ℕ). k * (n / k) + m) (mul-one k)) (lt-mul-div-succ n h)
 
 module _ (f f2 f3 f4 f5 : ℕ) (small : f < 2 ^ 53) (e2 : f2 ≡ times f f) (e3 : f3 ≡ times f f2) (e4 : f4 ≡ times f2 f2) (e5 : f5 ≡ times f2 f3) where
   square-small : f * f ≤ 2 ^ 106
@@ -75,12 +61,14 @@ module _ (f f2 f3 f4 f5 : ℕ) (small : f < 2 ^ 53) (e2 : f2 ≡ times f f) (e3 
             (lower-sum (2 ^ 62) (p - 1100) f f2 f3 f4 (omega arith) second-low
             (fourth-low (2 ^ 62) f f2 f3 f4 (omega arith) second-low second-high (omega arith))
             (third-high (2 ^ 62) f f2 f3 f4 (omega arith) second-low second-high (omega arith))
-            fifth-small (under-linear f f2 f3 f4 (f2 / 2) (f3 / 6) (f4 / 24) (f5 / 120) small third-units (halves f2) (sixths f3) (parts-of-24 f4)));
+            fifth-small (under-linear f f2 f3 f4 (f2 / 2) (f3 / 6) (f4 / 24) (f5 / 120) small third-units (mul-div-le f2 2) (quotient 6 f3 (omega arith))
+            (mul-div-le f4 24)));
         above = from-upper f (2 ^ 62) (p + 1100) (2 ^ 62) (omega arith) 4 refl
             (upper-sum (2 ^ 62) (p + 1100) f f2 f3 f4 (omega (arith, second-units)) second-high
             (third-low (2 ^ 62) f f2 f3 f4 (omega arith) second-low second-high (omega arith))
             (fourth-high (2 ^ 62) f f2 f3 f4 (omega arith) second-low second-high (omega arith))
-            (above-linear f f2 f3 f4 (f2 / 2) (f3 / 6) (f4 / 24) (f5 / 120) small (sixth-small f3 third-units) (small-part f5 fifth-units) (halves' f2) (sixths' f3) (parts-of-24' f4)));
+            (above-linear f f2 f3 f4 (f2 / 2) (f3 / 6) (f4 / 24) (f5 / 120) small (sixth-small f3 third-units) (small-part f5 fifth-units)
+            (quotient 2 f2 (omega arith)) (mul-div-le f3 6) (quotient 24 f4 (omega arith))));
       }
 
 pub series-near : (f : ℕ) → f < 2 ^ 53 → Near f (2 ^ 62) (2 ^ 62) (shortSeries f) 1100

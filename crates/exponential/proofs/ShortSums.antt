@@ -3,7 +3,7 @@
 use Prim.Native.Nat.{ℕ, _+_, _*_, _^_, _≤_}
 use native.Mathlib.Nat.{mul-le-mul, mul-le-mul-left, mul-le-mul-right, one-mul, pow-suc, pow-zero}
 use native.Mathlib.Omega.{arith}
-use mathlib.Core.Path.{_≡_, ap, ap₂, sym, _∙_, subst, subst₂}
+use mathlib.Core.Path.{_≡_, ap, ap₂, sym, _∙_, subst₂}
 use Rattle.series.specs.Series.{over, added, taken}
 
 -- ---- powers as products
@@ -77,14 +77,16 @@ module _ (z : ℕ) where
   unfolding added
   added-five f = ap (λ (a : ℕ). a * (z * 5) + 0) (added-four f) ∙ go
     where
-      go : (24 * (z * z * z * z) + 12 * (f * f * (z * z)) + f * f * f * f) * (z * 5) + 0 ≡ 120 * (z * z * z * z * z) + 60 * (f * f * (z * z * z)) + 5 * (f * f * f * f * z)
+      go : (24 * (z * z * z * z) + 12 * (f * f * (z * z)) + f * f * f * f) * (z * 5) + 0 ≡ 120 * (z * z * z * z * z) + 60 * (f * f * (z * z * z)) + 5 *
+          (f * f * f * f * z)
       go = omega arith
 
   taken-five : (f : ℕ) → taken f z 5 ≡ 120 * (f * (z * z * z * z)) + 20 * (f * f * f * (z * z)) + f * f * f * f * f
   unfolding taken
   taken-five f = ap₂ (λ (a b : ℕ). a * (z * 5) + b) (taken-four f) (fifth f) ∙ go
     where
-      go : (24 * (f * (z * z * z)) + 4 * (f * f * f * z)) * (z * 5) + f * f * f * f * f ≡ 120 * (f * (z * z * z * z)) + 20 * (f * f * f * (z * z)) + f * f * f * f * f
+      go : (24 * (f * (z * z * z)) + 4 * (f * f * f * z)) * (z * 5) + f * f * f * f * f ≡ 120 * (f * (z * z * z * z)) + 20 *
+          (f * f * f * (z * z)) + f * f * f * f * f
       go = omega arith
 
   times-added-four : (f : ℕ) → z * added f z 4 ≡ 24 * (z * (z * z * z * z)) + 12 * (f * f * (z * z * z)) + f * f * f * f * z
@@ -114,7 +116,8 @@ module _ (z : ℕ) where
       go = omega arith
 
 -- with each product a number of its own
-lower-linear : (C F G Z P Q O A B D E H : ℕ) → P ≤ A → Q ≤ B → D ≤ G + O + H → H ≤ O → E ≤ 131072 * O → 24 * C + 24 * F + 4 * G + 26372 * O ≤ 24 * Z + 12 * P + Q
+lower-linear : (C F G Z P Q O A B D E H : ℕ) → P ≤ A → Q ≤ B → D ≤ G + O + H → H ≤ O → E ≤ 131072 * O
+    → 24 * C + 24 * F + 4 * G + 26372 * O ≤ 24 * Z + 12 * P + Q
     → 120 * C + (120 * F + 20 * D + E) ≤ 120 * Z + 60 * A + 5 * B
 lower-linear C F G Z P Q O A B D E H a b d h e l = omega arith
 
@@ -149,7 +152,8 @@ lower-sum z c f f2 f3 f4 large second-low fourth-low third-high fifth-small line
     h : 24 * (c * (z * z * z * z * z)) + 24 * (f * (z * z * z * z * z)) + 4 * (f3 * (z * z * z * z * z)) + 26372 * (z * z * z * z * z)
         ≤ 24 * (z * (z * z * z * z * z)) + 12 * (f2 * (z * z * z * z * z)) + f4 * (z * z * z * z * z)
     h =
-        let k : (24 * c + 24 * f + 4 * f3 + 26372) * (z * z * z * z * z) ≤ (24 * z + 12 * f2 + f4) * (z * z * z * z * z) = mul-le-mul-right (z * z * z * z * z) linear in
+        let k : (24 * c + 24 * f + 4 * f3 + 26372) * (z * z * z * z * z) ≤ (24 * z + 12 * f2 + f4) * (z * z * z * z * z) = mul-le-mul-right
+        (z * z * z * z * z) linear in
         omega (arith, k)
 
 pub upper-sum : (z c f f2 f3 f4 : ℕ) → 2 * f2 + 1 ≤ z → f * f ≤ f2 * z + z → f3 * (z * z) ≤ f * f * f

@@ -1,19 +1,18 @@
 -- The f64 that y units of 2^-62 are shown as, for y up to 2^62: (y + 2^8) / 2^9 multiples of 2^-53, exactly. Assumes nothing.
-use Prim.Native.Nat.{ℕ, suc, _+_, _*_, _/_, _^_, _≤_, _<_}
-use native.Mathlib.Nat.{lt-of-le-of-lt, mul-le-mul-right, mul-one, one-mul, mul-comm, mul-assoc, mul-pos, mul-right-comm, eq-or-lt-of-le}
+use Prim.Native.Nat.{ℕ, _+_, _*_, _/_, _^_, _≤_, _<_}
+use native.Mathlib.Nat.{lt-of-le-of-lt, mul-le-mul-right, one-mul, mul-assoc, mul-pos, mul-right-comm, eq-or-lt-of-le}
 use native.Mathlib.Omega.{arith}
 use mathlib.Core.Path.{_≡_, refl, ap, sym, _∙_, subst}
-use mathlib.Core.Bool.{Bool, true, false}
+use mathlib.Core.Bool.{Bool, false}
 use mathlib.Core.Logic.{⊎-elim}
 use lib.Dec.{T, lit<}
 use lib.Pow.{pow-add, pow-pos}
-use lib.IntN.{ℤ, pos, negsuc}
+use lib.IntN.{pos}
 use lib.Ieee.{Float, nan, inf, fin, binary64, ofBits, ofInt, mul, round, up, down, fits, unlike}
 use lib.Ieee.Exact.{HasValue, round-exact}
-use lib.Ieee.Scale.{finite, round-same}
+use lib.Ieee.Scale.{round-same}
 use lib.Ieee.Fits.{down-pos, round-fits}
-use Rattle.ieee.specs.Values.{multiple, signOf}
-use Rattle.ieee.proofs.RoundingNearest.{Is, is, round-nearest}
+use Rattle.ieee.proofs.RoundingNearest.{Is, is}
 use Rattle.exponential.specs.Exponential.{shown}
 
 -- a fraction with up to 53 digits above a power of two is an f64
@@ -24,7 +23,8 @@ exact n den j h positive unit small =
     (round-exact binary64 false (2 ^ 53) den 1 (53 + j) positive (omega arith)
     (subst (λ (k : ℕ). k < 2 ^ 2098) (sym one) small)
     (ap (λ (k : ℕ). 2 ^ 53 * k) unit ∙ sym (mul-assoc (2 ^ 53) (2 ^ j) den) ∙ ap (λ (k : ℕ). k * den) (sym one))))
-    (λ l. round-exact binary64 false n den n j positive l (lt-of-le-of-lt (mul-le-mul-right (2 ^ j) h) small) (ap (λ (k : ℕ). n * k) unit ∙ sym (mul-assoc n (2 ^ j) den)))
+    (λ l. round-exact binary64 false n den n j positive l (lt-of-le-of-lt (mul-le-mul-right (2 ^ j) h) small)
+    (ap (λ (k : ℕ). n * k) unit ∙ sym (mul-assoc n (2 ^ j) den)))
     (eq-or-lt-of-le h)
   where
     one : 1 * 2 ^ (53 + j) ≡ 2 ^ 53 * 2 ^ j

@@ -1,9 +1,11 @@
--- The product of the three parts lies within 1,140 units of 2^-62 of e^−u, for every u below 35 whose first digits are w·2^-57. u is (w·32·b + rest) / (2^62·b), with b
+-- The product of the three parts lies within 1,140 units of 2^-62 of e^−u, for every u below 35 whose first digits are w·2^-57. u is (w·32·b + rest) /
+-- (2^62·b), with b
 -- left open: 2^1012 where u is a multiple of 2^-1074. Assumes nothing.
 use Prim.Native.Nat.{ℕ, _+_, _-_, _*_, _/_, _%_, _^_, _≤_, _<_}
-use native.Mathlib.Nat.{le-refl, le-trans, le-of-eq, le-of-lt, lt-of-lt-of-le, mul-one, one-mul, mul-comm, mul-assoc, mul-pos, mul-add, add-mul, mul-le-mul-left, mul-le-mul-right, add-zero, zero-add, zero-mul, mul-zero, pow-suc, pow-zero, sub-add-cancel, div-mul-le-self, lt-div-mul-add}
+use native.Mathlib.Nat.{le-refl, le-of-lt, mul-one, one-mul, mul-comm, mul-pos, add-mul, mul-le-mul-left, add-zero, zero-add, zero-mul, pow-suc, pow-zero}
+use native.Mathlib.Nat.{sub-add-cancel, div-mul-le-self, lt-div-mul-add}
 use native.Mathlib.Omega.{arith}
-use mathlib.Core.Path.{_≡_, refl, ap, ap₂, sym, _∙_, subst, subst₂}
+use mathlib.Core.Path.{_≡_, refl, ap, sym, _∙_, subst}
 use Rattle.series.specs.Series.{over, added, taken}
 use Rattle.series.proofs.Bounds.{from-lower, from-upper}
 use Rattle.series.proofs.Near.{Near, near-product}
@@ -27,7 +29,8 @@ rest-near b r positive h =
     let large : 0 < U = mul-pos (omega arith) positive in
     record {
       under = from-lower r U (2 ^ 62 - 32) (2 ^ 62) large 1 refl (omega arith)
-          (subst (λ (n : ℕ). (2 ^ 62 - 32) * (1 * (U * 1)) + 2 ^ 62 * (0 * (U * 1) + n) ≤ 2 ^ 62 * (1 * (U * 1) + 0)) (sym (pow-suc r 0 ∙ ap (λ (n : ℕ). n * r) (pow-zero r) ∙ one-mul r))
+          (subst (λ (n : ℕ). (2 ^ 62 - 32) * (1 * (U * 1)) + 2 ^ 62 * (0 * (U * 1) + n) ≤ 2 ^ 62 * (1 * (U * 1) + 0))
+          (sym (pow-suc r 0 ∙ ap (λ (n : ℕ). n * r) (pow-zero r) ∙ one-mul r))
           (rest-lower (2 ^ 62) b r (omega arith) (le-of-lt h)));
       above = from-upper r U (2 ^ 62 + 32) (2 ^ 62) large 0 refl (omega arith);
     }
@@ -90,9 +93,11 @@ module _ (w b : ℕ) (below : w < 35 * 2 ^ 57) (b-positive : 0 < b) where
       near-product a1 a2 U (2 ^ 62) k i 1 1 (times k i) U-positive (omega arith) whole-part fraction-part (whole-part-le w below) (fraction-part-le w below)
       (omega arith) (cut-low k i) (cut-high k i) in
       let three : Near (a1 + a2 + a3) U (2 ^ 62) (times (times k i) s) 1106 =
-      near-product (a1 + a2) a3 U (2 ^ 62) (times k i) s 4 1100 (times (times k i) s) U-positive (omega arith) two series-part (parts-le w below) (series-part-le w below)
+      near-product (a1 + a2) a3 U (2 ^ 62) (times k i) s 4 1100 (times (times k i) s) U-positive (omega arith) two series-part (parts-le w below)
+      (series-part-le w below)
       (omega arith) (cut-low (times k i) s) (cut-high (times k i) s) in
       let four : Near (a1 + a2 + a3 + rest) U (2 ^ 62) (units w) 1140 =
-      near-product (a1 + a2 + a3) rest U (2 ^ 62) (units w) (2 ^ 62) 1106 32 (units w) U-positive (omega arith) three (rest-near b rest b-positive h) (units-le w below)
+      near-product (a1 + a2 + a3) rest U (2 ^ 62) (units w) (2 ^ 62) 1106 32 (units w) U-positive (omega arith) three (rest-near b rest b-positive h)
+      (units-le w below)
       (le-refl (2 ^ 62)) (omega arith) (le-refl (units w * 2 ^ 62)) (one-more (units w * 2 ^ 62)) in
       subst (λ (a : ℕ). Near (a + rest) U (2 ^ 62) (units w) 1140) (digits w b) four

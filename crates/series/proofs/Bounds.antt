@@ -1,16 +1,13 @@
 -- A fraction below e^−u, and one above it: held to the sums of positive terms, where products are easy, and to the alternating sums, by which the statements
 -- are made; each leads to the other. So every lower sum is below every upper one. Assumes nothing.
 use Prim.Native.Nat.{ℕ, zero, suc, _+_, _-_, _*_, _≤_, _<_}
-use native.Mathlib.Nat.{le-refl, le-trans, le-of-eq, le-dest, mul-add, add-mul, mul-assoc, mul-comm, mul-left-comm, mul-pos, mul-le-mul, mul-le-mul-left, mul-le-mul-right, le-of-mul-le-mul-left, le-of-mul-le-mul-right, add-zero, zero-add, zero-mul}
+use native.Mathlib.Nat.{le-refl, le-trans, le-dest, mul-add, add-mul, mul-assoc, mul-comm, mul-le-mul-left, mul-le-mul-right, le-of-mul-le-mul-right}
 use native.Mathlib.Omega.{arith}
-use mathlib.Core.Path.{_≡_, refl, ap, ap₂, sym, _∙_, subst, subst₂}
+use mathlib.Core.Path.{_≡_, ap, ap₂, sym, _∙_, subst}
 use mathlib.Core.Bool.{true, false}
-use mathlib.Core.Logic.{⊎-elim}
-use native.Mathlib.Decide.{decLe}
 use Rattle.series.specs.Series.{even, over, added, taken}
-use Rattle.series.specs.Bracket.{AtMost, AtLeast, Within}
 use Rattle.series.proofs.Terms.{over-positive, sorted}
-use Rattle.series.proofs.Products.{all, product-under, product-over}
+use Rattle.series.proofs.Products.{all}
 use Rattle.series.proofs.Squares.{even-square, odd-square}
 use Rattle.series.proofs.Steps.{under-before, above-after, onward, onward-odd, onward-far, climb, descend, all-next}
 
@@ -78,7 +75,8 @@ module _ (a d c q : ℕ) (d-positive : 0 < d) where
       let far = le-dest (onward-far n m .1) in
       under-before a d c q d-positive m (far .0)
       (subst (λ (k : ℕ). c * all a d k ≤ q * over d k) (sym (far .1))
-      (odd-under c q (over d N) (added a d N) (taken a d N) (over-positive d N d-positive) (odd-square a d N d-positive (onward-odd n m odd)) (climb a d c q d-positive n m odd h l)))
+      (odd-under c q (over d N) (added a d N) (taken a d N) (over-positive d N d-positive) (odd-square a d N d-positive (onward-odd n m odd))
+      (climb a d c q d-positive n m odd h l)))
 
   pub from-upper : (n : ℕ) → even n ≡ true → q * added a d n ≤ c * over d n + q * taken a d n → Above a d c q
   from-upper n ev l =

@@ -1,6 +1,6 @@
 -- The alternating sums bracket each other, so the statement by them cannot be empty: every lower sum past u is at most every upper one. Assumes nothing.
 use Prim.Native.Nat.{ℕ, _+_, _-_, _*_, _≤_, _<_}
-use native.Mathlib.Nat.{mul-comm, mul-sub, mul-le-mul-left, sub-add-cancel, add-mul, zero-mul, le-of-lt, le-of-eq, lt-of-not-le}
+use native.Mathlib.Nat.{mul-comm, sub-add-cancel, add-mul, zero-mul, le-of-lt, le-of-eq, lt-of-not-le}
 use native.Mathlib.Omega.{arith}
 use native.Mathlib.Decide.{decLe}
 use mathlib.Core.Path.{_≡_, ap, sym, _∙_, subst}
@@ -24,9 +24,11 @@ module _ (a d n m : ℕ) (d-positive : 0 < d) (odd : even n ≡ false) (past : a
           let c = added a d n - taken a d n in
           let is : c + taken a d n ≡ added a d n = sub-add-cancel h in
           let exact : c * over d n + over d n * taken a d n ≤ over d n * added a d n =
-          le-of-eq (ap (λ (k : ℕ). k + over d n * taken a d n) (mul-comm c (over d n)) ∙ sym (native.Mathlib.Nat.mul-add (over d n) c (taken a d n)) ∙ ap (λ (k : ℕ). over d n * k) is) in
+          le-of-eq (ap (λ (k : ℕ). k + over d n * taken a d n) (mul-comm c (over d n)) ∙ sym (native.Mathlib.Nat.mul-add (over d n) c (taken a d n))
+          ∙ ap (λ (k : ℕ). over d n * k) is) in
           let upper = to-upper a d c (over d n) d-positive (from-lower a d c (over d n) d-positive n odd past exact) m ev in
-          let whole : added a d n * over d m ≡ c * over d m + taken a d n * over d m = ap (λ (k : ℕ). k * over d m) (sym is) ∙ add-mul c (taken a d n) (over d m) in
+          let whole : added a d n * over d m ≡ c * over d m + taken a d n * over d m = ap (λ (k : ℕ). k * over d m) (sym is)
+          ∙ add-mul c (taken a d n) (over d m) in
           omega (arith, upper, whole)
       go (no h) =
           let less : added a d n * over d m ≤ taken a d n * over d m = native.Mathlib.Nat.mul-le-mul-right (over d m) (le-of-lt (lt-of-not-le h)) in

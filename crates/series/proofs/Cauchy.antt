@@ -1,8 +1,9 @@
 -- The product of two series of positive terms: its terms, by the sum of the two powers, are those of the series of a + b. Assumes nothing.
 use Prim.Native.Nat.{ℕ, zero, suc, _+_, _-_, _*_, _≤_, _<_}
-use native.Mathlib.Nat.{le-refl, le-trans, le-of-lt, le-of-suc-le-suc, le-add-right, mul-add, add-mul, mul-assoc, mul-comm, mul-left-comm, mul-pos, mul-zero, zero-mul, add-zero, zero-add, suc-add, sub-zero, sub-self, sub-le, suc-sub-suc, eq-of-mul-eq-mul-left, zero-lt-suc, mul-le-mul-left, add-sub-of-le}
+use native.Mathlib.Nat.{le-trans, le-of-lt, le-of-suc-le-suc, mul-add, add-mul, mul-assoc, mul-comm, mul-left-comm, mul-pos, mul-zero, zero-mul, add-zero}
+use native.Mathlib.Nat.{zero-add, suc-add, sub-zero, sub-self, suc-sub-suc, eq-of-mul-eq-mul-left, zero-lt-suc, mul-le-mul-left, add-sub-of-le}
 use native.Mathlib.Omega.{arith}
-use mathlib.Core.Path.{_≡_, refl, ap, ap₂, sym, _∙_, subst}
+use mathlib.Core.Path.{_≡_, ap, ap₂, sym, _∙_, subst}
 use Rattle.series.proofs.Sums.{total, same, both, scaled, less, more, first}
 use Rattle.series.proofs.Terms.{Terms, step, sorted}
 
@@ -29,7 +30,8 @@ by-powers x y (suc n) =
     (λ i l. rw (suc-less n i l) (mul-add (x i) (total (suc (n - i)) y) (y (suc (n - i)))))
     ∙ both (suc n) (λ i. x i * total (suc (n - i)) y) (λ i. x i * y (suc n - i)) in
     let last : x (suc n) * total (suc (suc n - suc n)) y ≡ x (suc n) * y (suc n - suc n) =
-    ap (λ (k : ℕ). x (suc n) * total (suc k) y) (sub-self (suc n)) ∙ ap (λ (k : ℕ). x (suc n) * k) (zero-add (y 0)) ∙ ap (λ (k : ℕ). x (suc n) * y k) (sym (sub-self (suc n))) in
+    ap (λ (k : ℕ). x (suc n) * total (suc k) y) (sub-self (suc n)) ∙ ap (λ (k : ℕ). x (suc n) * k) (zero-add (y 0))
+    ∙ ap (λ (k : ℕ). x (suc n) * y k) (sym (sub-self (suc n))) in
     omega (arith, before, rows, last)
 
 -- ---- a row of the triangle is at most a row of the square, and a row of a square at most one of the triangle
@@ -83,7 +85,8 @@ module _ (a b d K : ℕ) (x y : ℕ → ℕ) (d-positive : 0 < d) (is-x : Terms 
       ∙ both (suc (suc k)) f g in
       let left : total (suc (suc k)) f ≡ a * cauchy x y k =
       first (suc k) f
-      ∙ ap₂ (λ (m n : ℕ). m + n) (simp (mul-zero, zero-mul)) (same (suc k) (λ i. f (suc i)) (λ i. a * (x i * y (k - i))) (λ i l. lefts k i h l) ∙ scaled (suc k) a (λ i. x i * y (k - i)))
+      ∙ ap₂ (λ (m n : ℕ). m + n) (simp (mul-zero, zero-mul))
+      (same (suc k) (λ i. f (suc i)) (λ i. a * (x i * y (k - i))) (λ i l. lefts k i h l) ∙ scaled (suc k) a (λ i. x i * y (k - i)))
       ∙ zero-add (a * cauchy x y k) in
       let right : total (suc (suc k)) g ≡ b * cauchy x y k =
       ap₂ (λ (m n : ℕ). m + n) (same (suc k) g (λ i. b * (x i * y (k - i))) (λ i l. rights k i h l) ∙ scaled (suc k) b (λ i. x i * y (k - i)))

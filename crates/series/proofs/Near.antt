@@ -1,9 +1,10 @@
 -- Numbers of units near e^−u, q units to 1: how far a product of two lies from e^−(u + v). Assumes nothing.
-use Prim.Native.Nat.{ℕ, zero, suc, _+_, _-_, _*_, _≤_, _<_}
-use native.Mathlib.Nat.{le-refl, le-trans, le-of-eq, mul-add, add-mul, mul-assoc, mul-comm, mul-left-comm, mul-pos, mul-le-mul, mul-le-mul-left, mul-le-mul-right, le-of-mul-le-mul-left, le-of-mul-le-mul-right, sub-add-cancel, zero-mul}
+use Prim.Native.Nat.{ℕ, _+_, _-_, _*_, _≤_, _<_}
+use native.Mathlib.Nat.{le-trans, le-of-eq, mul-add, add-mul, mul-assoc, mul-comm, mul-left-comm, mul-pos, mul-le-mul, mul-le-mul-left, mul-le-mul-right}
+use native.Mathlib.Nat.{le-of-mul-le-mul-left, sub-add-cancel, zero-mul}
 use native.Mathlib.Decide.{decLe}
 use native.Mathlib.Omega.{arith}
-use mathlib.Core.Path.{_≡_, refl, ap, ap₂, sym, _∙_, subst, subst₂}
+use mathlib.Core.Path.{_≡_, ap, sym, _∙_, subst}
 use Rattle.series.specs.Series.{over}
 use Rattle.series.proofs.Terms.{over-positive, sorted}
 use Rattle.series.proofs.Products.{all, product-under, product-over}
@@ -73,7 +74,8 @@ above-units a d c q e r positive h u =
           le-of-mul-le-mul-left
           (le-trans (le-of-eq (mul-left-comm q r (over d (u .power))))
           (le-trans (mul-le-mul-left r (u .enough))
-          (le-trans (le-of-eq (turned r c (all a d (u .power)))) (le-trans (mul-le-mul-right (all a d (u .power)) h) (le-of-eq (turned' e q (all a d (u .power))))))))
+          (le-trans (le-of-eq (turned r c (all a d (u .power))))
+          (le-trans (mul-le-mul-right (all a d (u .power)) h) (le-of-eq (turned' e q (all a d (u .power))))))))
           positive;
     }
   where

@@ -1,7 +1,8 @@
 -- The product of two terms of one series is a whole multiple of the term of the sum of their powers. Assumes nothing.
 use Prim.Native.Nat.{ℕ, zero, suc, _+_, _*_, _^_, _≤_, _<_}
-use native.Mathlib.Nat.{le-trans, le-add-right, le-add-left, mul-add, add-mul, mul-assoc, mul-comm, mul-left-comm, mul-pos, mul-one, one-mul, add-zero, zero-add, add-suc, suc-add, add-comm, eq-of-mul-eq-mul-left, eq-of-mul-eq-mul-right, zero-lt-suc}
-use mathlib.Core.Path.{_≡_, refl, ap, ap₂, sym, _∙_, subst}
+use native.Mathlib.Nat.{le-trans, le-add-right, le-add-left, mul-add, add-mul, mul-comm, mul-pos, mul-one, one-mul, add-zero, zero-add, add-suc, suc-add}
+use native.Mathlib.Nat.{add-comm, eq-of-mul-eq-mul-left, eq-of-mul-eq-mul-right, zero-lt-suc}
+use mathlib.Core.Path.{_≡_, ap, ap₂, sym, _∙_}
 use lib.Pow.{pow-add}
 use Rattle.series.specs.Series.{over}
 use Rattle.series.proofs.Terms.{Terms, over-positive, sorted}

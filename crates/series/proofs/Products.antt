@@ -1,8 +1,8 @@
 -- The functional equation for sums of positive terms, E_n(u) = 1 + u + u²/2 + .. + u^n/n!, with no rest to bound: E_n(a + b) ≤ E_n(a)·E_n(b), and
 -- E_n(a)·E_m(b) ≤ E_(n+m)(a + b). Numbers are over d. Assumes nothing.
-use Prim.Native.Nat.{ℕ, zero, suc, _+_, _*_, _≤_, _<_}
-use native.Mathlib.Nat.{le-refl, le-trans, le-of-eq, le-of-lt, le-of-suc-le-suc, le-add-right, le-add-left, mul-assoc, mul-comm, mul-left-comm, mul-pos, mul-le-mul-left, le-of-mul-le-mul-left}
-use mathlib.Core.Path.{_≡_, refl, ap, ap₂, sym, _∙_, subst, subst₂}
+use Prim.Native.Nat.{ℕ, suc, _+_, _*_, _≤_, _<_}
+use native.Mathlib.Nat.{le-refl, le-of-suc-le-suc, le-add-right, le-add-left, mul-assoc, mul-left-comm, mul-pos, mul-le-mul-left, le-of-mul-le-mul-left}
+use mathlib.Core.Path.{_≡_, ap, ap₂, sym, _∙_, subst₂}
 use Rattle.series.specs.Series.{over, added, taken}
 use Rattle.series.proofs.Sums.{total, same, scaled}
 use Rattle.series.proofs.Terms.{Terms, terms, are-terms, all-sum, sorted}
@@ -77,4 +77,5 @@ product-over a b d n m h =
     let z = terms (a + b) d K in
     above (x 0) (y 0) (z 0) (all a d n) (all b d m) (all (a + b) d K) (total (suc n) x) (total (suc m) y) (total (suc K) z) (triangle x y K)
     (is-x .unit) (is-y .unit) (is-z .unit) (triangle-terms a b d K x y z h is-x is-y is-z) (over d K) (over d n) (over d m)
-    (all-sum a d K x h is-x n (le-add-right n m)) (all-sum b d K y h is-y m (le-add-left m n)) (all-sum (a + b) d K z h is-z K (le-refl K)) (holds-square x y n m)
+    (all-sum a d K x h is-x n (le-add-right n m)) (all-sum b d K y h is-y m (le-add-left m n)) (all-sum (a + b) d K z h is-z K (le-refl K))
+    (holds-square x y n m)

@@ -1,6 +1,6 @@
 -- a / d and k·a / k·d are one number: what is below and above e^−(a/d) is so of the other. Assumes nothing.
-use Prim.Native.Nat.{ℕ, zero, suc, _+_, _-_, _*_, _^_, _≤_, _<_}
-use native.Mathlib.Nat.{le-trans, le-of-eq, mul-add, mul-assoc, mul-comm, mul-left-comm, mul-one, one-mul, pow-suc, pow-zero, mul-le-mul-left}
+use Prim.Native.Nat.{ℕ, zero, suc, _+_, _-_, _*_, _^_}
+use native.Mathlib.Nat.{le-trans, le-of-eq, mul-add, mul-left-comm, mul-one, pow-suc, pow-zero, mul-le-mul-left}
 use mathlib.Core.Path.{_≡_, ap, ap₂, sym, _∙_}
 use Rattle.series.specs.Series.{over, added, taken}
 use Rattle.series.proofs.Terms.{sorted}
@@ -24,7 +24,8 @@ over-scaled : (k d n : ℕ) → over (k * d) n ≡ k ^ n * over d n
 unfolding over
 over-scaled k d zero = sym (mul-one (k ^ 0) ∙ pow-zero k)
 over-scaled k d (suc n) =
-    ap (λ (x : ℕ). x * (k * d * suc n)) (over-scaled k d n) ∙ next (k ^ n) (over d n) k d (suc n) ∙ ap (λ (x : ℕ). x * (over d n * (d * suc n))) (sym (pow-suc k n))
+    ap (λ (x : ℕ). x * (k * d * suc n)) (over-scaled k d n) ∙ next (k ^ n) (over d n) k d (suc n)
+    ∙ ap (λ (x : ℕ). x * (over d n * (d * suc n))) (sym (pow-suc k n))
 
 all-scaled : (k a d n : ℕ) → all (k * a) (k * d) n ≡ k ^ n * all a d n
 unfolding added taken
@@ -32,7 +33,8 @@ all-scaled k a d zero = sym (mul-one (k ^ 0) ∙ pow-zero k)
 all-scaled k a d (suc n) =
     all-next (k * a) (k * d) n
     ∙ ap₂ (λ (x y : ℕ). x + y)
-    (ap (λ (x : ℕ). x * (k * d * suc n)) (all-scaled k a d n) ∙ next (k ^ n) (all a d n) k d (suc n) ∙ ap (λ (x : ℕ). x * (all a d n * (d * suc n))) (sym (pow-suc k n)))
+    (ap (λ (x : ℕ). x * (k * d * suc n)) (all-scaled k a d n) ∙ next (k ^ n) (all a d n) k d (suc n)
+    ∙ ap (λ (x : ℕ). x * (all a d n * (d * suc n))) (sym (pow-suc k n)))
     (pow-mul k a (suc n))
     ∙ sym (mul-add (k ^ suc n) (all a d n * (d * suc n)) (a ^ suc n))
     ∙ ap (λ (x : ℕ). k ^ suc n * x) (sym (all-next a d n))
@@ -50,7 +52,8 @@ module _ (k a d c q : ℕ) where
         power = n;
         enough =
             le-trans (le-of-eq (ap (λ (x : ℕ). q * x) (over-scaled k d n) ∙ mul-left-comm q (k ^ n) (over d n)))
-            (le-trans (mul-le-mul-left (k ^ n) (u .enough)) (le-of-eq (mul-left-comm (k ^ n) c (all a d n) ∙ ap (λ (x : ℕ). c * x) (sym (all-scaled k a d n)))));
+            (le-trans (mul-le-mul-left (k ^ n) (u .enough))
+            (le-of-eq (mul-left-comm (k ^ n) c (all a d n) ∙ ap (λ (x : ℕ). c * x) (sym (all-scaled k a d n)))));
       }
 
 pub near-scaled : (k a d q y t : ℕ) → Near a d q y t → Near (k * a) (k * d) q y t

@@ -3,7 +3,7 @@ use Prim.Native.Nat.{ℕ, zero, suc, _+_, _*_, _^_}
 use native.Mathlib.Nat.{add-zero, mul-comm, pow-suc, pow-zero}
 use mathlib.Core.Path.{_≡_, refl, ap, ap₂, sym, _∙_}
 use mathlib.Core.Bool.{Bool, true, false, not, cond}
-use lib.IntN.{ℤ, pos, negℤ, one, pow, pow-succ', _+ℤ_, _-ℤ_, _*ℤ_, negℤ-negℤ, negℤ-+ℤ, pos-+ℤ-pos, pos-*ℤ-pos, +ℤ-assoc, +ℤ-comm, +ℤ-idr}
+use lib.IntN.{ℤ, pos, negℤ, one, pow, pow-succ', _+ℤ_, _-ℤ_, _*ℤ_, negℤ-negℤ, negℤ-+ℤ, pos-+ℤ-pos, pos-*ℤ-pos, +ℤ-assoc}
 use Rattle.words.proofs.Whole.{+ℤ-swap, +ℤ-*ℤ, negℤ-*ℤ, *ℤ-negℤ}
 use Rattle.series.specs.Series.{even, over, added, taken, alternating}
 

@@ -1,7 +1,8 @@
 -- The alternating sum that ends at the power n times the sum of the positive terms, (added − taken)·(added + taken), is at least 1 for an even n and at most 1
 -- for an odd one: with P and M the two parts, P² − M² differs from 1 by terms of one sign. For every u, and with no limit. Assumes nothing.
 use Prim.Native.Nat.{ℕ, zero, suc, _+_, _*_, _≤_, _<_}
-use native.Mathlib.Nat.{le-refl, le-trans, le-of-mul-le-mul-left, le-of-lt, le-add-right, mul-add, add-mul, mul-assoc, mul-comm, mul-left-comm, mul-pos, mul-zero, zero-mul, one-mul, two-mul, add-zero, zero-add, add-suc, suc-add, add-assoc}
+use native.Mathlib.Nat.{le-refl, le-of-mul-le-mul-left, le-add-right, mul-add, add-mul, mul-assoc, mul-comm, mul-pos, mul-zero, zero-mul, two-mul, add-zero}
+use native.Mathlib.Nat.{zero-add}
 use native.Mathlib.Omega.{arith}
 use mathlib.Core.Path.{_≡_, refl, ap, ap₂, sym, _∙_, subst}
 use mathlib.Core.Bool.{Bool, true, false, not, cond, Bool·beq}
@@ -79,7 +80,8 @@ module _ (a d K : ℕ) (x : ℕ → ℕ) (d-positive : 0 < d) (is : Terms a d K 
       pascals n i =
           let e : suc i + suc n ≡ i + suc (suc n) = omega arith in
           spread (weight (not (even i)) (even n)) (choose i (suc n)) (choose (suc i) n) (X (suc i + suc n))
-          ∙ ap₂ (λ (p q : ℕ). p * (choose i (suc n) * X q) + weight (not (even i)) (even n) * (choose (suc i) n * X (suc i + suc n))) (weight-moved (even i) (even n)) e
+          ∙ ap₂ (λ (p q : ℕ). p * (choose i (suc n) * X q) + weight (not (even i)) (even n) * (choose (suc i) n * X (suc i + suc n)))
+          (weight-moved (even i) (even n)) e
 
       middle : (n : ℕ) → 2 * (choose n (suc n) * X (n + suc (suc n))) ≡ (choose n (suc n) + choose (suc n) n) * X (suc n + suc n)
       middle n =
@@ -91,12 +93,14 @@ module _ (a d K : ℕ) (x : ℕ → ℕ) (d-positive : 0 < d) (is : Terms a d K 
 
   -- the sum of the terms of the other parity
   other : (b : Bool) (n t : ℕ) → total (suc n) (λ i. weight (even i) b * (x i * t)) ≡ cond b (2 * t * odds x n) (2 * t * evens x n)
-  other true n t = same (suc n) (λ i. weight (even i) true * (x i * t)) (λ i. 2 * t * cond (even i) 0 (x i)) (λ i h. one (even i) (x i)) ∙ scaled (suc n) (2 * t) (λ i. cond (even i) 0 (x i))
+  other true n t = same (suc n) (λ i. weight (even i) true * (x i * t)) (λ i. 2 * t * cond (even i) 0 (x i)) (λ i h. one (even i) (x i))
+      ∙ scaled (suc n) (2 * t) (λ i. cond (even i) 0 (x i))
     where
       one : (b : Bool) (v : ℕ) → weight b true * (v * t) ≡ 2 * t * cond b 0 v
       one true v = zero-mul (v * t) ∙ sym (mul-zero (2 * t))
       one false v = twice v t
-  other false n t = same (suc n) (λ i. weight (even i) false * (x i * t)) (λ i. 2 * t * cond (even i) (x i) 0) (λ i h. one (even i) (x i)) ∙ scaled (suc n) (2 * t) (λ i. cond (even i) (x i) 0)
+  other false n t = same (suc n) (λ i. weight (even i) false * (x i * t)) (λ i. 2 * t * cond (even i) (x i) 0) (λ i h. one (even i) (x i))
+      ∙ scaled (suc n) (2 * t) (λ i. cond (even i) (x i) 0)
     where
       one : (b : Bool) (v : ℕ) → weight b false * (v * t) ≡ 2 * t * cond b v 0
       one true v = twice v t

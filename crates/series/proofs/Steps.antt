@@ -1,9 +1,10 @@
 -- From the sum that ends at a power to the next one, and to the one after that: the sums of positive terms rise, and so do the lower ones of the alternating
 -- series past u. A fraction c / q is held to them. Assumes nothing.
 use Prim.Native.Nat.{ℕ, zero, suc, _+_, _*_, _^_, _≤_, _<_}
-use native.Mathlib.Nat.{le-refl, le-trans, le-of-eq, le-of-lt, le-of-suc-le, le-suc, le-step, suc-le-suc-iff, le-dest, mul-add, add-mul, mul-assoc, mul-comm, mul-left-comm, mul-pos, mul-le-mul-left, mul-le-mul-right, le-of-mul-le-mul-right, add-zero, zero-add, add-suc, pow-suc, zero-lt-suc, add-le-add}
+use native.Mathlib.Nat.{le-trans, le-of-eq, le-of-lt, le-step, mul-add, add-mul, mul-assoc, mul-comm, mul-pos, mul-le-mul-left, mul-le-mul-right}
+use native.Mathlib.Nat.{le-of-mul-le-mul-right, add-zero, add-suc, pow-suc, zero-lt-suc}
 use native.Mathlib.Omega.{arith}
-use mathlib.Core.Path.{_≡_, refl, ap, ap₂, sym, _∙_, subst, subst₂}
+use mathlib.Core.Path.{_≡_, ap, sym, _∙_, subst, subst₂}
 use mathlib.Core.Bool.{Bool, true, false, not, cond}
 use Rattle.series.specs.Series.{even, over, added, taken}
 use Rattle.series.proofs.Terms.{sorted}
@@ -85,7 +86,8 @@ module _ (c q o p m g h v a : ℕ) (past : a ≤ h) where
 
   two-up : c * o + q * m ≤ q * p → c * (o * g * h) + q * (m * g * h + v * a) ≤ q * ((p * g + v) * h)
   two-up k =
-      let k' : c * o * (g * h) + q * m * (g * h) ≤ q * p * (g * h) = subst (λ (n : ℕ). n ≤ q * p * (g * h)) (add-mul (c * o) (q * m) (g * h)) (mul-le-mul-right (g * h) k) in
+      let k' : c * o * (g * h) + q * m * (g * h) ≤ q * p * (g * h) = subst (λ (n : ℕ). n ≤ q * p * (g * h)) (add-mul (c * o) (q * m) (g * h))
+      (mul-le-mul-right (g * h) k) in
       omega (arith, out, out', out'', smaller)
 
   two-down : 0 < g * h → q * ((p * g + v) * h) ≤ c * (o * g * h) + q * (m * g * h + v * a) → q * p ≤ c * o + q * m

@@ -1,8 +1,8 @@
 -- The terms u^i / i! of the series for u = a / d, in one unit for all of them up to the power K: whole numbers x i with x i / x 0 = u^i / i!. Assumes nothing.
 use Prim.Native.Nat.{ℕ, zero, suc, _+_, _-_, _*_, _^_, _≤_, _<_}
-use native.Mathlib.Nat.{le-refl, le-of-lt, le-of-suc-le, mul-add, add-mul, mul-assoc, mul-comm, mul-left-comm, mul-pos, one-mul, mul-one, mul-zero, zero-mul, add-zero, add-suc, zero-add, sub-zero, add-sub-of-le, pow-suc, pow-zero, eq-of-mul-eq-mul-left, zero-lt-suc}
-use native.Mathlib.Omega.{arith}
-use mathlib.Core.Path.{_≡_, refl, ap, ap₂, sym, _∙_, subst}
+use native.Mathlib.Nat.{le-of-lt, le-of-suc-le, mul-add, mul-assoc, mul-comm, mul-left-comm, mul-pos, one-mul, mul-one, mul-zero, zero-mul, add-zero, add-suc}
+use native.Mathlib.Nat.{zero-add, sub-zero, add-sub-of-le, pow-suc, pow-zero, eq-of-mul-eq-mul-left, zero-lt-suc}
+use mathlib.Core.Path.{_≡_, ap, ap₂, sym, _∙_, subst}
 use mathlib.Core.Bool.{Bool, true, false, cond}
 use Rattle.series.specs.Series.{even, over, added, taken}
 use Rattle.series.proofs.Sums.{total, same, both}
@@ -40,7 +40,8 @@ are-terms a d K h =
     let start : terms a d K 0 ≡ over d K = rw (pow-zero, one-mul, sub-zero) (sym (one-mul (rest d 0 K)) ∙ rest-over d 0 K ∙ ap (over d) (zero-add K)) in
     record {
       unit = subst (λ (n : ℕ). 0 < n) (sym start) (over-positive d K h);
-      term = λ i l. mul-left-comm (over d i) (a ^ i) (rest d i (K - i)) ∙ ap (λ (n : ℕ). a ^ i * n) (rest-over d i (K - i) ∙ ap (over d) (add-sub-of-le l) ∙ sym start);
+      term = λ i l. mul-left-comm (over d i) (a ^ i) (rest d i (K - i))
+          ∙ ap (λ (n : ℕ). a ^ i * n) (rest-over d i (K - i) ∙ ap (over d) (add-sub-of-le l) ∙ sym start);
     }
 
 -- the terms of the even powers up to n, and those of the odd ones
@@ -76,7 +77,8 @@ module _ (a d K : ℕ) (x : ℕ → ℕ) (d-positive : 0 < d) (is : Terms a d K 
   unfolding added over total
   added-sum zero l = simp (mul-one, one-mul, zero-add)
   added-sum (suc n) l =
-      next (d * suc n) (over d n) (added a d n) (evens x n) (cond (even (suc n)) (x (suc n)) 0) (cond (even (suc n)) (a ^ suc n) 0) (added-sum n (le-of-suc-le l))
+      next (d * suc n) (over d n) (added a d n) (evens x n) (cond (even (suc n)) (x (suc n)) 0) (cond (even (suc n)) (a ^ suc n) 0)
+      (added-sum n (le-of-suc-le l))
       (go (even (suc n)))
     where
       go : (b : Bool) → over d (suc n) * cond b (x (suc n)) 0 ≡ cond b (a ^ suc n) 0 * x 0
@@ -87,7 +89,8 @@ module _ (a d K : ℕ) (x : ℕ → ℕ) (d-positive : 0 < d) (is : Terms a d K 
   unfolding taken over total
   taken-sum zero l = simp (mul-zero, zero-add)
   taken-sum (suc n) l =
-      next (d * suc n) (over d n) (taken a d n) (odds x n) (cond (even (suc n)) 0 (x (suc n))) (cond (even (suc n)) 0 (a ^ suc n)) (taken-sum n (le-of-suc-le l))
+      next (d * suc n) (over d n) (taken a d n) (odds x n) (cond (even (suc n)) 0 (x (suc n))) (cond (even (suc n)) 0 (a ^ suc n))
+      (taken-sum n (le-of-suc-le l))
       (go (even (suc n)))
     where
       go : (b : Bool) → over d (suc n) * cond b 0 (x (suc n)) ≡ cond b 0 (a ^ suc n) * x 0
@@ -100,7 +103,9 @@ module _ (a d K : ℕ) (x : ℕ → ℕ) (d-positive : 0 < d) (is : Terms a d K 
       mul-add (x 0) (added a d n) (taken a d n)
       ∙ ap₂ (λ (p q : ℕ). p + q) (added-sum n l) (taken-sum n l)
       ∙ sym (mul-add (over d n) (evens x n) (odds x n))
-      ∙ ap (λ (k : ℕ). over d n * k) (sym (both (suc n) (λ i. cond (even i) (x i) 0) (λ i. cond (even i) 0 (x i))) ∙ same (suc n) (λ i. cond (even i) (x i) 0 + cond (even i) 0 (x i)) x (λ i h. one (even i) (x i)))
+      ∙ ap (λ (k : ℕ). over d n * k)
+      (sym (both (suc n) (λ i. cond (even i) (x i) 0) (λ i. cond (even i) 0 (x i)))
+      ∙ same (suc n) (λ i. cond (even i) (x i) 0 + cond (even i) 0 (x i)) x (λ i h. one (even i) (x i)))
     where
       one : (b : Bool) (v : ℕ) → cond b v 0 + cond b 0 v ≡ v
       one true v = add-zero v

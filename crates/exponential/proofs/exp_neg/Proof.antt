@@ -15,7 +15,9 @@ exp-neg-by-requires : tie.Need-exp-neg-by-requires
 exp-neg-by-requires c κs = search needs
 
 returns : tie.Need-returns
-returns c = c .exp-neg-by .ensures ∙ ap (λ (lent : List ℕ). expNegBy lent (c .before .before .before .args .u)) (c .before .before .fraction-table .ensures) ∙ by-table (c .before .before .before .args .u)
+returns c = c .exp-neg-by .ensures
+    ∙ ap (λ (lent : List ℕ). expNegBy lent (c .before .before .before .args .u)) (c .before .before .fraction-table .ensures)
+    ∙ by-table (c .before .before .before .args .u)
 
 pub exp-neg-spec : {M : Type 1} → statement M
 exp-neg-spec = tie.close (tie.spec fraction-table-requires exp-neg-by-requires returns)

@@ -52,7 +52,8 @@ returns-2 c =
     let s = c .before .before in
     let t = s .before in
     let u = t .before .before .args .u in
-    ap shown (c .before .exp-units .ensures .0 ∙ ap (unitsBy (t .before .before .args .lent .now)) (s .scaled .ensures)) ∙ sym (inside u _ (t .before .if1 .left) (t .if2 .taken))
+    ap shown (c .before .exp-units .ensures .0 ∙ ap (unitsBy (t .before .before .args .lent .now)) (s .scaled .ensures))
+    ∙ sym (inside u _ (t .before .if1 .left) (t .if2 .taken))
 
 -- neither
 returns-3 : tie.Need-returns-3
