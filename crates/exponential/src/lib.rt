@@ -1,8 +1,10 @@
 // e^−u for an f64 u, worked out in whole multiples of 2^-62: a table for the whole part of u, one for its 512ths, and a short series for what is left.
 ghost use mathlib.Core.Path.{_≡_};
-ghost use Prim.Native.Nat.{_+_, _*_, _/_, _^_, _<_, _≤_};
+ghost use Prim.Native.Nat.{_+_, _*_, _/_, _^_, _<_, _≤_, min};
 ghost use lib.Dec.{T};
-ghost use lib.Ieee.{le, lt};
+ghost use lib.ListN.{length, getD};
+ghost use lib.Ieee.{nan, le, lt};
+ghost use Rattle.area.specs.Area.{written};
 ghost use Rattle.ieee.specs.Floats.{zeroFloat};
 ghost use Rattle.ieee.specs.Values.{multiple};
 ghost use Rattle.exponential.specs.Exponential.{whole, fractionTable, entryOf, times, shortSeries, unitsBy, cut, expNegBy, expNeg};
@@ -664,4 +666,20 @@ pub fn exp_neg(u: f64) -> f64
 {
     let table = fraction_table();
     exp_neg_by(&table, u)
+}
+
+// e^−u of each number of a list, as far as the area goes: the table is written out once for all of them.
+pub fn exp_neg_each(us: &[f64], out: &mut [f64])
+    ensures { λ _. ⌜ now (out .exit) ≡ written 0 (min (length (now (us .entry))) (length (now (out .entry))))
+        (λ i. expNeg (getD (now (us .entry)) i nan)) (now (out .entry)) ⌝ }
+{
+    let table = fraction_table();
+    let mut i = 0;
+    while i < us.len() {
+        if i >= out.len() {
+            return;
+        }
+        out[i] = exp_neg_by(&table, us[i]);
+        i += 1;
+    }
 }
