@@ -38,6 +38,16 @@ class Options(Folder):
         found = self.survey('--model', 'linear', '--nugget', '0.25', '--sill', '1.5', '--range', '333')
         self.assertEqual(found.variogram, (4, 0.25, 1.5, 333))
 
+    def test_every_model(self):
+        """The codes are those of section 12, and the listing is that of the other reading for the file that was kept."""
+        from tools.reading.wellmap import printed
+        for code, model in enumerate(('spherical', 'exponential', 'gaussian', 'linear'), 1):
+            said = self.made(self.file(SIX), '--model', model, '--grid', '3x3', '--listing', '--survey', self.folder / 'kept.survey')
+            kept = (self.folder / 'kept.survey').read_bytes()
+            self.assertEqual(nakwemol.read_survey(kept).variogram.model, code)
+            self.assertIn(f'--model {model} ', said)
+            self.assertIn(printed(kept).decode(), said)
+
     def test_one_number_given(self):
         self.assertEqual(self.survey('--nugget', '0.125').variogram.nugget, 0.125)
         self.assertEqual(self.survey('--sill', '7').variogram.sill, 7)
