@@ -1,12 +1,11 @@
 // e^−u for an f64 u, worked out in whole multiples of 2^-62: a table for the whole part of u, one for its 512ths, and a short series for what is left.
 ghost use mathlib.Core.Path.{_≡_};
 ghost use Prim.Native.Nat.{_+_, _*_, _/_, _^_, _<_, _≤_};
-ghost use mathlib.Core.Bool.{true, false};
 ghost use lib.Dec.{T};
 ghost use lib.Ieee.{le, lt};
 ghost use Rattle.ieee.specs.Floats.{zeroFloat};
 ghost use Rattle.ieee.specs.Values.{multiple};
-ghost use Rattle.exponential.specs.Exponential.{fraction, whole, times, shortSeries, units, shown, cut, expNeg};
+ghost use Rattle.exponential.specs.Exponential.{fraction, whole, times, shortSeries, units, cut, expNeg};
 
 // e^−k for k from 0 to 34.
 const WHOLES: [u64; 35] = [
