@@ -1,14 +1,22 @@
 -- Laws of the variogram: what it is below 2^-52, past it by its model, and sounding F. Assumes nothing.
-use mathlib.Core.Path.{_≡_, refl}
-use mathlib.Core.Bool.{true, false}
+use Prim.Native.Nat.{ℕ, zero, suc, _*_, _≤_, _<_}
+use native.Mathlib.Nat.{mul-pos, zero-lt-suc, zero-mul}
+use native.Mathlib.Omega.{arith}
+use mathlib.Core.Path.{_≡_, refl, sym, subst}
+use mathlib.Core.Bool.{Bool, true, false, not}
 use mathlib.Core.Logic.{_↔_}
-use lib.Dec.{T}
-use lib.Ieee.{Float, binary64, add, sub, mul, div, lt, le, ofBits, round}
+use lib.Arith.{le→nltb}
+use lib.IntN.{ℤ}
+use lib.Dec.{T, nltb→le}
+use lib.Ieee.{Float, nan, inf, fin, up, down, binary64, add, sub, mul, div, lt, le, ofBits, round}
+use lib.Ieee.Fits.{up-pos}
 use Rattle.ieee.specs.Floats.{zeroFloat, oneFloat, epsilon}
+use Rattle.ieee.specs.Values.{infinite, number}
 use Rattle.variogram.specs.declared.Variogram.{Variogram}
 use Rattle.variogram.specs.declared.VariogramModel.{VariogramModel}
 use Rattle.variogram.specs.declared.VariogramModel.the-variants.{Spherical, Exponential, Gaussian, Linear}
-use Rattle.variogram.specs.Model.{variogram, spheric, spherical, linear, ofModel, semivariance, notOffered, NotOffered, exponential, gaussian}
+use Rattle.variogram.specs.Model.{variogram, spheric, spherical, linear, ofModel, semivariance, wrongRange, wrongModel}
+use Rattle.variogram.specs.Model.{NotAboveZero, a-zero, negative, not-a-number, WrongModel}
 
 -- the variogram of a distance below 2^-52 is +0, whatever the model and its numbers
 pub same-spot : (v : Variogram) (h : Float) → lt h epsilon ≡ true → semivariance v h ≡ zeroFloat
@@ -35,16 +43,42 @@ pub sounding-F : (semivariance (variogram Spherical zeroFloat oneFloat (ofBits b
 unfolding semivariance spherical linear add sub mul div lt le ofBits round
 sounding-F = (refl, refl)
 
--- ---- the models that are not offered
-pub not-offered : (m : VariogramModel) → T (notOffered m) ↔ NotOffered m
-not-offered m = (there m, from)
-  where
-    there : (m : VariogramModel) → T (notOffered m) → NotOffered m
-    there Spherical t = absurd t
-    there Exponential t = exponential
-    there Gaussian t = gaussian
-    there Linear t = absurd t
+-- ---- 12: an Exponential variogram whose range is not above zero
+-- a number without a minus that is not above zero is one
+no-digits : (m : ℕ) (e : ℤ) → T (not (lt zeroFloat (fin false m e))) → m ≡ 0
+unfolding lt ofBits
+no-digits zero e h = refl
+no-digits (suc m) e h =
+    let some : 0 < suc m * up e = mul-pos (zero-lt-suc m) (up-pos e) in
+    let none : suc m * up e * 1 ≤ 0 * down e = nltb→le (0 * down e) (suc m * up e * 1) h in
+    absurd (omega (arith, zero-mul (down e)))
 
-    from : {m : VariogramModel} → NotOffered m → T (notOffered m)
-    from exponential = tt
-    from gaussian = tt
+pub not-above : (x : Float) → T (not (lt zeroFloat x)) ↔ NotAboveZero x
+unfolding lt ofBits
+not-above x = (there x, from)
+  where
+    there : (x : Float) → T (not (lt zeroFloat x)) → NotAboveZero x
+    there nan h = not-a-number
+    there (inf true) h = negative infinite
+    there (inf false) h = absurd h
+    there (fin true m e) h = negative (number m e)
+    there (fin false m e) h = subst (λ (n : ℕ). NotAboveZero (fin false n e)) (sym (no-digits m e h)) (a-zero false e)
+
+    from : {x : Float} → NotAboveZero x → T (not (lt zeroFloat x))
+    from (a-zero true e) = tt
+    from (a-zero false e) = le→nltb (0 * down e) (0 * up e * 1) (omega (arith, zero-mul (down e), zero-mul (up e)))
+    from (negative infinite) = tt
+    from (negative (number m e)) = tt
+    from not-a-number = tt
+
+pub wrong-model : (v : Variogram) → T (wrongModel v) ↔ WrongModel v
+wrong-model v = (there (v .model) refl, from)
+  where
+    there : (m : VariogramModel) → v .model ≡ m → T (wrongRange m (v .range)) → WrongModel v
+    there Spherical is t = absurd t
+    there Exponential is t = record { model-is = is; range-is = not-above (v .range) .0 t }
+    there Gaussian is t = absurd t
+    there Linear is t = absurd t
+
+    from : WrongModel v → T (wrongModel v)
+    from w = rw (w .model-is) (not-above (v .range) .1 (w .range-is))

@@ -2,7 +2,7 @@
 use mathlib.Core.Path.{_∙_, sym}
 use borrow.Author.Needs.{needs}
 use Rattle.variogram.specs.declared.VariogramModel.the-variants.{Spherical, Exponential, Gaussian, Linear}
-use Rattle.variogram.specs.Model.{linear}
+use Rattle.variogram.specs.Model.{exponentialModel, gaussian, linear}
 use Rattle.variogram.proofs.Model.{same-spot, by-model, spherical-far, spherical-near}
 use Rattle.variogram.proofs.Variogram.evaluate.Statement.{statement}
 use Rattle.variogram.proofs.Variogram.evaluate.Tie as tie
@@ -16,14 +16,14 @@ enum-told c = search needs
 enum-told-2 : tie.Need-enum-told-2
 enum-told-2 c = search needs
 
-not-a-number-requires : tie.Need-not-a-number-requires
-not-a-number-requires c κs = search needs
+exp-neg-requires : tie.Need-exp-neg-requires
+exp-neg-requires c κs = search needs
 
 enum-told-3 : tie.Need-enum-told-3
 enum-told-3 c = search needs
 
-not-a-number-requires-2 : tie.Need-not-a-number-requires-2
-not-a-number-requires-2 c κs = search needs
+exp-neg-requires-2 : tie.Need-exp-neg-requires-2
+exp-neg-requires-2 c κs = search needs
 
 enum-told-4 : tie.Need-enum-told-4
 enum-told-4 c = search needs
@@ -34,29 +34,31 @@ min-requires c κs = search needs
 returns-2 : tie.Need-returns-2
 returns-2 c =
     let told = c .before .before in
-    sym (by-model _ _ Spherical (told .before .before .if1 .left) (told .enum-told .given .1) ∙ spherical-far _ _ _ _ (c .if2 .taken))
+    sym (by-model _ _ Spherical (told .before .before .before .if1 .left) (told .enum-told .given .1) ∙ spherical-far _ _ _ _ (c .if2 .taken))
 
 returns-3 : tie.Need-returns-3
 returns-3 c =
-    let near = c .before .before .before in
+    let near = c .before .before in
     let told = near .before .before in
-    sym (by-model _ _ Spherical (told .before .before .if1 .left) (told .enum-told .given .1) ∙ spherical-near _ _ _ _ (near .if2 .left))
+    sym (by-model _ _ Spherical (told .before .before .before .if1 .left) (told .enum-told .given .1) ∙ spherical-near _ _ _ _ (near .if2 .left))
 
 returns-4 : tie.Need-returns-4
+unfolding exponentialModel
 returns-4 c =
-    let told = c .before in
-    c .not-a-number .ensures ∙ sym (by-model _ _ Exponential (told .before .before .if1 .left) (told .enum-told2 .given .1))
+    let told = c .before .before .before in
+    rw (c .before .exp-neg .ensures) (sym (by-model _ _ Exponential (told .before .before .before .if1 .left) (told .enum-told2 .given .1)))
 
 returns-5 : tie.Need-returns-5
+unfolding gaussian
 returns-5 c =
-    let told = c .before in
-    c .not-a-number2 .ensures ∙ sym (by-model _ _ Gaussian (told .before .before .if1 .left) (told .enum-told3 .given .1))
+    let told = c .before .before .before in
+    rw (c .before .exp-neg2 .ensures) (sym (by-model _ _ Gaussian (told .before .before .before .if1 .left) (told .enum-told3 .given .1)))
 
 returns-6 : tie.Need-returns-6
 unfolding linear
 returns-6 c =
     let told = c .before .before .before in
-    rw (c .before .min .ensures) (sym (by-model _ _ Linear (told .before .before .if1 .left) (told .enum-told4 .given .1)))
+    rw (c .before .min .ensures) (sym (by-model _ _ Linear (told .before .before .before .if1 .left) (told .enum-told4 .given .1)))
 
 pub evaluate-spec : {M : Type 1} → statement M
 evaluate-spec =
@@ -65,9 +67,9 @@ evaluate-spec =
     returns
     enum-told
     enum-told-2
-    not-a-number-requires
+    exp-neg-requires
     enum-told-3
-    not-a-number-requires-2
+    exp-neg-requires-2
     enum-told-4
     min-requires
     returns-2
