@@ -1,6 +1,4 @@
 pub mod Table
-pub mod Wholes
-pub mod Fractions
 pub mod Times
 pub mod ShortSeries
 pub mod Digits

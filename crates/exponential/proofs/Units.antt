@@ -3,9 +3,17 @@ use Prim.Native.Nat.{ℕ, _*_, _/_, _%_, _^_, _≤_, _<_}
 use native.Mathlib.Omega.{arith}
 use Rattle.exponential.specs.Exponential.{whole, fraction, times, shortSeries, units}
 use Rattle.exponential.proofs.Times.{times-le}
-use Rattle.exponential.proofs.Wholes.{whole-le}
-use Rattle.exponential.proofs.Fractions.{fraction-le}
+use Rattle.exponential.proofs.Table.{bounded}
 use Rattle.exponential.proofs.ShortSeries.{short-series-le}
+
+-- no entry of the tables is above 1: computed for each
+pub whole-le : (k : ℕ) → k < 35 → whole k ≤ 2 ^ 62
+unfolding whole
+whole-le k h = bounded whole (2 ^ 62) 35 tt k h
+
+pub fraction-le : (i : ℕ) → i < 512 → fraction i ≤ 2 ^ 62
+unfolding fraction
+fraction-le i h = bounded fraction (2 ^ 62) 512 tt i h
 
 module _ (w : ℕ) (below : w < 35 * 2 ^ 57) where
   pub whole-part-le : whole (w / 2 ^ 57) ≤ 2 ^ 62

@@ -1,6 +1,8 @@
--- `exponential::whole_entry` meets its contract: what stands in the table is the entry asked for (proofs/Wholes.antt). Assumes nothing.
+-- `exponential::whole_entry` meets its contract, by one test over the 35 entries of its table, which is computed. Assumes nothing.
+use borrow.Author.Tests.{lt-ltb}
 use borrow.Author.Needs.{needs}
-use Rattle.exponential.proofs.Wholes.{whole-entry}
+use Rattle.exponential.specs.Exponential.{whole}
+use Rattle.exponential.proofs.Table.{looked-up}
 use Rattle.exponential.proofs.whole_entry.Statement.{statement}
 use Rattle.exponential.proofs.whole_entry.Tie as tie
 
@@ -11,7 +13,8 @@ array-read-result : tie.Need-array-read-result
 array-read-result c = search needs
 
 returns : tie.Need-returns
-returns c = whole-entry (c .args .k) (c .pre)
+unfolding whole
+returns c = rw (looked-up whole, lt-ltb _ _ (c .pre))
 
 pub whole-entry-spec : {M : Type 1} → statement M
 whole-entry-spec = tie.close (tie.spec mul-result array-read-result returns)
