@@ -1,4 +1,5 @@
--- The variogram at a distance: paper 01, "Variogram", each operation rounded once and in the order in which it stands there. Assumes nothing.
+-- The variogram at a distance: paper 01, "Variogram", and paper 02, "Exponential and Gaussian wells". Each operation is rounded once, in the order
+-- in which it stands there. Assumes nothing.
 use mathlib.Core.Path.{_≡_}
 use mathlib.Core.Bool.{Bool, true, false, not, cond}
 use lib.IntN.{ℤ}
@@ -34,15 +35,16 @@ spherical nugget sill range h =
 unfoldable pub linear : Float → Float → Float → Float → Float
 linear nugget sill range h = add binary64 nugget (mul binary64 (div binary64 sill range) (cond (lt h range) h range))
 
--- "Both follow the formulas of source document 000": nugget + partial_sill · (1 − e^−u), "partial_sill = sill − nugget"
+-- "Both follow the formulas of source document 000": "self.nugget + partial_sill * (1.0 - (..).exp())", with "partial_sill = self.sill - self.nugget"
+-- and −u for the dots
 abbrev pub towardsSill : Float → Float → Float → Float
 towardsSill nugget sill u = add binary64 nugget (mul binary64 (sub binary64 sill nugget) (sub binary64 oneFloat (expNeg u)))
 
--- Exponential: u is h / range
+-- Exponential, "(-h / self.range).exp()": u is h / range
 unfoldable pub exponentialModel : Float → Float → Float → Float → Float
 exponentialModel nugget sill range h = towardsSill nugget sill (div binary64 h range)
 
--- Gaussian: u is "(h * h) / (range * range)"
+-- Gaussian, "(-(h * h) / (self.range * self.range)).exp()": u is h·h over range·range
 unfoldable pub gaussian : Float → Float → Float → Float → Float
 gaussian nugget sill range h = towardsSill nugget sill (div binary64 (mul binary64 h h) (mul binary64 range range))
 
