@@ -41,7 +41,7 @@ impl Fit {
             &s.external,
             &s.nodes,
             &[],
-            SPHERICAL,
+            s.model,
             s.nugget,
             s.sill,
             s.range,
@@ -69,6 +69,19 @@ impl Fit {
         }
         let all = self.survey.p() + 1;
         self.verdicts.iter().map(|verdict| if *verdict == 0 { all } else { *verdict as usize }).sum()
+    }
+}
+
+extern "C" {
+    fn nakwemol_exp_neg(u: f64) -> f64;
+}
+
+/// e^−u of every number.
+#[inline(never)]
+pub fn powers(us: &[f64]) {
+    for u in us {
+        // SAFETY: a number goes in and a number comes out; the function reads nothing else.
+        black_box(unsafe { nakwemol_exp_neg(*u) });
     }
 }
 
