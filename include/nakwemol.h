@@ -203,10 +203,6 @@ uint8_t nakwemol_write(
  * a NaN where it is a NaN or below zero. */
 double nakwemol_exp_neg(double u);
 
-/* The same for each of a list's numbers, as far as both reach: what lies past the shorter one is left as it was. Many at once take a fifth of the time
- * that they take one by one. */
-void nakwemol_exp_neg_each(const double *us, size_t us_count, double *out, size_t out_count);
-
 #ifdef __cplusplus
 }
 #endif

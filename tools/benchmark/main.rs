@@ -110,13 +110,8 @@ fn models() -> Vec<Case<'static>> {
 
 /// Some e^−u, one after another.
 fn powers() -> Case<'static> {
-    let (us, same, mut out) = (inputs::powers(POWERS), inputs::powers(POWERS), vec![0.0; POWERS]);
-    Case::new(format!("powers {POWERS}"), move || original::powers(black_box(&us)), move || port::powers(black_box(&same), &mut out))
-}
-
-fn single_powers() -> Case<'static> {
     let (us, same) = (inputs::powers(POWERS), inputs::powers(POWERS));
-    Case::new(format!("single-powers {POWERS}"), move || original::powers(black_box(&us)), move || port::single_powers(black_box(&same)))
+    Case::new(format!("powers {POWERS}"), move || original::powers(black_box(&us)), move || port::powers(black_box(&same)))
 }
 
 fn growth() -> Vec<Case<'static>> {
@@ -221,6 +216,5 @@ fn main() {
     cases.extend(parts());
     cases.extend(models());
     cases.push(powers());
-    cases.push(single_powers());
     in_turns(cases);
 }

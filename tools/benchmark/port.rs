@@ -74,20 +74,11 @@ impl Fit {
 
 extern "C" {
     fn nakwemol_exp_neg(u: f64) -> f64;
-    fn nakwemol_exp_neg_each(us: *const f64, us_count: usize, out: *mut f64, out_count: usize);
 }
 
-/// e^−u of every number, its table lent as in a fit.
+/// e^−u of every number.
 #[inline(never)]
-pub fn powers(us: &[f64], out: &mut [f64]) {
-    // SAFETY: two lists with their lengths; the function reads the one, writes the other and keeps neither.
-    unsafe { nakwemol_exp_neg_each(us.as_ptr(), us.len(), out.as_mut_ptr(), out.len()) };
-    black_box(out);
-}
-
-/// e^−u of every number by itself, its table written out for each.
-#[inline(never)]
-pub fn single_powers(us: &[f64]) {
+pub fn powers(us: &[f64]) {
     for u in us {
         // SAFETY: a number goes in and a number comes out; the function reads nothing else.
         black_box(unsafe { nakwemol_exp_neg(*u) });

@@ -78,9 +78,9 @@ def models(figures):
     return table(["n, p, m", "model", "µs with Spherical, original / port", "µs, original / port", "times Spherical, original", "times Spherical, port"], rows)
 
 
-def one_power(figures, side, how="powers"):
-    """One e^−u, in ns: of many with the table lent, as in a fit, or "single-powers", each by itself."""
-    (key,) = (key for key in figures if key[0] == how)
+def one_power(figures, side):
+    """One e^−u, in ns."""
+    (key,) = (key for key in figures if key[0] == "powers")
     return 1000 * getattr(figures[key], side) / int(key[1])
 
 
@@ -168,8 +168,7 @@ def small(figures):
     at = of[48, 1]
     product = 1000 * (of[48, 6].row() - of[24, 6].row()) / 24
     rows = [["one root", nanoseconds(at.root("original")), nanoseconds(at.root("port"))],
-            ["one e^−u in a call, the table lent", *(nanoseconds(one_power(figures, side)) for side in ("original", "port"))],
-            ["one e^−u by itself", *(nanoseconds(one_power(figures, side, "single-powers")) for side in ("original", "port"))],
+            ["one e^−u", *(nanoseconds(one_power(figures, side)) for side in ("original", "port"))],
             ["one entry of the matrix: distance, root, variogram", nanoseconds(at.entry("original")), nanoseconds(at.entry("port"))],
             ["one exact product", "", nanoseconds(product)],
             ["one row of an audit of 48 wells that sums with rounding show, p = 6", "", f"{1000 * of[48, 6].shown_row():.0f} ns"],
