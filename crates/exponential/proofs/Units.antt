@@ -1,19 +1,20 @@
 -- e^−u in multiples of 2^-62 is at most 2^62, and each of the parts that it is the product of. Assumes nothing.
 use Prim.Native.Nat.{ℕ, _*_, _/_, _%_, _^_, _≤_, _<_}
 use native.Mathlib.Omega.{arith}
+use lib.Dec.{leb, leb→le}
 use Rattle.exponential.specs.Exponential.{whole, fraction, times, shortSeries, units}
 use Rattle.exponential.proofs.Times.{times-le}
-use Rattle.exponential.proofs.Table.{bounded}
+use Rattle.exponential.proofs.Table.{passes}
 use Rattle.exponential.proofs.ShortSeries.{short-series-le}
 
 -- no entry of the tables is above 1: computed for each
 pub whole-le : (k : ℕ) → k < 35 → whole k ≤ 2 ^ 62
 unfolding whole
-whole-le k h = bounded whole (2 ^ 62) 35 tt k h
+whole-le k h = leb→le (whole k) (2 ^ 62) (passes (λ n. leb (whole n) (2 ^ 62)) 35 tt k h)
 
 pub fraction-le : (i : ℕ) → i < 512 → fraction i ≤ 2 ^ 62
 unfolding fraction
-fraction-le i h = bounded fraction (2 ^ 62) 512 tt i h
+fraction-le i h = leb→le (fraction i) (2 ^ 62) (passes (λ n. leb (fraction n) (2 ^ 62)) 512 tt i h)
 
 module _ (w : ℕ) (below : w < 35 * 2 ^ 57) where
   pub whole-part-le : whole (w / 2 ^ 57) ≤ 2 ^ 62

@@ -1,8 +1,11 @@
 -- e^−u for an f64 u, worked out in whole multiples of 2^-62. How far it lies from the exact value is said in specs/Exact.antt and proved. Assumes nothing.
-use Prim.Native.Nat.{ℕ, _+_, _-_, _*_, _/_, _%_, _^_}
+use Prim.Native.Nat.{ℕ, _+_, _-_, _*_, _/_, _%_, _^_, min}
 use mathlib.Core.Bool.{cond}
+use mathlib.Core.List.{List}
 use lib.IntN.{pos}
+use lib.ListN.{getD}
 use lib.Ieee.{Float, nan, binary64, ofBits, ofInt, mul, le}
+use Rattle.area.specs.Area.{table}
 use Rattle.ieee.specs.Floats.{zeroFloat}
 use Rattle.ieee.specs.Values.{multiple}
 use Rattle.series.specs.Series.{over, added, taken}
@@ -22,6 +25,15 @@ unfoldable pub whole : ℕ → ℕ
 unfolding nearestUnits
 whole k = nearestUnits 151 k 1
 
+-- the table itself, for a caller that has many numbers to ask for
+unfoldable pub fractionTable : List ℕ
+unfolding fraction
+fractionTable = table 512 fraction
+
+-- entry i of a table that is lent, whatever that holds: no more than 1
+abbrev pub entryOf : List ℕ → ℕ → ℕ
+entryOf lent i = min (getD lent i 0) (2 ^ 62)
+
 -- a product of two multiples of 2^-62
 abbrev pub times : ℕ → ℕ → ℕ
 times a b = a * b / 2 ^ 62
@@ -38,6 +50,11 @@ unfoldable pub units : ℕ → ℕ
 unfolding fraction whole shortSeries
 units w = times (times (whole (w / 2 ^ 57)) (fraction (w / 2 ^ 48 % 512))) (shortSeries (w % 2 ^ 48 * 2 ^ 5))
 
+-- and by a table that is lent
+unfoldable pub unitsBy : List ℕ → ℕ → ℕ
+unfolding whole shortSeries
+unitsBy lent w = times (times (whole (w / 2 ^ 57)) (entryOf lent (w / 2 ^ 48 % 512))) (shortSeries (w % 2 ^ 48 * 2 ^ 5))
+
 -- the same as an f64: 53 digits after the point, the last one rounded
 unfoldable pub shown : ℕ → Float
 shown y = mul binary64 (ofInt binary64 (pos ((y + 2 ^ 8) / 2 ^ 9))) (ofBits binary64 0x3ca0_0000_0000_0000)
@@ -46,7 +63,16 @@ shown y = mul binary64 (ofInt binary64 (pos ((y + 2 ^ 8) / 2 ^ 9))) (ofBits bina
 abbrev pub cut : Float
 cut = ofBits binary64 0x4041_8000_0000_0000
 
--- "e^−u for finite u ≥ 0"; "An infinite u gives 0; a NaN gives NaN". −0 counts as 0; below zero, which the papers leave free, it is a NaN
+-- "An infinite u gives 0; a NaN gives NaN". −0 counts as 0; below zero, which the papers leave free, it is a NaN
+abbrev pub byRange : Float → Float → Float
+byRange u y = cond (le cut u) zeroFloat (cond (le zeroFloat u) y nan)
+
+-- "e^−u for finite u ≥ 0"
 unfoldable pub expNeg : Float → Float
 unfolding units shown
-expNeg u = cond (le cut u) zeroFloat (cond (le zeroFloat u) (shown (units (multiple u / 2 ^ 1017))) nan)
+expNeg u = byRange u (shown (units (multiple u / 2 ^ 1017)))
+
+-- the same by a table that is lent: e^−u where that is the table above
+unfoldable pub expNegBy : List ℕ → Float → Float
+unfolding unitsBy shown
+expNegBy lent u = byRange u (shown (unitsBy lent (multiple u / 2 ^ 1017)))

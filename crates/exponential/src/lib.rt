@@ -1,11 +1,13 @@
 // e^−u for an f64 u, worked out in whole multiples of 2^-62: a table for the whole part of u, one for its 512ths, and a short series for what is left.
 ghost use mathlib.Core.Path.{_≡_};
-ghost use Prim.Native.Nat.{_+_, _*_, _/_, _^_, _<_, _≤_};
+ghost use Prim.Native.Nat.{_+_, _*_, _/_, _^_, _<_, _≤_, min};
 ghost use lib.Dec.{T};
-ghost use lib.Ieee.{le, lt};
+ghost use lib.ListN.{length, getD};
+ghost use lib.Ieee.{nan, le, lt};
+ghost use Rattle.area.specs.Area.{written};
 ghost use Rattle.ieee.specs.Floats.{zeroFloat};
 ghost use Rattle.ieee.specs.Values.{multiple};
-ghost use Rattle.exponential.specs.Exponential.{fraction, whole, times, shortSeries, units, cut, expNeg};
+ghost use Rattle.exponential.specs.Exponential.{whole, fractionTable, entryOf, times, shortSeries, unitsBy, cut, expNegBy, expNeg};
 
 // e^−k for k from 0 to 34.
 const WHOLES: [u64; 35] = [
@@ -46,8 +48,8 @@ const WHOLES: [u64; 35] = [
     0x0000_0000_0000_1ee0,
 ];
 
-// e^−(i/512) for i from 0 to 511, in rows of 32: a table that is read is written out first, so no more of it is read than one row.
-const FRACTIONS_0: [u64; 32] = [
+// e^−(i/512) for i from 0 to 511.
+const FRACTIONS: [u64; 512] = [
     0x4000_0000_0000_0000,
     0x3fe0_07fe_aad5_5111,
     0x3fc0_1ff5_57ff_778e,
@@ -80,9 +82,6 @@ const FRACTIONS_0: [u64; 32] = [
     0x3c79_cac0_a2a4_b60c,
     0x3c5b_9569_394a_3681,
     0x3c3d_6f28_b59a_7f67,
-];
-
-const FRACTIONS_1: [u64; 32] = [
     0x3c1f_57f7_8e05_479d,
     0x3c01_4fce_3cbe_1d20,
     0x3be3_56a5_3fba_8392,
@@ -115,9 +114,6 @@ const FRACTIONS_1: [u64; 32] = [
     0x38cf_cc32_49a4_c609,
     0x38b3_6b64_fb2d_2d38,
     0x3897_18c4_87da_6d17,
-];
-
-const FRACTIONS_2: [u64; 32] = [
     0x387a_d449_db04_430f,
     0x385e_9ded_e38b_de39,
     0x3842_75a9_93da_1b19,
@@ -150,9 +146,6 @@ const FRACTIONS_2: [u64; 32] = [
     0x355e_a22c_4704_5086,
     0x3543_f985_e8a6_8730,
     0x3529_5e30_88f1_3d50,
-];
-
-const FRACTIONS_3: [u64; 32] = [
     0x350e_d025_810e_f781,
     0x34f4_4f5e_2d7c_d060,
     0x34d9_dbd3_ee08_cfb4,
@@ -185,9 +178,6 @@ const FRACTIONS_3: [u64; 32] = [
     0x3222_db3b_2422_e3ef,
     0x3209_d010_d6b5_0f01,
     0x31f0_d168_fd8e_2781,
-];
-
-const FRACTIONS_4: [u64; 32] = [
     0x31d7_df3d_5904_15d1,
     0x31be_f987_ac8b_cf8c,
     0x31a6_2041_beb7_c863,
@@ -220,9 +210,6 @@ const FRACTIONS_4: [u64; 32] = [
     0x2f19_3b52_f252_2d33,
     0x2f01_b497_7531_8906,
     0x2eea_399c_6575_6f16,
-];
-
-const FRACTIONS_5: [u64; 32] = [
     0x2ed2_ca5b_e45e_fc27,
     0x2ebb_66d0_161d_f0b2,
     0x2ea4_0ef3_21cf_39fa,
@@ -255,9 +242,6 @@ const FRACTIONS_5: [u64; 32] = [
     0x2c3e_b892_f9e3_fe01,
     0x2c28_9ebd_9b9d_b9b7,
     0x2c12_8ff2_6541_bd28,
-];
-
-const FRACTIONS_6: [u64; 32] = [
     0x2bfc_8c2b_d31d_1d55,
     0x2be6_9364_643e_185a,
     0x2bd0_a596_9a72_b533,
@@ -290,9 +274,6 @@ const FRACTIONS_6: [u64; 32] = [
     0x2990_783b_989d_bb6d,
     0x297b_b530_ac47_669b,
     0x2966_fc84_ad74_8c77,
-];
-
-const FRACTIONS_7: [u64; 32] = [
     0x2952_4e32_6dfa_11ac,
     0x293d_aa34_c243_4ac9,
     0x2929_1086_8150_b15a,
@@ -325,9 +306,6 @@ const FRACTIONS_7: [u64; 32] = [
     0x270b_cbd3_452e_ce24,
     0x26f8_4ace_04e1_bae9,
     0x26e4_d386_d77c_1ea1,
-];
-
-const FRACTIONS_8: [u64; 32] = [
     0x26d1_65f8_df2c_13fd,
     0x26be_021f_408e_0302,
     0x26aa_a7f5_22ab_6a2d,
@@ -360,9 +338,6 @@ const FRACTIONS_8: [u64; 32] = [
     0x24ae_2e77_dc70_9e31,
     0x249b_dbf5_a2c8_db49,
     0x2489_929a_604f_50e3,
-];
-
-const FRACTIONS_9: [u64; 32] = [
     0x2477_5261_82ad_1600,
     0x2465_1b46_79d3_dae0,
     0x2452_ed44_b7fc_c505,
@@ -395,9 +370,6 @@ const FRACTIONS_9: [u64; 32] = [
     0x2275_4259_8984_1edb,
     0x2264_0c06_4d5a_cd55,
     0x2252_de4c_1460_e9e0,
-];
-
-const FRACTIONS_10: [u64; 32] = [
     0x2241_b926_9327_cf56,
     0x2230_9c91_8066_068e,
     0x221f_8888_94f6_3406,
@@ -430,9 +402,6 @@ const FRACTIONS_10: [u64; 32] = [
     0x205e_ce5c_c37f_4459,
     0x204e_a300_c25a_62ef,
     0x203e_7fb8_6a20_c5a0,
-];
-
-const FRACTIONS_11: [u64; 32] = [
     0x202e_647f_b200_40d8,
     0x201e_5152_932a_9117,
     0x200e_462d_08d4_5939,
@@ -465,9 +434,6 @@ const FRACTIONS_11: [u64; 32] = [
     0x1e68_bbe1_0275_8efb,
     0x1e59_8b4f_8756_239e,
     0x1e4a_6254_6f33_117b,
-];
-
-const FRACTIONS_12: [u64; 32] = [
     0x1e3b_40eb_efcd_7e53,
     0x1e2c_2712_40cb_3620,
     0x1e1d_14c3_9bb5_b8ff,
@@ -500,9 +466,6 @@ const FRACTIONS_12: [u64; 32] = [
     0x1c91_14a9_f261_41ca,
     0x1c82_cfb1_27b5_4011,
     0x1c74_91d9_111b_8c06,
-];
-
-const FRACTIONS_13: [u64; 32] = [
     0x1c66_5b1e_1f1e_0d04,
     0x1c58_2b7c_c40d_f399,
     0x1c4a_02f1_7402_d616,
@@ -535,9 +498,6 @@ const FRACTIONS_13: [u64; 32] = [
     0x1ad6_00e9_0cf3_9b4f,
     0x1ac8_9942_c97c_207b,
     0x1abb_384e_ac79_0e29,
-];
-
-const FRACTIONS_14: [u64; 32] = [
     0x1aad_de09_5dad_4b40,
     0x1aa0_8a6f_8687_7240,
     0x1a93_3d7d_d220_fb9b,
@@ -570,9 +530,6 @@ const FRACTIONS_14: [u64; 32] = [
     0x1935_c565_a3bc_0166,
     0x1929_2da9_2333_87ea,
     0x191c_9c36_ee36_e378,
-];
-
-const FRACTIONS_15: [u64; 32] = [
     0x1910_110b_e069_760e,
     0x1903_8c24_d700_6b81,
     0x18f7_0d7e_b0c1_f0c4,
@@ -614,29 +571,23 @@ fn whole_entry(k: usize) -> u64
     WHOLES[k]
 }
 
-fn fraction_entry(i: usize) -> u64
-    requires { ⌜ i < 512 ⌝ }
-    ensures { λ r. ⌜ r ≡ fraction i ⌝ }
+// The table, for a caller that asks for many: where a constant is read all of it is written out first.
+pub fn fraction_table() -> [u64; 512]
+    ensures { λ r. ⌜ r ≡ fractionTable ⌝ }
 {
-    let j = i % 32;
-    match i / 32 {
-        0 => FRACTIONS_0[j],
-        1 => FRACTIONS_1[j],
-        2 => FRACTIONS_2[j],
-        3 => FRACTIONS_3[j],
-        4 => FRACTIONS_4[j],
-        5 => FRACTIONS_5[j],
-        6 => FRACTIONS_6[j],
-        7 => FRACTIONS_7[j],
-        8 => FRACTIONS_8[j],
-        9 => FRACTIONS_9[j],
-        10 => FRACTIONS_10[j],
-        11 => FRACTIONS_11[j],
-        12 => FRACTIONS_12[j],
-        13 => FRACTIONS_13[j],
-        14 => FRACTIONS_14[j],
-        _ => FRACTIONS_15[j],
+    FRACTIONS
+}
+
+// Entry i of a table that is lent: whatever that holds, no more than 1.
+fn fraction_entry(lent: &[u64; 512], i: usize) -> u64
+    requires { ⌜ i < 512 ⌝ }
+    ensures { λ r. ⌜ r ≡ entryOf (now (lent .entry)) i ⌝ }
+{
+    let entry = lent[i];
+    if entry > 0x4000_0000_0000_0000 {
+        return 0x4000_0000_0000_0000;
     }
+    entry
 }
 
 // a·b·2^-62, the rest cut off, by halves of 31 digits: no product of two halves passes a word.
@@ -665,12 +616,12 @@ fn short_series(f: u64) -> u64
 }
 
 // e^−u for u = w·2^-57: the product of its three parts.
-fn exp_units(w: u64) -> u64
+fn exp_units(lent: &[u64; 512], w: u64) -> u64
     requires { ⌜ w < 35 * 2 ^ 57 ⌝ }
-    ensures { λ r. ⌜ r ≡ units w ⌝ }
+    ensures { λ r. ⌜ (r ≡ unitsBy (now (lent .entry)) w) × (r ≤ 2 ^ 62) ⌝ }
 {
     let whole = whole_entry((w / 0x200_0000_0000_0000) as usize);
-    let fraction = fraction_entry((w / 0x1_0000_0000_0000 % 512) as usize);
+    let fraction = fraction_entry(lent, (w / 0x1_0000_0000_0000 % 512) as usize);
     product(
         product(whole, fraction),
         short_series(w % 0x1_0000_0000_0000 * 32),
@@ -694,16 +645,41 @@ fn scaled(u: f64) -> u64
     digits << (field - 1018)
 }
 
-// e^−u. An infinite u gives 0 and a NaN gives a NaN; −0 counts as 0, and below zero it is a NaN.
-pub fn exp_neg(u: f64) -> f64
-    ensures { λ r. ⌜ r ≡ expNeg u ⌝ }
+// e^−u by a table that is lent, which is `fraction_table`'s where the answer is to be e^−u. An infinite u gives 0 and a NaN gives a NaN; −0 counts as 0,
+// and below zero it is a NaN.
+pub fn exp_neg_by(lent: &[u64; 512], u: f64) -> f64
+    ensures { λ r. ⌜ r ≡ expNegBy (now (lent .entry)) u ⌝ }
 {
     if u >= 35.0 {
         return 0.0;
     }
     if u >= 0.0 {
-        let y = exp_units(scaled(u));
+        let y = exp_units(lent, scaled(u));
         return ((y + 256) / 512) as f64 * 1.1102230246251565e-16;
     }
     0.0 / 0.0
+}
+
+// e^−u.
+pub fn exp_neg(u: f64) -> f64
+    ensures { λ r. ⌜ r ≡ expNeg u ⌝ }
+{
+    let table = fraction_table();
+    exp_neg_by(&table, u)
+}
+
+// e^−u of each number of a list, as far as the area goes: the table is written out once for all of them.
+pub fn exp_neg_each(us: &[f64], out: &mut [f64])
+    ensures { λ _. ⌜ now (out .exit) ≡ written 0 (min (length (now (us .entry))) (length (now (out .entry))))
+        (λ i. expNeg (getD (now (us .entry)) i nan)) (now (out .entry)) ⌝ }
+{
+    let table = fraction_table();
+    let mut i = 0;
+    while i < us.len() {
+        if i >= out.len() {
+            return;
+        }
+        out[i] = exp_neg_by(&table, us[i]);
+        i += 1;
+    }
 }

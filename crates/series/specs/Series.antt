@@ -1,6 +1,7 @@
 -- Paper 02, Slip 1: "partial sums of the alternating series, as fractions of whole numbers", for u = a / d. Assumes nothing.
 use Prim.Native.Nat.{ℕ, zero, suc, _+_, _*_, _^_}
 use mathlib.Core.Bool.{Bool, true, false, not, cond}
+use lib.IntN.{ℤ, pos, negℤ, pow, _+ℤ_, _*ℤ_}
 
 -- whether a power is even: its term stands with plus, and else with minus
 abbrev pub even : ℕ → Bool
@@ -21,3 +22,8 @@ added a d (suc n) = added a d n * (d * suc n) + cond (even (suc n)) (a ^ suc n) 
 unfoldable pub taken : ℕ → ℕ → ℕ → ℕ
 taken a d zero = 0
 taken a d (suc n) = taken a d n * (d * suc n) + cond (even (suc n)) 0 (a ^ suc n)
+
+-- the same sum with its signs, Σ (−u)^i / i!, times d^n · n!: each sum is the one before, in the next one's units, and (−a)^n more
+unfoldable pub alternating : ℕ → ℕ → ℕ → ℤ
+alternating a d zero = pos 1
+alternating a d (suc n) = alternating a d n *ℤ pos (d * suc n) +ℤ pow (negℤ (pos a)) (suc n)

@@ -2,8 +2,9 @@
 use Prim.Native.Nat.{ℕ, zero, suc, _*_, _≤_, _<_}
 use native.Mathlib.Nat.{mul-pos, zero-lt-suc, zero-mul}
 use native.Mathlib.Omega.{arith}
-use mathlib.Core.Path.{_≡_, refl, sym, subst}
+use mathlib.Core.Path.{_≡_, refl, ap, sym, subst, fun-ext}
 use mathlib.Core.Bool.{Bool, true, false, not}
+use mathlib.Core.List.{List}
 use mathlib.Core.Logic.{_↔_}
 use lib.Arith.{le→nltb}
 use lib.IntN.{ℤ}
@@ -12,21 +13,43 @@ use lib.Ieee.{Float, nan, inf, fin, up, down, binary64, add, sub, mul, div, lt, 
 use lib.Ieee.Fits.{up-pos}
 use Rattle.ieee.specs.Floats.{zeroFloat, oneFloat, epsilon}
 use Rattle.ieee.specs.Values.{infinite, number}
+use Rattle.exponential.specs.Exponential.{fractionTable, expNeg, expNegBy}
+use Rattle.exponential.proofs.Lent.{by-table}
 use Rattle.variogram.specs.declared.Variogram.{Variogram}
 use Rattle.variogram.specs.declared.VariogramModel.{VariogramModel}
 use Rattle.variogram.specs.declared.VariogramModel.the-variants.{Spherical, Exponential, Gaussian, Linear}
-use Rattle.variogram.specs.Model.{variogram, spheric, spherical, linear, ofModel, semivariance, wrongRange, wrongModel}
+use Rattle.variogram.specs.Model.{variogram, spheric, spherical, linear, ofModel, semivariance, semivarianceWith, semivarianceBy, wrongRange, wrongModel}
 use Rattle.variogram.specs.Model.{NotAboveZero, a-zero, negative, not-a-number, WrongModel}
 
 -- the variogram of a distance below 2^-52 is +0, whatever the model and its numbers
+pub with-same-spot : (exp : Float → Float) (v : Variogram) (h : Float) → lt h epsilon ≡ true → semivarianceWith exp v h ≡ zeroFloat
+unfolding semivarianceWith
+with-same-spot exp v h near = rw near
+
 pub same-spot : (v : Variogram) (h : Float) → lt h epsilon ≡ true → semivariance v h ≡ zeroFloat
 unfolding semivariance
-same-spot v h near = rw near
+same-spot = with-same-spot expNeg
 
 -- any other distance, a NaN too, is the model's
-pub by-model : (v : Variogram) (h : Float) (m : VariogramModel) → lt h epsilon ≡ false → v .model ≡ m → semivariance v h ≡ ofModel m (v .nugget) (v .sill) (v .range) h
-unfolding semivariance
-by-model v h m far is = rw (far, is)
+pub by-model : (exp : Float → Float) (v : Variogram) (h : Float) (m : VariogramModel) → lt h epsilon ≡ false → v .model ≡ m
+    → semivarianceWith exp v h ≡ ofModel exp m (v .nugget) (v .sill) (v .range) h
+unfolding semivarianceWith
+by-model exp v h m far is = rw (far, is)
+
+-- the same by a table that is lent
+pub lent-same-spot : (lent : List ℕ) (v : Variogram) (h : Float) → lt h epsilon ≡ true → semivarianceBy lent v h ≡ zeroFloat
+unfolding semivarianceBy
+lent-same-spot lent = with-same-spot (expNegBy lent)
+
+pub lent-model : (lent : List ℕ) (v : Variogram) (h : Float) (m : VariogramModel) → lt h epsilon ≡ false → v .model ≡ m
+    → semivarianceBy lent v h ≡ ofModel (expNegBy lent) m (v .nugget) (v .sill) (v .range) h
+unfolding semivarianceBy
+lent-model lent = by-model (expNegBy lent)
+
+-- by the table itself, lent, it is the variogram
+pub by-own-table : (v : Variogram) (h : Float) → semivarianceBy fractionTable v h ≡ semivariance v h
+unfolding semivarianceBy semivariance
+by-own-table v h = ap (λ (exp : Float → Float). semivarianceWith exp v h) (fun-ext by-table)
 
 pub spherical-far : (nugget sill range h : Float) → le range h ≡ true → spherical nugget sill range h ≡ sill
 unfolding spherical
@@ -40,7 +63,7 @@ spherical-near nugget sill range h near = rw near
 -- sounding F: "Spherical 0, 1, 2 at h = 1: 0.6875. Linear 1, 4, 2 at h = 2: 5."
 pub sounding-F : (semivariance (variogram Spherical zeroFloat oneFloat (ofBits binary64 0x4000_0000_0000_0000)) oneFloat ≡ ofBits binary64 0x3fe6_0000_0000_0000)
     × (semivariance (variogram Linear oneFloat (ofBits binary64 0x4010_0000_0000_0000) (ofBits binary64 0x4000_0000_0000_0000)) (ofBits binary64 0x4000_0000_0000_0000) ≡ ofBits binary64 0x4014_0000_0000_0000)
-unfolding semivariance spherical linear add sub mul div lt le ofBits round
+unfolding semivariance semivarianceWith spherical linear add sub mul div lt le ofBits round
 sounding-F = (refl, refl)
 
 -- ---- 12: an Exponential variogram whose range is not above zero

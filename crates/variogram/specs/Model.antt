@@ -1,12 +1,14 @@
 -- The variogram at a distance: paper 01, "Variogram", and paper 02, "Exponential and Gaussian wells". Each operation is rounded once, in the order
 -- in which it stands there. Assumes nothing.
+use Prim.Native.Nat.{ℕ}
 use mathlib.Core.Path.{_≡_}
 use mathlib.Core.Bool.{Bool, true, false, not, cond}
+use mathlib.Core.List.{List}
 use lib.IntN.{ℤ}
 use lib.Ieee.{Float, nan, fin, binary64, add, sub, mul, div, lt, le, ofBits}
 use Rattle.ieee.specs.Floats.{zeroFloat, oneFloat, epsilon}
 use Rattle.ieee.specs.Values.{Signed}
-use Rattle.exponential.specs.Exponential.{expNeg}
+use Rattle.exponential.specs.Exponential.{expNeg, expNegBy}
 use Rattle.variogram.specs.declared.Variogram.{Variogram}
 use Rattle.variogram.specs.declared.VariogramModel.{VariogramModel}
 use Rattle.variogram.specs.declared.VariogramModel.the-variants.{Spherical, Exponential, Gaussian, Linear}
@@ -36,29 +38,39 @@ unfoldable pub linear : Float → Float → Float → Float → Float
 linear nugget sill range h = add binary64 nugget (mul binary64 (div binary64 sill range) (cond (lt h range) h range))
 
 -- "Both follow the formulas of source document 000": "self.nugget + partial_sill * (1.0 - (..).exp())", with "partial_sill = self.sill - self.nugget"
--- and −u for the dots
+-- and e for the power of e
 abbrev pub towardsSill : Float → Float → Float → Float
-towardsSill nugget sill u = add binary64 nugget (mul binary64 (sub binary64 sill nugget) (sub binary64 oneFloat (expNeg u)))
+towardsSill nugget sill e = add binary64 nugget (mul binary64 (sub binary64 sill nugget) (sub binary64 oneFloat e))
 
--- Exponential, "(-h / self.range).exp()": u is h / range
-unfoldable pub exponentialModel : Float → Float → Float → Float → Float
-exponentialModel nugget sill range h = towardsSill nugget sill (div binary64 h range)
+-- Exponential, "(-h / self.range).exp()": e^−u for u = h / range
+unfoldable pub exponentialModel : (Float → Float) → Float → Float → Float → Float → Float
+exponentialModel exp nugget sill range h = towardsSill nugget sill (exp (div binary64 h range))
 
--- Gaussian, "(-(h * h) / (self.range * self.range)).exp()": u is h·h over range·range
-unfoldable pub gaussian : Float → Float → Float → Float → Float
-gaussian nugget sill range h = towardsSill nugget sill (div binary64 (mul binary64 h h) (mul binary64 range range))
+-- Gaussian, "(-(h * h) / (self.range * self.range)).exp()": e^−u for u = h·h over range·range
+unfoldable pub gaussian : (Float → Float) → Float → Float → Float → Float → Float
+gaussian exp nugget sill range h = towardsSill nugget sill (exp (div binary64 (mul binary64 h h) (mul binary64 range range)))
 
 -- past the zero test, by the model
-abbrev pub ofModel : VariogramModel → Float → Float → Float → Float → Float
-ofModel Spherical = spherical
-ofModel Exponential = exponentialModel
-ofModel Gaussian = gaussian
-ofModel Linear = linear
+abbrev pub ofModel : (Float → Float) → VariogramModel → Float → Float → Float → Float → Float
+ofModel exp Spherical = spherical
+ofModel exp Exponential = exponentialModel exp
+ofModel exp Gaussian = gaussian exp
+ofModel exp Linear = linear
 
--- "0 if h < 2^-52", of every model
-unfoldable pub semivariance : Variogram → Float → Float
+-- "0 if h < 2^-52", of every model, for an e^−u
+unfoldable pub semivarianceWith : (Float → Float) → Variogram → Float → Float
 unfolding spherical exponentialModel gaussian linear
-semivariance v h = cond (lt h epsilon) zeroFloat (ofModel (v .model) (v .nugget) (v .sill) (v .range) h)
+semivarianceWith exp v h = cond (lt h epsilon) zeroFloat (ofModel exp (v .model) (v .nugget) (v .sill) (v .range) h)
+
+-- the variogram, with e^−u itself
+unfoldable pub semivariance : Variogram → Float → Float
+unfolding semivarianceWith expNeg
+semivariance v h = semivarianceWith expNeg v h
+
+-- and with e^−u by a table that is lent
+unfoldable pub semivarianceBy : List ℕ → Variogram → Float → Float
+unfolding semivarianceWith expNegBy
+semivarianceBy lent v h = semivarianceWith (expNegBy lent) v h
 
 -- "12 now means an Exponential survey whose range is not above zero, and nothing else": as a test
 abbrev pub wrongRange : VariogramModel → Float → Bool

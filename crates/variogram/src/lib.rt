@@ -4,7 +4,7 @@ ghost use Prim.Native.Nat.{_+_, _≤_, _<_};
 ghost use lib.ListN.{length};
 ghost use lib.Dec.{ltb};
 ghost use lib.Ieee.{nan};
-ghost use Rattle.variogram.specs.Model.{variogram, semivariance};
+ghost use Rattle.variogram.specs.Model.{variogram, semivariance, semivarianceBy};
 ghost use Rattle.variogram.specs.Distance.{squaredDistance2d, distance2d, squares, axisFrom, hasPoint, distance};
 
 // Variogram models, in the Rust's order.
@@ -49,6 +49,14 @@ impl Variogram {
     pub fn evaluate(self, h: f64) -> f64
         ensures { λ r. ⌜ r ≡ semivariance self h ⌝ }
     {
+        let table = exponential::fraction_table();
+        self.evaluate_by(&table, h)
+    }
+
+    // The same by a table of e^−u that is lent, for a caller that evaluates many: `exponential::fraction_table`'s.
+    pub fn evaluate_by(self, lent: &[u64; 512], h: f64) -> f64
+        ensures { λ r. ⌜ r ≡ semivarianceBy (now (lent .entry)) self h ⌝ }
+    {
         if h < Self::EPSILON {
             return 0.0;
         }
@@ -64,11 +72,11 @@ impl Variogram {
                 }
             }
             VariogramModel::Exponential => {
-                self.nugget + partial_sill * (1.0 - exponential::exp_neg(h / self.range))
+                self.nugget + partial_sill * (1.0 - exponential::exp_neg_by(lent, h / self.range))
             }
             VariogramModel::Gaussian => {
                 let u = (h * h) / (self.range * self.range);
-                self.nugget + partial_sill * (1.0 - exponential::exp_neg(u))
+                self.nugget + partial_sill * (1.0 - exponential::exp_neg_by(lent, u))
             }
             VariogramModel::Linear => {
                 let slope = self.sill / self.range;

@@ -1,72 +1,23 @@
--- `exponential::exp_neg` meets its contract: from 35 on, from 0 up to 35, and the rest. Assumes nothing.
-use Prim.Native.Nat.{ℕ, _+_, _*_, _/_, _^_, _≤_, _<_}
-use native.Mathlib.Omega.{arith}
-use mathlib.Core.Path.{ap, sym, _∙_, subst}
-use lib.Dec.{T, le→leb}
-use lib.Ieee.{ofBits, div, le, lt, inFloat}
-use Rattle.ieee.specs.Floats.{zeroFloat}
-use Rattle.ieee.proofs.Zero.{holds}
-use Rattle.exponential.specs.Exponential.{cut, units, shown}
-use Rattle.exponential.proofs.Cases.{from-cut, inside, elsewhere}
-use Rattle.exponential.proofs.Digits.{under-cut, scaled-below}
-use Rattle.exponential.proofs.Units.{units-le}
+-- `exponential::exp_neg` meets its contract: by the table itself, lent, e^−u comes out. Assumes nothing.
+use mathlib.Core.Path.{ap, _∙_}
+use mathlib.Core.List.{List}
+use Prim.Native.Nat.{ℕ}
+use borrow.Author.Needs.{needs}
+use Rattle.exponential.specs.Exponential.{expNegBy}
+use Rattle.exponential.proofs.Lent.{by-table}
 use Rattle.exponential.proofs.exp_neg.Statement.{statement}
 use Rattle.exponential.proofs.exp_neg.Tie as tie
 
--- from 35 on
+fraction-table-requires : tie.Need-fraction-table-requires
+fraction-table-requires c κs = search needs
+
+exp-neg-by-requires : tie.Need-exp-neg-by-requires
+exp-neg-by-requires c κs = search needs
+
 returns : tie.Need-returns
-returns c = sym (from-cut (c .before .args .u) (c .if1 .taken))
-
--- u is not below 0, and below 35
-not-below : (c : tie.Then2) → T (le zeroFloat (c .before .before .args .u))
-not-below c = holds _ (c .if2 .taken)
-
-below : (c : tie.Then2) → T (lt (c .before .before .args .u) cut)
-below c = under-cut (c .before .before .args .u) (not-below c) (c .before .if1 .left)
-
-scaled-requires : tie.Need-scaled-requires
-scaled-requires c κs = (not-below c, below c)
-
-in-range : (c : tie.After-scaled) → c .scaled .result < 35 * 2 ^ 57
-in-range c =
-    let t = c .before in
-    subst (λ (n : ℕ). n < 35 * 2 ^ 57) (sym (c .scaled .ensures)) (scaled-below (t .before .before .args .u) (not-below t) (below t))
-
-exp-units-requires : tie.Need-exp-units-requires
-exp-units-requires c κs = in-range c
-
--- e^−u is at most 1
-small : (c : tie.After-exp-units) → c .exp-units .result ≤ 2 ^ 62
-small c = subst (λ (n : ℕ). n ≤ 2 ^ 62) (sym (c .exp-units .ensures)) (units-le (c .before .scaled .result) (in-range (c .before)))
-
-add-result : tie.Need-add-result
-add-result c = omega (arith, small c)
-
-int-to-float-result : tie.Need-int-to-float-result
-unfolding inFloat
-int-to-float-result c = le→leb ((c .before .exp-units .result + 256) / 512) (2 ^ 53) (omega (arith, small (c .before)))
-
-returns-2 : tie.Need-returns-2
-unfolding shown
-returns-2 c =
-    let s = c .before .before in
-    let t = s .before in
-    let u = t .before .before .args .u in
-    ap shown (c .before .exp-units .ensures ∙ ap units (s .scaled .ensures)) ∙ sym (inside u (t .before .if1 .left) (t .if2 .taken))
-
--- neither
-returns-3 : tie.Need-returns-3
-unfolding div ofBits
-returns-3 c = sym (elsewhere (c .before .before .args .u) (c .before .if1 .left) (c .if2 .left))
+returns c = c .exp-neg-by .ensures
+    ∙ ap (λ (lent : List ℕ). expNegBy lent (c .before .before .before .args .u)) (c .before .before .fraction-table .ensures)
+    ∙ by-table (c .before .before .before .args .u)
 
 pub exp-neg-spec : {M : Type 1} → statement M
-exp-neg-spec =
-    tie.close
-    (tie.spec
-    returns
-    scaled-requires
-    exp-units-requires
-    add-result
-    int-to-float-result
-    returns-2
-    returns-3)
+exp-neg-spec = tie.close (tie.spec fraction-table-requires exp-neg-by-requires returns)
