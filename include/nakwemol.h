@@ -203,6 +203,9 @@ uint8_t nakwemol_write(
  * a NaN where it is a NaN or below zero. */
 double nakwemol_exp_neg(double u);
 
+/* The same of each number of a list, as far as the area goes: quicker for many, since a table is laid out once for all of them. */
+void nakwemol_exp_neg_each(const double *us, size_t us_count, double *out, size_t out_count);
+
 #ifdef __cplusplus
 }
 #endif

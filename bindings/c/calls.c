@@ -62,6 +62,12 @@ static void models(void) {
     near("e^-1", nakwemol_exp_neg(1), e1);
     same("e^-0", nakwemol_exp_neg(0), 1);
     same("e to minus infinity", nakwemol_exp_neg(1e308 * 10), 0);
+    const double us[] = {0, 1, 2};
+    double out[] = {-1, -1, -1};
+    nakwemol_exp_neg_each(us, 3, out, 2);
+    same("e^-0 of a list", out[0], 1);
+    same("e^-1 of a list", out[1], nakwemol_exp_neg(1));
+    same("past the area", out[2], -1);
 }
 
 static void fits(void) {

@@ -111,7 +111,9 @@ fn models() -> Vec<Case<'static>> {
 /// Some e^−u, one after another.
 fn powers() -> Case<'static> {
     let (us, same) = (inputs::powers(POWERS), inputs::powers(POWERS));
-    Case::new(format!("powers {POWERS}"), move || original::powers(black_box(&us)), move || port::powers(black_box(&same)))
+    let (mut theirs, mut ours) = (vec![0.0; POWERS], vec![0.0; POWERS]);
+    let original = move || original::powers(black_box(&us), &mut theirs);
+    Case::new(format!("powers {POWERS}"), original, move || port::powers(black_box(&same), &mut ours))
 }
 
 fn growth() -> Vec<Case<'static>> {

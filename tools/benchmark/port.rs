@@ -73,16 +73,15 @@ impl Fit {
 }
 
 extern "C" {
-    fn nakwemol_exp_neg(u: f64) -> f64;
+    fn nakwemol_exp_neg_each(us: *const f64, us_count: usize, out: *mut f64, out_count: usize);
 }
 
-/// e^−u of every number.
+/// e^−u of every number, as a fit has them: the table is laid out once.
 #[inline(never)]
-pub fn powers(us: &[f64]) {
-    for u in us {
-        // SAFETY: a number goes in and a number comes out; the function reads nothing else.
-        black_box(unsafe { nakwemol_exp_neg(*u) });
-    }
+pub fn powers(us: &[f64], out: &mut [f64]) {
+    // SAFETY: both lists are valid for their counts, and no number is in both.
+    unsafe { nakwemol_exp_neg_each(us.as_ptr(), us.len(), out.as_mut_ptr(), out.len()) };
+    black_box(out);
 }
 
 pub struct Interpolation {
