@@ -65,7 +65,7 @@ spherical-near nugget sill range h near = rw near
 pub sounding-F : (semivariance
     (variogram Spherical zeroFloat oneFloat (ofBits binary64 0x4000_0000_0000_0000)) oneFloat ≡ ofBits binary64 0x3fe6_0000_0000_0000)
     × (semivariance (variogram Linear oneFloat (ofBits binary64 0x4010_0000_0000_0000) (ofBits binary64 0x4000_0000_0000_0000))
-        (ofBits binary64 0x4000_0000_0000_0000) ≡ ofBits binary64 0x4014_0000_0000_0000)
+    (ofBits binary64 0x4000_0000_0000_0000) ≡ ofBits binary64 0x4014_0000_0000_0000)
 unfolding semivariance semivarianceWith spherical linear add sub mul div lt le ofBits round
 sounding-F = (refl, refl)
 
