@@ -1,14 +1,16 @@
 -- The tables' rule, by one computed test over each of them: every entry lies within one unit of 2^-62 of e^−(i/512), and of e^−k. Assumes nothing.
 use Prim.Native.Nat.{ℕ, suc, _+_, _-_, _*_, _^_, _<_}
 use native.Mathlib.Omega.{arith}
-use mathlib.Core.Path.{_≡_, refl}
+use mathlib.Core.Path.{_≡_, refl, sym, subst}
 use mathlib.Core.Bool.{Bool, true, false}
 use lib.Dec.{T, leb, ltb, leb→le, ltb→lt}
+use Rattle.area.proofs.Tables.{table-length, table-at}
+use Rattle.series.specs.Bracket.{Within}
 use Rattle.series.specs.Series.{even, over, added, taken}
 use Rattle.series.proofs.Bounds.{from-lower, from-upper}
 use Rattle.series.proofs.Bracket.{within}
 use Rattle.series.proofs.Near.{Near}
-use Rattle.exponential.specs.Exponential.{fraction, whole}
+use Rattle.exponential.specs.Exponential.{fraction, fractionTable, whole}
 use Rattle.exponential.specs.Exact.{TableRule}
 use Rattle.exponential.proofs.Table.{each, passes, both, both-left, both-right}
 
@@ -44,9 +46,12 @@ pub whole-near : (k : ℕ) → k < 35 → Near k 1 (2 ^ 62) (whole k) 1
 whole-near k h = near 151 1 k (whole k) (omega arith) refl refl (passes (λ n. close 151 1 n (whole n)) 35 wholes-close k h)
 
 pub table-rule : TableRule
-unfolding fraction
+unfolding fractionTable fraction
 table-rule =
     record {
-      entries = λ i h. within i 512 (fraction i) (2 ^ 62) 1 (omega arith) (fraction-near i h .under) (fraction-near i h .above);
-      first = refl;
+      many = table-length 512 fraction;
+      entries = λ i h.
+          subst (λ (x : ℕ). Within i 512 x (2 ^ 62) 1) (sym (table-at 512 fraction i 0 h))
+          (within i 512 (fraction i) (2 ^ 62) 1 (omega arith) (fraction-near i h .under) (fraction-near i h .above));
+      first = table-at 512 fraction 0 0 (omega arith);
     }

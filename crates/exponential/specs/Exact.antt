@@ -4,12 +4,13 @@ use mathlib.Core.Path.{_≡_}
 use mathlib.Core.Bool.{true, false}
 use lib.IntN.{pos}
 use lib.Dec.{T}
+use lib.ListN.{length, getD}
 use lib.Ieee.{Float, nan, inf, fin, binary64, fits, le, lt}
 use lib.Ieee.Scale.{finite}
 use Rattle.ieee.specs.Floats.{zeroFloat, oneFloat}
 use Rattle.ieee.specs.Values.{multiple, signOf}
 use Rattle.series.specs.Bracket.{Within}
-use Rattle.exponential.specs.Exponential.{fraction, expNeg}
+use Rattle.exponential.specs.Exponential.{fractionTable, expNeg}
 
 -- "the result lies within 2^-50 of the exact value", u and r as whole multiples of 2^-1074, of which 2^1024 are 2^-50; and it lies from 0 to 1
 pub record Close (u r : Float) : Type 0 where
@@ -31,7 +32,8 @@ pub record OtherExponentials : Type 0 where
   pub at-minus-zero : expNeg (fin true 0 (pos 0)) ≡ oneFloat
   pub below-zero : (u : Float) → T (lt u zeroFloat) → expNeg u ≡ nan
 
--- "every entry within one unit": i / 512 and units of 2^-62. Entry 0 is 1
+-- "every entry within one unit": i / 512 and units of 2^-62, 512 entries. Entry 0 is 1
 pub record TableRule : Type 0 where
-  pub entries : (i : ℕ) → i < 512 → Within i 512 (fraction i) (2 ^ 62) 1
-  pub first : fraction 0 ≡ 2 ^ 62
+  pub many : length fractionTable ≡ 512
+  pub entries : (i : ℕ) → i < 512 → Within i 512 (getD fractionTable i 0) (2 ^ 62) 1
+  pub first : getD fractionTable 0 0 ≡ 2 ^ 62
