@@ -1,5 +1,5 @@
--- Computed cases, their answers worked out outside these definitions: by tools/reading/cases.py, another reading of the paper in Python's floats and whole numbers, and where
--- the original Rust answers, the original's own. One record holds them all. Assumes nothing.
+-- Computed cases, their answers worked out outside these definitions: by tools/reading/cases.py, another reading of the paper in Python's floats and whole
+-- numbers, and where the original Rust answers, the original's own; those of ModelCases as it says. One record holds them all. Assumes nothing.
 use mathlib.Core.Path.{_≡_}
 use mathlib.Core.List.{[], _∷_}
 use mathlib.Core.Option.{some}

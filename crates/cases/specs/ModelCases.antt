@@ -1,6 +1,6 @@
--- The Exponential and the Gaussian model, and what 12 refuses: paper 02, "Exponential and Gaussian wells". Each answer was worked out by hand from
--- e^−u to 60 digits, which the original's `exp` rounds to the same f64 at these u. Assumes nothing.
-use Prim.Native.Nat.{ℕ, _*_}
+-- The Exponential and the Gaussian model, and what 12 refuses: paper 02, "Exponential and Gaussian wells". The answers were worked out
+-- outside these definitions, from e^−u to 60 digits; at these u the C library's `exp` gives the same f64. Assumes nothing.
+use Prim.Native.Nat.{ℕ}
 use mathlib.Core.Path.{_≡_}
 use mathlib.Core.List.{[], _∷_}
 use lib.ListN.{replicate}

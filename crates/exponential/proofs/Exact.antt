@@ -22,7 +22,7 @@ use Rattle.series.proofs.Near.{Near, under-units, above-units, above-product}
 use Rattle.series.proofs.Scale.{above-scaled}
 use Rattle.exponential.specs.Exponential.{cut, units, shown, byRange, expNeg}
 use Rattle.exponential.specs.Exact.{Close, EveryClose, OtherExponentials}
-use Rattle.exponential.proofs.Cases.{from-cut, inside, elsewhere}
+use Rattle.exponential.proofs.Cases.{from-cut, inside, elsewhere, below-zero}
 use Rattle.exponential.proofs.Digits.{under-cut, scaled-below}
 use Rattle.exponential.proofs.Units.{units-le}
 use Rattle.exponential.proofs.UnitsNear.{units-near}
@@ -149,4 +149,5 @@ other-exponentials =
       not-a-number = elsewhere nan (shown (units 0)) refl refl;
       at-zero = inside (fin false 0 (pos 0)) _ refl refl ∙ one;
       at-minus-zero = inside (fin true 0 (pos 0)) _ refl refl ∙ one;
+      below-zero = λ u h. below-zero u (shown (units (multiple u / 2 ^ 1017))) h;
     }

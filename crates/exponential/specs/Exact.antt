@@ -4,7 +4,7 @@ use mathlib.Core.Path.{_≡_}
 use mathlib.Core.Bool.{true, false}
 use lib.IntN.{pos}
 use lib.Dec.{T}
-use lib.Ieee.{Float, nan, inf, fin, binary64, fits, le}
+use lib.Ieee.{Float, nan, inf, fin, binary64, fits, le, lt}
 use lib.Ieee.Scale.{finite}
 use Rattle.ieee.specs.Floats.{zeroFloat, oneFloat}
 use Rattle.ieee.specs.Values.{multiple, signOf}
@@ -23,12 +23,13 @@ pub record Close (u r : Float) : Type 0 where
 abbrev pub EveryClose : Type 0
 EveryClose = (u : Float) → T (fits binary64 u) → T (finite u) → T (le zeroFloat u) → Close u (expNeg u)
 
--- "An infinite u gives 0; a NaN gives NaN"; at both zeros it is 1 itself
+-- "An infinite u gives 0; a NaN gives NaN"; at both zeros it is 1 itself, and below zero, which the papers leave free, a NaN
 pub record OtherExponentials : Type 0 where
   pub infinity : expNeg (inf false) ≡ zeroFloat
   pub not-a-number : expNeg nan ≡ nan
   pub at-zero : expNeg (fin false 0 (pos 0)) ≡ oneFloat
   pub at-minus-zero : expNeg (fin true 0 (pos 0)) ≡ oneFloat
+  pub below-zero : (u : Float) → T (lt u zeroFloat) → expNeg u ≡ nan
 
 -- "every entry within one unit": i / 512 and units of 2^-62. Entry 0 is 1
 pub record TableRule : Type 0 where

@@ -16,9 +16,11 @@ use Rattle.variogram.specs.Model.{wrongModel}
 use Rattle.variogram.proofs.Model.{wrong-model}
 use Rattle.survey.specs.declared.Limits.{Limits}
 use Rattle.survey.specs.Survey.{Survey, wells, columns, externals}
-use Rattle.survey.specs.Rules.{WrongCoords, OddNodes, BadCode, SomeBadCode, BadAmount, WrongExternal, WrongNodeExternal, TooMany, VariogramNotFinite, NumberNotFinite}
+use Rattle.survey.specs.Rules.{WrongCoords, OddNodes, BadCode, SomeBadCode, BadAmount, WrongExternal, WrongNodeExternal}
+use Rattle.survey.specs.Rules.{TooMany, VariogramNotFinite, NumberNotFinite}
 use Rattle.survey.specs.Rules.{listRules, limitRules, numberRules, modelRules, surveyRules}
-use Rattle.survey.specs.Refusals.{wrongCoords, oddNodes, badCode, badAmount, wrongExternal, wrongNodeExternal, tooMany, variogramNotFinite, numberNotFinite}
+use Rattle.survey.specs.Refusals.{wrongCoords, oddNodes, badCode, badAmount, wrongExternal, wrongNodeExternal}
+use Rattle.survey.specs.Refusals.{tooMany, variogramNotFinite, numberNotFinite}
 use Rattle.survey.specs.Refusals.{listTests, limitTests, numberTests, modelTests, surveyTests}
 
 -- ---- test by test

@@ -3,7 +3,7 @@ use Prim.Native.Nat.{ℕ, zero, suc, _*_, _≤_, _<_}
 use native.Mathlib.Nat.{mul-pos, zero-lt-suc, zero-mul}
 use native.Mathlib.Omega.{arith}
 use mathlib.Core.Path.{_≡_, refl, ap, sym, subst, fun-ext}
-use mathlib.Core.Bool.{Bool, true, false, not}
+use mathlib.Core.Bool.{true, false, not}
 use mathlib.Core.List.{List}
 use mathlib.Core.Logic.{_↔_}
 use lib.Arith.{le→nltb}
@@ -18,7 +18,8 @@ use Rattle.exponential.proofs.Lent.{by-table}
 use Rattle.variogram.specs.declared.Variogram.{Variogram}
 use Rattle.variogram.specs.declared.VariogramModel.{VariogramModel}
 use Rattle.variogram.specs.declared.VariogramModel.the-variants.{Spherical, Exponential, Gaussian, Linear}
-use Rattle.variogram.specs.Model.{variogram, spheric, spherical, linear, ofModel, semivariance, semivarianceWith, semivarianceBy, wrongRange, wrongModel}
+use Rattle.variogram.specs.Model.{variogram, spheric, spherical, linear, ofModel, semivariance, semivarianceWith, semivarianceBy, wrongRange}
+use Rattle.variogram.specs.Model.{wrongModel}
 use Rattle.variogram.specs.Model.{NotAboveZero, a-zero, negative, not-a-number, WrongModel}
 
 -- the variogram of a distance below 2^-52 is +0, whatever the model and its numbers
@@ -61,8 +62,10 @@ unfolding spherical
 spherical-near nugget sill range h near = rw near
 
 -- sounding F: "Spherical 0, 1, 2 at h = 1: 0.6875. Linear 1, 4, 2 at h = 2: 5."
-pub sounding-F : (semivariance (variogram Spherical zeroFloat oneFloat (ofBits binary64 0x4000_0000_0000_0000)) oneFloat ≡ ofBits binary64 0x3fe6_0000_0000_0000)
-    × (semivariance (variogram Linear oneFloat (ofBits binary64 0x4010_0000_0000_0000) (ofBits binary64 0x4000_0000_0000_0000)) (ofBits binary64 0x4000_0000_0000_0000) ≡ ofBits binary64 0x4014_0000_0000_0000)
+pub sounding-F : (semivariance
+    (variogram Spherical zeroFloat oneFloat (ofBits binary64 0x4000_0000_0000_0000)) oneFloat ≡ ofBits binary64 0x3fe6_0000_0000_0000)
+    × (semivariance (variogram Linear oneFloat (ofBits binary64 0x4010_0000_0000_0000) (ofBits binary64 0x4000_0000_0000_0000))
+    (ofBits binary64 0x4000_0000_0000_0000) ≡ ofBits binary64 0x4014_0000_0000_0000)
 unfolding semivariance semivarianceWith spherical linear add sub mul div lt le ofBits round
 sounding-F = (refl, refl)
 
