@@ -564,10 +564,14 @@ const FRACTIONS: [u64; 512] = [
     0x1797_1ed3_306d_f498,
 ];
 
+// Below 1, where most distances lie, nothing has to be written out for it.
 fn whole_entry(k: usize) -> u64
     requires { ⌜ k < 35 ⌝ }
     ensures { λ r. ⌜ r ≡ whole k ⌝ }
 {
+    if k == 0 {
+        return 0x4000_0000_0000_0000;
+    }
     WHOLES[k]
 }
 
