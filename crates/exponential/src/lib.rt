@@ -9,14 +9,17 @@ ghost use Rattle.ieee.specs.Floats.{zeroFloat};
 ghost use Rattle.ieee.specs.Values.{multiple};
 ghost use Rattle.exponential.specs.Exponential.{whole, fractionTable, entryOf, times, shortSeries, unitsBy, cut, expNegBy, expNeg};
 
-// e^−k for k from 0 to 34.
-const WHOLES: [u64; 35] = [
+// e^−k for k from 0 to 5, and from 6 to 34. All of a table is written out where an entry is read, and few distances are six times the range.
+const NEAR_WHOLES: [u64; 6] = [
     0x4000_0000_0000_0000,
     0x178b_5636_2cef_37c7,
     0x08a9_5551_dfc0_e5d0,
     0x032f_b619_99d6_15d9,
     0x012c_155b_8213_cf47,
     0x006e_64ff_8035_4dd8,
+];
+
+const FAR_WHOLES: [u64; 29] = [
     0x0028_9ca3_e227_a9ac,
     0x000e_f0b5_ce12_54c7,
     0x0005_7f08_4104_09eb,
@@ -564,15 +567,14 @@ const FRACTIONS: [u64; 512] = [
     0x1797_1ed3_306d_f498,
 ];
 
-// Below 1, where most distances lie, nothing has to be written out for it.
 fn whole_entry(k: usize) -> u64
     requires { ⌜ k < 35 ⌝ }
     ensures { λ r. ⌜ r ≡ whole k ⌝ }
 {
-    if k == 0 {
-        return 0x4000_0000_0000_0000;
+    if k < 6 {
+        return NEAR_WHOLES[k];
     }
-    WHOLES[k]
+    FAR_WHOLES[k - 6]
 }
 
 // The table, for a caller that asks for many: where a constant is read all of it is written out first.
