@@ -1,26 +1,49 @@
--- A product of two multiples of 2^-62: by halves of 31 digits, and how large it is. Assumes nothing.
-use Prim.Native.Nat.{ℕ, _+_, _*_, _/_, _%_, _^_, _≤_}
-use native.Mathlib.Nat.{mul-le-mul}
+-- A product of two multiples of 2^-62: from the two words of the product, by halves of 32 bits, and how large it is. Assumes nothing.
+use Prim.Native.Nat.{ℕ, _+_, _*_, _/_, _%_, _^_, _≤_, _<_}
+use native.Mathlib.Nat.{mul-le-mul, div-add-mod'}
 use native.Mathlib.Omega.{arith}
-use mathlib.Core.Path.{_≡_, ap₂, _∙_}
+use mathlib.Core.Path.{_≡_, ap, ap₂, _∙_}
+use Rattle.exact.proofs.Halves.{by-halves, low-word}
 use Rattle.exponential.specs.Exponential.{times}
 
--- ---- by halves
-of-halves : (a x b y : ℕ) → a * b + (a * y + x * b + x * y / 2 ^ 31) / 2 ^ 31 ≡ (a * 2 ^ 31 + x) * (b * 2 ^ 31 + y) / 2 ^ 62
-of-halves a x b y =
-    let e : (a * 2 ^ 31 + x) * (b * 2 ^ 31 + y) ≡ a * b * 2 ^ 62 + (a * y + x * b) * 2 ^ 31 + x * y = omega arith in
-    omega arith
+-- ---- the products of the halves, for numbers up to 2^62
+module _ (a b : ℕ) (a-small : a ≤ 2 ^ 62) (b-small : b ≤ 2 ^ 62) where
+  pub low-high : a % 2 ^ 32 * (b / 2 ^ 32) ≤ 2 ^ 62
+  low-high = mul-le-mul (let e : a % 2 ^ 32 ≤ 2 ^ 32 = omega arith in e) (let e : b / 2 ^ 32 ≤ 2 ^ 30 = omega arith in e)
 
-pub by-halves : (a b : ℕ) → let u = a / 2 ^ 31 in let v = a % 2 ^ 31 in let s = b / 2 ^ 31 in let t = b % 2 ^ 31 in
-    u * s + (u * t + v * s + v * t / 2 ^ 31) / 2 ^ 31 ≡ times a b
-by-halves a b =
-    let d : a / 2 ^ 31 * 2 ^ 31 + a % 2 ^ 31 ≡ a = omega arith in
-    let e : b / 2 ^ 31 * 2 ^ 31 + b % 2 ^ 31 ≡ b = omega arith in
-    of-halves (a / 2 ^ 31) (a % 2 ^ 31) (b / 2 ^ 31) (b % 2 ^ 31) ∙ ap₂ (λ (x y : ℕ). x * y / 2 ^ 62) d e
+  pub high-low : a / 2 ^ 32 * (b % 2 ^ 32) ≤ 2 ^ 62
+  high-low = mul-le-mul (let e : a / 2 ^ 32 ≤ 2 ^ 30 = omega arith in e) (let e : b % 2 ^ 32 ≤ 2 ^ 32 = omega arith in e)
 
--- the halves are at most 2^31, so that no product of two passes 2^62
-pub half-products : (a b : ℕ) → a ≤ 2 ^ 31 → b ≤ 2 ^ 31 → a * b ≤ 2 ^ 62
-half-products a b h k = mul-le-mul h k
+  pub high-high : a / 2 ^ 32 * (b / 2 ^ 32) ≤ 2 ^ 60
+  high-high = mul-le-mul (let e : a / 2 ^ 32 ≤ 2 ^ 30 = omega arith in e) (let e : b / 2 ^ 32 ≤ 2 ^ 30 = omega arith in e)
+
+-- the high word, from the products of the halves: low, cross, across and high
+abbrev pub highWord : ℕ → ℕ → ℕ → ℕ → ℕ
+highWord l c d x = x + (d + l / 2 ^ 32) / 2 ^ 32 + (c + (d + l / 2 ^ 32) % 2 ^ 32) / 2 ^ 32
+
+pub high-small : (l c d x : ℕ) → l < 2 ^ 64 → c ≤ 2 ^ 62 → d ≤ 2 ^ 62 → x ≤ 2 ^ 60 → highWord l c d x ≤ 2 ^ 60 + 2 ^ 32
+high-small l c d x i j k m =
+    let p : (d + l / 2 ^ 32) / 2 ^ 32 ≤ 2 ^ 31 = omega arith in
+    let q : (c + (d + l / 2 ^ 32) % 2 ^ 32) / 2 ^ 32 ≤ 2 ^ 31 = omega arith in
+    three x _ _ m p q
+  where
+    three : (x y z : ℕ) → x ≤ 2 ^ 60 → y ≤ 2 ^ 31 → z ≤ 2 ^ 31 → x + y + z ≤ 2 ^ 60 + 2 ^ 32
+    three x y z h i j = omega arith
+
+-- the two words are the product
+pub words : (a b w : ℕ) → let h = 2 ^ 32 in let l = a % h * (b % h) in let c = a % h * (b / h) in let d = a / h * (b % h) in
+    w ≡ (l + (c + d) * 2 ^ 32 % 2 ^ 64) % 2 ^ 64 → w + 2 ^ 64 * highWord l c d (a / h * (b / h)) ≡ a * b
+words a b w e =
+    let h = 2 ^ 32 in
+    let l = a % h * (b % h) in
+    let m = a / h * (b % h) + l / h in
+    ap (λ (x : ℕ). x + 2 ^ 64 * highWord l (a % h * (b / h)) (a / h * (b % h)) (a / h * (b / h))) (e ∙ low-word l (a % h * (b / h)) (a / h * (b % h)))
+    ∙ by-halves h (a % h) (a / h) (b % h) (b / h) _ _ _ _ _ _ (div-add-mod' l h) (div-add-mod' m h) (div-add-mod' (a % h * (b / h) + m % h) h)
+    ∙ ap₂ (λ (x y : ℕ). x * y) (div-add-mod' a h) (div-add-mod' b h)
+
+-- of which the high one and the two highest bits of the low one are left
+pub of-words : (w x p : ℕ) → w + 2 ^ 64 * x ≡ p → x * 4 + w / 2 ^ 62 ≡ p / 2 ^ 62
+of-words w x p e = omega arith
 
 -- ---- a product is at most each of its factors, where the other is at most 1
 pub times-le : (a b m : ℕ) → a ≤ m → b ≤ 2 ^ 62 → times a b ≤ m

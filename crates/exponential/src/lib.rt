@@ -596,17 +596,24 @@ fn fraction_entry(lent: &[u64; 512], i: usize) -> u64
     entry
 }
 
-// a·b·2^-62, the rest cut off, by halves of 31 digits: no product of two halves passes a word.
+// a·b·2^-62, the rest cut off: of the product's two words, by halves of 32 bits as in `exact`, the high one and the two highest bits of the low one.
 fn product(a: u64, b: u64) -> u64
     requires { ⌜ (a ≤ 2 ^ 62) × (b ≤ 2 ^ 62) ⌝ }
     ensures { λ r. ⌜ r ≡ times a b ⌝ }
 {
-    let a_high = a / 0x8000_0000;
-    let a_low = a % 0x8000_0000;
-    let b_high = b / 0x8000_0000;
-    let b_low = b % 0x8000_0000;
-    let middle = a_high * b_low + a_low * b_high + a_low * b_low / 0x8000_0000;
-    a_high * b_high + middle / 0x8000_0000
+    let a_low = a % 0x1_0000_0000;
+    let a_high = a / 0x1_0000_0000;
+    let b_low = b % 0x1_0000_0000;
+    let b_high = b / 0x1_0000_0000;
+    let low = a_low * b_low;
+    let cross = a_low * b_high;
+    let across = a_high * b_low;
+    let high = a_high * b_high;
+    let first = across + low / 0x1_0000_0000;
+    let second = cross + first % 0x1_0000_0000;
+    let low_word = std::num::wrapping_add_u64(low, (cross + across) << 32);
+    let high_word = high + first / 0x1_0000_0000 + second / 0x1_0000_0000;
+    high_word * 4 + low_word / 0x4000_0000_0000_0000
 }
 
 // e^−f for an f below 1/512: the terms of its series up to the fifth power.

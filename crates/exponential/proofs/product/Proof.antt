@@ -1,60 +1,90 @@
--- `exponential::product` meets its contract: no product of two halves passes 2^62, and their sum is the product (proofs/Times.antt). Assumes nothing.
-use Prim.Native.Nat.{_*_, _/_, _%_, _^_, _≤_}
+-- `exponential::product` meets its contract: no product of two halves passes a word, and of the two words the highest bits are left. Assumes nothing.
+use Prim.Native.Nat.{ℕ, _+_, _*_, _/_, _%_, _^_, _≤_, _<_}
 use native.Mathlib.Omega.{arith}
-use Rattle.exponential.proofs.Times.{by-halves, half-products}
+use borrow.Author.Needs.{needs}
+use Rattle.exact.proofs.Halves.{low-low}
+use Rattle.exponential.proofs.Times.{low-high, high-low, high-high, highWord, high-small, words, of-words}
 use Rattle.exponential.proofs.product.Statement.{statement}
 use Rattle.exponential.proofs.product.Tie as tie
 
 -- the products of the halves
-high-low : (c : tie.Start) → c .args .a / 2 ^ 31 * (c .args .b % 2 ^ 31) ≤ 2 ^ 62
-high-low c = half-products (c .args .a / 2 ^ 31) (c .args .b % 2 ^ 31) (omega arith) (omega arith)
+cross : (c : tie.Start) → c .args .a % 2 ^ 32 * (c .args .b / 2 ^ 32) ≤ 2 ^ 62
+cross c = low-high (c .args .a) (c .args .b) (c .pre .0) (c .pre .1)
 
-low-high : (c : tie.Start) → c .args .a % 2 ^ 31 * (c .args .b / 2 ^ 31) ≤ 2 ^ 62
-low-high c = half-products (c .args .a % 2 ^ 31) (c .args .b / 2 ^ 31) (omega arith) (omega arith)
+across : (c : tie.Start) → c .args .a / 2 ^ 32 * (c .args .b % 2 ^ 32) ≤ 2 ^ 62
+across c = high-low (c .args .a) (c .args .b) (c .pre .0) (c .pre .1)
 
-low-low : (c : tie.Start) → c .args .a % 2 ^ 31 * (c .args .b % 2 ^ 31) ≤ 2 ^ 62
-low-low c = half-products (c .args .a % 2 ^ 31) (c .args .b % 2 ^ 31) (omega arith) (omega arith)
+high : (c : tie.Start) → c .args .a / 2 ^ 32 * (c .args .b / 2 ^ 32) ≤ 2 ^ 60
+high c = high-high (c .args .a) (c .args .b) (c .pre .0) (c .pre .1)
 
-high-high : (c : tie.Start) → c .args .a / 2 ^ 31 * (c .args .b / 2 ^ 31) ≤ 2 ^ 62
-high-high c = half-products (c .args .a / 2 ^ 31) (c .args .b / 2 ^ 31) (omega arith) (omega arith)
+mul-low : tie.Need-mul-low
+mul-low c = record { fits = low-low (c .args .a) (c .args .b) }
 
--- The needs, grouped below the lines of src/ that they are for.
+mul-cross : tie.Need-mul-cross
+mul-cross c = omega (arith, cross c)
 
--- let middle = a_high * b_low + a_low * b_high + a_low * b_low / 0x8000_0000;
-mul-middle : tie.Need-mul-middle
-mul-middle c = omega (arith, high-low c)
+mul-across : tie.Need-mul-across
+mul-across c = omega (arith, across c)
 
-mul-middle-2 : tie.Need-mul-middle-2
-mul-middle-2 c = omega (arith, low-high c)
+mul-high : tie.Need-mul-high
+mul-high c = omega (arith, high c)
 
-add-middle : tie.Need-add-middle
-add-middle c = omega (arith, high-low c, low-high c)
+-- the sums in the middle
+first-fits : (l d : ℕ) → l < 2 ^ 64 → d ≤ 2 ^ 62 → d + l / 2 ^ 32 < 2 ^ 63
+first-fits l d h k = omega arith
 
-mul-middle-3 : tie.Need-mul-middle-3
-mul-middle-3 c = omega (arith, low-low c)
+add-first : tie.Need-add-first
+add-first c = omega (arith, first-fits _ _ (low-low (c .args .a) (c .args .b)) (across c))
 
-add-middle-2 : tie.Need-add-middle-2
-add-middle-2 c = omega (arith, high-low c, low-high c, low-low c)
+add-second : tie.Need-add-second
+add-second c = omega (arith, cross c)
 
--- a_high * b_high + middle / 0x8000_0000
+add-wrapping-add-u64 : tie.Need-add-wrapping-add-u64
+add-wrapping-add-u64 c = omega (arith, cross c, across c)
+
+wrapping-add-u64-requires : tie.Need-wrapping-add-u64-requires
+wrapping-add-u64-requires c κs = search needs
+
+-- the high word
+bounded : (c : tie.Start) → let a = c .args .a in let b = c .args .b in let h = 2 ^ 32 in
+    highWord (a % h * (b % h)) (a % h * (b / h)) (a / h * (b % h)) (a / h * (b / h)) ≤ 2 ^ 60 + 2 ^ 32
+bounded c = high-small _ _ _ _ (low-low (c .args .a) (c .args .b)) (cross c) (across c) (high c)
+
+first-of-two : (x y z m : ℕ) → x + y + z ≤ m → x + y ≤ m
+first-of-two x y z m h = omega arith
+
+add-high-word : tie.Need-add-high-word
+add-high-word c = let k = first-of-two _ _ _ _ (bounded (c .before)) in omega (arith, k)
+
+add-high-word-2 : tie.Need-add-high-word-2
+add-high-word-2 c = let k = bounded (c .before) in omega (arith, k)
+
 mul-result : tie.Need-mul-result
-mul-result c = omega (arith, high-high c)
+mul-result c = let k = bounded (c .before) in omega (arith, k)
 
 add-result : tie.Need-add-result
-add-result c = omega (arith, high-low c, low-high c, low-low c, high-high c)
+add-result c = let k = bounded (c .before) in omega (arith, k)
 
 returns : tie.Need-returns
-returns c = by-halves (c .args .a) (c .args .b)
+returns c =
+    let s = c .before in
+    of-words (c .wrapping-add-u64 .result) _ (s .args .a * s .args .b)
+    (words (s .args .a) (s .args .b) (c .wrapping-add-u64 .result) (c .wrapping-add-u64 .ensures))
 
 pub product-spec : {M : Type 1} → statement M
 product-spec =
     tie.close
     (tie.spec
-    mul-middle
-    mul-middle-2
-    add-middle
-    mul-middle-3
-    add-middle-2
+    mul-low
+    mul-cross
+    mul-across
+    mul-high
+    add-first
+    add-second
+    add-wrapping-add-u64
+    wrapping-add-u64-requires
+    add-high-word
+    add-high-word-2
     mul-result
     add-result
     returns)
