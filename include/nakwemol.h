@@ -37,7 +37,7 @@ enum nakwemol_number {
     NAKWEMOL_TOO_MANY = 9,             /* n > 48, p > 12 or m > 100, as far as the call has them */
     NAKWEMOL_TOLERANCE = 10,           /* t negative or not finite */
     NAKWEMOL_NOT_FINITE = 11,          /* another number that is not finite */
-    NAKWEMOL_MODEL = 12,               /* Exponential or Gaussian, which are not offered */
+    NAKWEMOL_MODEL = 12,               /* Exponential with a range that is not above zero */
     NAKWEMOL_DIMENSION = 13,           /* d not 1, 2 or 3, or d = 1 with Universal */
     NAKWEMOL_TOO_FEW_SAMPLES = 14,     /* fewer than 2 samples */
     NAKWEMOL_BINS = 15,                /* bins not 1 to 64 */
@@ -198,6 +198,13 @@ uint8_t nakwemol_write(
     const double *node_external, size_t node_external_count,
     uint8_t model, double nugget, double sill, double range, double regularization, double tolerance,
     uint8_t *file, size_t file_count, size_t *length);
+
+/* e^-u as the Exponential and the Gaussian model take it (section 3): within 2^-50 of the exact value for a finite u at or above zero, 0 where u is infinite,
+ * a NaN where it is a NaN or below zero. */
+double nakwemol_exp_neg(double u);
+
+/* The same of each number of a list, as far as the area goes: quicker for many, since a table is laid out once for all of them. */
+void nakwemol_exp_neg_each(const double *us, size_t us_count, double *out, size_t out_count);
 
 #ifdef __cplusplus
 }

@@ -3,6 +3,7 @@ import math
 from html import escape
 
 from mapper.labels import text_width
+from mapper.models import FORMULAS, REACH
 from mapper.scales import counted, decimals, fixed, plain, round_step, ticks
 
 BROAD, HIGH, FONT = 380.0, 250.0, 12.0
@@ -87,7 +88,7 @@ def chart(m):
     return ('<svg xmlns="http://www.w3.org/2000/svg" class="chart" viewBox="0 0 %d %d" role="img" aria-labelledby="t-chart d-chart">'
             '<title id="t-chart">Semivariogram</title><desc id="d-chart">%s</desc>' % (BROAD, HIGH, escape(model_words(m.variogram)))
             + axes(across, up, x_of, y_of) + text(2, TOP - 13, 'pairs', ' class="small"') + pair_counts(bins, x_of)
-            + '<path d="%s" class="curve"/>' % line + dots + '</svg>')
+            + '<path d="%s" class="curve"><title>%s</title></path>' % (line, escape(FORMULAS[m.variogram.model])) + dots + '</svg>')
 
 
 def bin_words(m):
@@ -97,7 +98,9 @@ def bin_words(m):
 
 
 def model_words(variogram):
-    """The model and its numbers in a sentence."""
-    return '%s model, %s: nugget %s, sill %s, range %s m.' % (
+    """The model and its numbers in a sentence; of a model that only comes near its top, where 95 in a hundred of the rise are done."""
+    reach = REACH[variogram.model]
+    near = ' (95 %% of the rise at %s m)' % plain(reach * variogram.range, 3) if reach > 1 else ''
+    return '%s model, %s: nugget %s, sill %s, range %s m%s.' % (
         variogram.model.capitalize(), 'fitted to the bins' if variogram.fitted else 'as given',
-        plain(variogram.nugget, 5), plain(variogram.sill, 5), plain(variogram.range, 5))
+        plain(variogram.nugget, 5), plain(variogram.sill, 5), plain(variogram.range, 5), near)

@@ -8,6 +8,8 @@ import math
 from dataclasses import dataclass
 from typing import Optional
 
+from mapper.models import REACH, rise
+
 COARSE = 80
 GOLDEN = (math.sqrt(5) - 1) / 2
 STEPS = 60
@@ -27,11 +29,8 @@ class Given:
 
 def shares(model, span, h):
     """What nugget and sill count at the distance h, in a model of that range."""
-    q = min(h / span, 1.0)
-    if model == 'linear':
-        return 1.0, q
-    rise = 1.5 * q - 0.5 * q ** 3
-    return 1.0 - rise, rise
+    risen = rise(model, h, span)
+    return (1.0 if model == 'linear' else 1.0 - risen), risen
 
 
 class Best:
@@ -48,7 +47,7 @@ class Best:
         return sum(w * term(u, v, y) for w, u, v, y in self.rows)
 
     def sill_beside(self, nugget):
-        """The best sill for a nugget: at least that nugget in the spherical model, and never below zero."""
+        """The best sill for a nugget: at least that nugget but in the linear model, and never below zero."""
         vv = self.sum(lambda u, v, y: v * v)
         sill = self.sum(lambda u, v, y: v * (y - nugget * u)) / vv if vv > 0 else 0.0
         return max(sill, 0.0 if self.model == 'linear' else nugget)
@@ -86,12 +85,13 @@ class Best:
 
 
 def fit(bins, model, given, longest):
-    """Nugget, sill and range, fitted to bins: those given stay. The range is sought from the first bin to the longest distance."""
+    """Nugget, sill and range, fitted to bins: those given stay. The range is sought such that the model reaches its top, or 95 in a hundred of its rise,
+    between the first bin and the longest distance."""
     def at(span):
         best = Best(bins, model, given, span)
         pair = best.numbers()
         return best.cost(*pair), pair
-    span = given.range if given.range is not None else search(lambda span: at(span)[0], bins[0].distance, longest)
+    span = given.range if given.range is not None else search(lambda span: at(span)[0], bins[0].distance / REACH[model], longest / REACH[model])
     return (*at(span)[1], span)
 
 

@@ -53,8 +53,6 @@ class Made:
             raise self.refused(7)
         if len(self.wells) > WELLS or rows > DRIFT:
             raise self.refused(9)
-        if options.model in ('exponential', 'gaussian'):
-            raise self.refused(12)
         for names in shared_spots(self.wells):
             self.say(f'{" and ".join(names)} share a spot; the regularization alone tells them apart.')
 

@@ -10,6 +10,7 @@ from mapper.stop import Refused
 from mapper.words import refusal
 
 SIMPLER = 'a simpler --trend may help, or one well in place of several close together'
+NUGGET = ', or a larger --nugget, without which a gaussian model hardly tells near wells apart'
 
 
 @dataclass
@@ -34,7 +35,7 @@ def drawn_map(made):
     drawn = max(range(len(attempts)), key=lambda i: (not attempts[i].run.refused, attempts[i].run.passed))
     for sentence in made.turned_away:
         made.tell(sentence)
-    for sentence in told([each.run for each in attempts], drawn, made.options.origin):
+    for sentence in told([each.run for each in attempts], drawn, made.options.origin, made.options.model):
         made.say(sentence)
     return made.map(attempts[drawn].nodes, [each.run for each in attempts], drawn), attempts[drawn].listings
 
@@ -69,7 +70,7 @@ def turned_away(made, origin, number):
     return f'{where} the map is turned away. {refusal(number, made.wells, made.options.trend, made.external)}'
 
 
-def told(runs, drawn, wanted):
+def told(runs, drawn, wanted, model):
     """What there is to say of the runs: where the origin is moved both counts in one sentence; and what to do about nodes that fail still."""
     if wanted == 'moved':
         yield as_asked(runs[0].origin)
@@ -77,7 +78,7 @@ def told(runs, drawn, wanted):
         yield both(*runs, drawn)
     failed = runs[drawn].failed
     if failed:
-        yield f'{counted(failed, "node")} did not pass, {tried(len(runs), wanted)}; {SIMPLER}.'
+        yield f'{counted(failed, "node")} did not pass, {tried(len(runs), wanted)}; {SIMPLER}{NUGGET if model == "gaussian" else ""}.'
 
 
 def tried(runs, wanted):

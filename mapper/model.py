@@ -3,6 +3,8 @@ from array import array
 from dataclasses import dataclass, field
 from typing import Dict, List, Optional, Tuple
 
+from mapper.models import rise
+
 
 @dataclass
 class Well:
@@ -42,7 +44,7 @@ class Nodes:
 @dataclass
 class Variogram:
     """The model and its numbers, and whether they were fitted to the bins or given."""
-    model: str  # 'spherical' or 'linear'
+    model: str  # 'spherical', 'exponential', 'gaussian' or 'linear'
     nugget: float
     sill: float
     range: float
@@ -52,10 +54,9 @@ class Variogram:
         """The model at the distance h, for the curve that is drawn."""
         if self.model == 'linear':
             return self.nugget + self.sill / self.range * min(h, self.range)
-        if h >= self.range:
+        if self.model == 'spherical' and h >= self.range:
             return self.sill
-        q = h / self.range
-        return self.nugget + (self.sill - self.nugget) * (1.5 * q - 0.5 * q ** 3)
+        return self.nugget + (self.sill - self.nugget) * rise(self.model, h, self.range)
 
 
 @dataclass

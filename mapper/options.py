@@ -55,7 +55,8 @@ def parser():
     add('--model', choices=list(MODELS), default='spherical', help='the variogram model (spherical)')
     add('--nugget', type=above(0, 'at or above'), help='the model at no distance; fitted where it is not given')
     add('--sill', type=above(0, 'above'), help='what the model rises to; fitted where it is not given')
-    add('--range', type=above(0, 'above'), help='the distance at which it is there; fitted where it is not given')
+    add('--range', type=above(0, 'above'), help='the distance at which it is there, or a third (exponential) or 1/√3 (gaussian) of where it nearly is; '
+        'fitted where it is not given')
     add('--regularization', type=float, default=1e-10, help='what is added on the diagonal (1e-10)')
     add('--tolerance', type=float, default=1e-9, help='what the audit allows (1e-9)')
     add('--origin', choices=('auto', 'as-entered', 'moved'), default='auto', help='where coordinates are counted from; auto moves the origin where nodes fail')

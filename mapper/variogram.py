@@ -3,6 +3,7 @@ from mapper.bins import LEAST_FITTED, NEARER, bins_of, greatest_distance
 from mapper.built import library_there
 from mapper.fit import fit
 from mapper.model import Variogram
+from mapper.models import RANGES, REACH
 from mapper.numbers import shown, significant
 from mapper.trend import residuals
 
@@ -11,7 +12,7 @@ NO_SPREAD = 1e-9  # of the levels: residuals below this are rounding
 NOTHING_LEFT = ('The levels leave nothing to fit a model to (they are the same, or the trend goes through all of them), so a plain one was taken; '
                 'the variances have no scale then.')
 FEW_BINS = ('So few wells make too few bins to fit a model to, so a plain one was taken: the bins\' average as the sill, half the greatest distance as '
-            'the range.')
+            '%s.')
 
 
 def variogram_of(wells, trend, external, model, given, tell):
@@ -31,16 +32,16 @@ def taken(wells, bins, model, given):
     """The three numbers, and a sentence where they could not be fitted."""
     longest, used = greatest_distance(wells), [each for each in bins if each.used]
     high = max(abs(well.level) for well in wells)
-    plain_range = significant(longest / 2, FIGURES) or 1.0
+    plain_range = significant(longest / 2 / REACH[model], FIGURES) or 1.0
     if not max(each.semivariance for each in bins) > (NO_SPREAD * high) ** 2:
         return plain(given, model, 1.0, plain_range), NOTHING_LEFT
     if len(used) < LEAST_FITTED:
         mean = sum(each.semivariance * each.pairs for each in bins) / sum(each.pairs for each in bins)
-        return plain(given, model, significant(mean, FIGURES), plain_range), FEW_BINS
+        return plain(given, model, significant(mean, FIGURES), plain_range), FEW_BINS % RANGES[model]
     nugget, sill, span = (significant(each, FIGURES) for each in fit(used, model, given, longest))
     said = 'The model was fitted to the semivariogram.'
-    if given.range is None and span >= significant(longest, FIGURES):
-        said += ' The bins do not level off as far as the wells reach, so the range is that reach; a trend may be missing.'
+    if given.range is None and span >= significant(longest / REACH[model], FIGURES):
+        said += f' The bins do not level off as far as the wells reach, so {RANGES[model]} is that reach; a trend may be missing.'
     return filled(given, *usable(model, nugget, sill), span), said
 
 

@@ -18,7 +18,8 @@ REFUSALS = {
     10: 'The tolerance is below zero or not a number. Give 0 or a number above it, such as --tolerance 1e-9.',
     11: 'A number is not finite: of the model, or a level, a coordinate or an external value that is empty or too large. '
         'Correct it, or leave its well or node out.',
-    12: 'The exponential and the gaussian model are not offered. Choose --model spherical or --model linear.',
+    12: 'The exponential model has a range that is not above zero. Give --range in metres, above 0, or leave it out to have it fitted; or choose another '
+        '--model.',
     13: 'The points do not have two coordinates each. Give every well x and y.',
     14: 'A semivariogram needs at least two wells. Measure one more, or give --nugget, --sill and --range yourself.',
     15: 'The semivariogram was asked for with fewer than 1 or more than 64 bins. Ask for a number between them.',
@@ -26,7 +27,7 @@ REFUSALS = {
     17: 'The program was lent too little room to work in. This should not happen with this tool; build the program anew, and report it.',
     18: 'The program was lent too little room for its answers. This should not happen with this tool; build the program anew, and report it.',
     19: 'The wells do not settle the map: the equations have no single answer.',
-    100: 'A call named a model or a kind of kriging that there is none of. Choose --model spherical or --model linear.',
+    100: 'A call named a model or a kind of kriging that there is none of. Choose --model spherical, exponential, gaussian or linear.',
 }
 
 

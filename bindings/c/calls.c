@@ -13,6 +13,12 @@ static void same(const char *what, double is, double should) {
     }
 }
 
+/* The same but for the last digits, which depend on the order of the sums. */
+static void near(const char *what, double is, double should) {
+    double off = is - should;
+    same(what, off < 1e-14 && off > -1e-14 ? should : is, should);
+}
+
 /* Two wells, (0, 0) with 2 and (2, 0) with 6, and the node (1, 0). */
 static const double values[] = {2, 6}, coords[] = {0, 0, 2, 0}, nodes[] = {1, 0}, none[1];
 static const uint8_t bases[] = {NAKWEMOL_BASIS_CONSTANT};
@@ -28,10 +34,40 @@ static void clear(void) {
     verdicts[0] = verdicts[1] = 99;
 }
 
-static uint8_t fit(uint8_t model, size_t lent) {
+static uint8_t fit_range(uint8_t model, double range, size_t lent) {
     clear();
-    return nakwemol_fit(values, 2, coords, 4, bases, 1, none, 0, nodes, 2, none, 0, model, 0, 1, 1, 0, 0,
+    return nakwemol_fit(values, 2, coords, 4, bases, 1, none, 0, nodes, 2, none, 0, model, 0, 1, range, 0, 0,
                         work, 19, predicted, lent, variance, 2, verdicts, 2, weights, 3, coefficients, 2);
+}
+
+static uint8_t fit(uint8_t model, size_t lent) {
+    return fit_range(model, 1, lent);
+}
+
+/* The weights are halves by symmetry, so the variance is 2 g(1) - g(2) / 2, with g the variogram: 1 - e^-h, or 1 - e^-(h h). */
+static void models(void) {
+    const double e1 = 0.36787944117144233, e2 = 0.1353352832366127, e4 = 0.018315638888734179;
+    same("exponential", fit(NAKWEMOL_EXPONENTIAL, 2), NAKWEMOL_OK);
+    near("its figure", predicted[0], 4);
+    near("its variance", variance[0], 2 * (1 - e1) - (1 - e2) / 2);
+    same("gaussian", fit(NAKWEMOL_GAUSSIAN, 2), NAKWEMOL_OK);
+    near("its figure", predicted[0], 4);
+    near("its variance", variance[0], 2 * (1 - e1) - (1 - e4) / 2);
+    same("exponential of range 0", fit_range(NAKWEMOL_EXPONENTIAL, 0, 2), NAKWEMOL_MODEL);
+    same("exponential of range -0", fit_range(NAKWEMOL_EXPONENTIAL, -0.0, 2), NAKWEMOL_MODEL);
+    same("exponential of a range below 0", fit_range(NAKWEMOL_EXPONENTIAL, -1, 2), NAKWEMOL_MODEL);
+    same("what it leaves", predicted[0], -1);
+    same("gaussian of range 0", fit_range(NAKWEMOL_GAUSSIAN, 0, 2), NAKWEMOL_OK);
+    near("its variance, with a variogram of 1 everywhere", variance[0], 1.5);
+    near("e^-1", nakwemol_exp_neg(1), e1);
+    same("e^-0", nakwemol_exp_neg(0), 1);
+    same("e to minus infinity", nakwemol_exp_neg(1e308 * 10), 0);
+    const double us[] = {0, 1, 2};
+    double out[] = {-1, -1, -1};
+    nakwemol_exp_neg_each(us, 3, out, 2);
+    same("e^-0 of a list", out[0], 1);
+    same("e^-1 of a list", out[1], nakwemol_exp_neg(1));
+    same("past the area", out[2], -1);
 }
 
 static void fits(void) {
@@ -48,7 +84,6 @@ static void fits(void) {
     same("past the weights", weights[2], -1);
     same("past the coefficient", coefficients[1], -1);
     same("past the work", work[18], -1);
-    same("a model that is not offered", fit(NAKWEMOL_GAUSSIAN, 2), NAKWEMOL_MODEL);
     same("an area too short", fit(NAKWEMOL_SPHERICAL, 0), NAKWEMOL_ANSWER_AREA);
     same("a code that is none", fit(5, 0), NAKWEMOL_UNKNOWN_CODE);
     same("what a refusal leaves", predicted[0], -1);
@@ -102,6 +137,7 @@ static void files(void) {
 
 int main(void) {
     fits();
+    models();
     interpolations();
     semivariograms();
     files();

@@ -1,4 +1,5 @@
 """The fit of the model, held to cases worked out by hand."""
+import math
 import unittest
 from fractions import Fraction
 
@@ -37,14 +38,26 @@ class ByHand(unittest.TestCase):
         self.close(fit(bins((1, 1.6, 1), (2, 2, 1)), 'spherical', Given(sill=2.0, range=2.0), 3), 0.72, 2, 2)
         self.close(fit(bins((1, 1, 1), (2, 2, 1)), 'spherical', Given(sill=2.0, range=2.0), 3), 0, 2, 2)
 
+    def test_exponential_and_gaussian_at_their_range(self):
+        """At the range both are 1 - 1/e of the way up; at twice the range 1 - 1/e^2 and 1 - 1/e^4. So a bin there, and nugget 0, give the sill."""
+        for model, h, height in (('exponential', 5, 1 - math.exp(-1)), ('exponential', 10, 1 - math.exp(-2)), ('gaussian', 10, 1 - math.exp(-4))):
+            self.close(fit(bins((h, 3 * height, 7)), model, Given(nugget=0.0, range=5.0), 30), 0, 3, 5)
+
+    def test_range_of_models_that_only_come_near_their_top(self):
+        """Bins that rise without end: three ranges, or √3 of them, are the longest distance. Bins that are all alike: they are the first bin."""
+        rising, alike = bins((10, 1, 3), (20, 4, 5), (30, 9, 7)), bins((10, 2, 3), (20, 2, 5), (30, 2, 7))
+        for model, times in (('exponential', 3), ('gaussian', math.sqrt(3))):
+            self.assertAlmostEqual(fit(rising, model, Given(), 60.0)[2], 60 / times)
+            self.assertGreaterEqual(fit(alike, model, Given(), 60.0)[2], 10 / times)
+
     def test_all_given(self):
         self.assertEqual(fit(bins((1, 1, 1)), 'spherical', Given(0.5, 2.0, 7.0), 3), (0.5, 2.0, 7.0))
 
     def test_bins_on_a_model_give_it_back(self):
-        for model, top in (('spherical', 1.1), ('linear', 1.0)):
-            true = Variogram(model, 0.1, top, 730.0, False)
+        for model, top, span in (('spherical', 1.1, 730.0), ('linear', 1.0, 730.0), ('exponential', 1.1, 310.0), ('gaussian', 1.1, 420.0)):
+            true = Variogram(model, 0.1, top, span, False)
             found = fit(bins(*((h, true.at(h), 10 + h) for h in range(50, 1001, 50))), model, Given(), 2000.0)
-            for a, b in zip(found, (0.1, top, 730.0)):
+            for a, b in zip(found, (0.1, top, span)):
                 self.assertAlmostEqual(a, b, delta=1e-4 * b, msg=model)
 
     def test_only_what_is_missing(self):

@@ -1,6 +1,7 @@
 """Every option, by what it leaves in the survey file, as the proved reader reads it, or in the files."""
 import os
 import subprocess
+import sys
 import unittest
 from unittest import mock
 
@@ -9,6 +10,7 @@ from mapper.built import program
 from mapper.options import parser
 from mapper.tests.support import FOUR, NUMBERS, ROOT, Folder, nakwemol, section
 from mapper.verdicts import verdict_words
+from tools.reading.wellmap import printed
 
 SIX = FOUR + 'E,40,130,12.2\nF,130,60,11.1\n'
 GROUND = 'name,x,y,level,Ground\nA,0,0,10,20\nB,100,0,11,22\nC,0,100,12.5,21\nD,90,80,12,25\n'
@@ -37,6 +39,16 @@ class Options(Folder):
     def test_model_and_its_numbers(self):
         found = self.survey('--model', 'linear', '--nugget', '0.25', '--sill', '1.5', '--range', '333')
         self.assertEqual(found.variogram, (4, 0.25, 1.5, 333))
+
+    @unittest.skipIf(sys.version_info < (3, 10), 'tools/reading asks for Python 3.10')
+    def test_every_model(self):
+        """The codes are those of section 12, and the listing is that of the other reading for the file that was kept."""
+        for code, model in enumerate(('spherical', 'exponential', 'gaussian', 'linear'), 1):
+            said = self.made(self.file(SIX), '--model', model, '--grid', '3x3', '--listing', '--survey', self.folder / 'kept.survey')
+            kept = (self.folder / 'kept.survey').read_bytes()
+            self.assertEqual(nakwemol.read_survey(kept).variogram.model, code)
+            self.assertIn(f'--model {model} ', said)
+            self.assertIn(printed(kept).decode(), said)
 
     def test_one_number_given(self):
         self.assertEqual(self.survey('--nugget', '0.125').variogram.nugget, 0.125)

@@ -86,13 +86,13 @@ class SevenFigures(Folder):
 class WhichIsDrawn(Folder):
     """A program that answers by the first well's x: 0 where the origin is moved."""
 
-    def drawn(self, entered, moved):
+    def drawn(self, entered, moved, *more):
         answers = [f'printf "nodes 2\\n1 4010000000000000 0000000000000000 {a}\\n2 4010000000000000 0000000000000000 {b}\\ncoef 0000000000000000\\n"'
                    if a is not None else f'echo refused {b}' for a, b in (entered, moved)]
         first = "first=$(od -An -v -tx8 -j56 -N8 | tr -d ' \\n')"  # 5 numbers and 2 levels before it
         self.program(f'{first}\nif [ "$first" != 0000000000000000 ]; then {answers[0]}; else {answers[1]}; fi')
         wells, nodes = self.file('x,y,level\n1000,1000,1\n1100,1100,2\n'), self.file('x,y\n1010,1010\n1020,1020\n', 'nodes.csv')
-        return self.command(wells, '--nodes', nodes, '--nugget', '0', '--sill', '1', '--range', '9')
+        return self.command(wells, '--nodes', nodes, '--nugget', '0', '--sill', '1', '--range', '9', *more)
 
     def test_the_better_one(self):
         self.assertIn('1 of 2 nodes pass; with the origin moved to (1000, 1000) 2 do; the map is drawn with the origin moved.', self.drawn((0, 1), (0, 0))[1])
@@ -101,6 +101,10 @@ class WhichIsDrawn(Folder):
     def test_as_entered_where_moving_did_not_help(self):
         self.assertIn('moved to (1000, 1000) 1 do; the map is drawn as entered.', self.drawn((0, 1), (2, 0))[1])
         self.assertEqual([row[5] for row in self.rows()], ['0', '1'])
+
+    def test_what_to_do_about_a_gaussian_model(self):
+        self.assertIn('several close together, or a larger --nugget', self.drawn((0, 1), (2, 0), '--model', 'gaussian')[1])
+        self.assertNotIn('larger --nugget', self.drawn((0, 1), (2, 0), '--model', 'exponential')[1])
 
     def test_refused_as_entered_and_mended(self):
         status, out, _ = self.drawn((None, 19), (0, 0))

@@ -127,7 +127,9 @@ class Degenerate(unittest.TestCase):
 
     def test_models_without_a_curve(self):
         for variogram in (Variogram('linear', 0.0, 1.0, 0.0, False), Variogram('spherical', 0.0, 0.0, 0.0, False),
-                          Variogram('spherical', 2.0, 1.0, -5.0, False), Variogram('linear', 0.0, 1e308, 1e-300, False)):
+                          Variogram('spherical', 2.0, 1.0, -5.0, False), Variogram('linear', 0.0, 1e308, 1e-300, False),
+                          Variogram('exponential', 0.0, 1.0, 0.0, False), Variogram('exponential', 0.0, 1.0, -5.0, False),
+                          Variogram('gaussian', 0.0, 1.0, 0.0, False), Variogram('gaussian', 0.0, 1.0, 1e200, False)):
             for bins in ([], samples.made_bins(samples.made_wells(5))):
                 m = samples.grid_map(3, 3, wells=4)
                 m.variogram, m.bins = variogram, bins

@@ -2,7 +2,7 @@
 import math
 import unittest
 
-from mapper.chart import axis, bin_words, chart, curve_points
+from mapper.chart import axis, bin_words, chart, curve_points, model_words
 from mapper.classes import classes
 from mapper.colours import LEVELS
 from mapper.model import Run, Variogram
@@ -105,6 +105,19 @@ class Chart(unittest.TestCase):
         points = curve_points(Variogram('spherical', 0.2, 1.9, 500.0, True), 1000.0)
         self.assertAlmostEqual(points[0][1], 0.2, places=2)
         self.assertEqual(points[-1], (1000.0, 1.9))
+
+    def test_the_curves_of_models_that_only_come_near_the_sill(self):
+        for model, at_range in (('exponential', math.exp(-1)), ('gaussian', math.exp(-1))):
+            points = curve_points(Variogram(model, 0.2, 1.9, 500.0, True), 1200.0)
+            self.assertEqual(points[0], (0.0, 0.2))
+            self.assertEqual(points[50], (500.0, 0.2 + (1.9 - 0.2) * (1 - at_range)))
+        self.assertEqual(points[25], (250.0, 0.2 + (1.9 - 0.2) * (1 - math.exp(-0.25))))
+
+    def test_the_model_in_words(self):
+        self.assertEqual(model_words(Variogram('exponential', 0.5, 1.5, 500.0, True)),
+                         'Exponential model, fitted to the bins: nugget 0.5, sill 1.5, range 500 m (95 % of the rise at 1500 m).')
+        self.assertIn('(95 % of the rise at 866 m)', model_words(Variogram('gaussian', 0.5, 1.5, 500.0, False)))
+        self.assertTrue(model_words(Variogram('linear', 0.5, 1.5, 500.0, False)).endswith('range 500 m.'))
 
     def test_a_dot_for_every_bin(self):
         m = samples.grid_map(3, 3)

@@ -50,10 +50,6 @@ class BeforeIt(Folder):
         self.assertIn('This list has 49 wells.', said)
         self.made(self.file(many(48)), '--grid', '3x3')
 
-    def test_12(self):
-        for model in ('exponential', 'gaussian'):
-            self.assertIn('Choose --model spherical or --model linear.', self.refused(self.file(FOUR), '--model', model))
-
     def test_14(self):
         one, nodes = self.file(many(1)), self.file('x,y\n1,1\n', 'nodes.csv')
         self.assertIn('Refused (14)', self.refused(one, '--nodes', nodes))

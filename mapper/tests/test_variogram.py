@@ -126,6 +126,17 @@ class Taken(unittest.TestCase):
         self.assertEqual(found.range, 190)
         self.assertIn('do not level off', said)
 
+    def test_models_that_only_come_near_their_top(self):
+        """As above, 190 m being the longest distance: it is three ranges of an exponential model, and √3 of a gaussian one."""
+        for model, span, words in (('exponential', 63.33, 'three times the range is that reach'), ('gaussian', 109.7, '√3 times the range is that reach')):
+            found, _, said = self.taken(wells(*((10 * i, 0, i) for i in range(20))), model=model)
+            self.assertEqual(found.range, span)
+            self.assertIn(words, said)
+            self.assertIn(f'--model {model} ', said)
+        found, _, said = self.taken(wells((0, 0, 2), (3, 0, 6)), model='exponential')
+        self.assertEqual((found.nugget, found.sill, found.range), (0, 8, 0.5))
+        self.assertIn('half the greatest distance as three times the range', said)
+
     def test_all_given(self):
         found, bins, said = self.taken(wells((0, 0, 2), (2, 0, 6)), nugget=0.0, sill=1.0, range=5.0)
         self.assertEqual((found.fitted, len(bins), said), (False, 1, ''))

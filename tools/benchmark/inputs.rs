@@ -77,6 +77,8 @@ pub struct Survey {
     pub bases: Vec<u8>,
     pub external: Vec<f64>,
     pub nodes: Vec<f64>,
+    /// 1 Spherical, 2 Exponential, 3 Gaussian.
+    pub model: u8,
     pub nugget: f64,
     pub sill: f64,
     pub range: f64,
@@ -96,6 +98,7 @@ impl Survey {
             bases: vec![match p { 1 => 1, 3 => 2, _ => 3 }],
             external: Vec::new(),
             nodes: draw.list(2 * m, 0.0, 3.0),
+            model: 1,
             nugget: 0.1,
             sill: 2.0,
             range: 1.0,
@@ -108,6 +111,11 @@ impl Survey {
     fn of_zeros(self, p: usize) -> Survey {
         let external = vec![0.0; p * self.n()];
         Survey { bases: vec![4; p], external, nugget: 0.0, sill: 0.0, regularization: 0.0, ..self }
+    }
+
+    /// The same with another model.
+    pub fn with_model(self, model: u8) -> Survey {
+        Survey { model, ..self }
     }
 
     pub fn n(&self) -> usize {
@@ -129,6 +137,11 @@ fn placed(kind: Kind, x: f64) -> f64 {
         Kind::OnePlace => 1.0,
         _ => x,
     }
+}
+
+/// Numbers u for e^−u, as distances and ranges make them.
+pub fn powers(count: usize) -> Vec<f64> {
+    Draw(count as u64).list(count, 0.0, 6.0)
 }
 
 /// Points, values and targets of the older calls, over two axes.

@@ -34,6 +34,8 @@ const NODES: [usize; 3] = [1, 25, 100];
 const GROWTH_N: [usize; 7] = [12, 18, 24, 30, 36, 42, 48];
 const GROWTH_M: [usize; 6] = [1, 10, 25, 50, 75, 100];
 const PARTS: [(usize, usize, usize); 5] = [(12, 1, 25), (24, 1, 100), (24, 6, 100), (48, 1, 100), (48, 6, 100)];
+const MODELS: [(usize, usize, usize); 6] = [(12, 1, 25), (12, 1, 100), (24, 1, 100), (48, 1, 1), (48, 1, 100), (48, 6, 100)];
+const POWERS: usize = 100;
 const BINS: usize = 10;
 
 fn stop(what: &str) -> ! {
@@ -64,6 +66,19 @@ fn check_fit(survey: &Survey) {
     }
 }
 
+/// Both sides answer nearly the same, and every node passes: with the C library's `exp` the original's last digits are others.
+fn check_model(survey: &Survey) {
+    let what = format!("fit of n = {}, p = {}, m = {}, model {}", survey.n(), survey.p(), survey.m(), survey.model);
+    let original = original::Fit::of(survey).answer().unwrap_or_else(|| stop(&format!("{what}: the original refuses")));
+    let mut port = port::Fit::of(survey.clone());
+    if port.call() != 0 || port.verdicts.iter().any(|verdict| *verdict != 0) {
+        stop(&format!("{what}: the port refuses, or a node misses its audit"));
+    }
+    if port.predicted.iter().zip(original.predicted.iter()).any(|(ours, theirs)| (ours - theirs).abs() > 1e-9) {
+        stop(&format!("{what}: a figure is another than the original's"));
+    }
+}
+
 /// A fit of both sides, which is not looked at: fits that leave something out are not answered alike.
 fn timed_fit(what: String, survey: Survey) -> Case<'static> {
     let original = original::Fit::of(&survey);
@@ -80,6 +95,25 @@ fn fit(kind: &str, n: usize, p: usize, m: usize) -> Case<'static> {
 fn fits() -> Vec<Case<'static>> {
     let sizes = SIZES.iter().flat_map(|n| COLUMNS.iter().flat_map(move |p| NODES.iter().map(move |m| (*n, *p, *m))));
     sizes.map(|(n, p, m)| fit("fit", n, p, m)).collect()
+}
+
+/// The same fits with each model by e^−u, and with the Spherical one.
+fn models() -> Vec<Case<'static>> {
+    let sizes = MODELS.iter().flat_map(|size| [1, 2, 3].map(|model| (*size, model)));
+    let fit = |((n, p, m), model)| {
+        let survey = Survey::new(n, p, m, Kind::Whole).with_model(model);
+        check_model(&survey);
+        timed_fit(format!("model {model} {n} {p} {m}"), survey)
+    };
+    sizes.map(fit).collect()
+}
+
+/// Some e^−u, one after another.
+fn powers() -> Case<'static> {
+    let (us, same) = (inputs::powers(POWERS), inputs::powers(POWERS));
+    let (mut theirs, mut ours) = (vec![0.0; POWERS], vec![0.0; POWERS]);
+    let original = move || original::powers(black_box(&us), &mut theirs);
+    Case::new(format!("powers {POWERS}"), original, move || port::powers(black_box(&same), &mut ours))
 }
 
 fn growth() -> Vec<Case<'static>> {
@@ -182,5 +216,7 @@ fn main() {
     cases.extend(interpolations());
     cases.extend(SIZES.map(semivariogram));
     cases.extend(parts());
+    cases.extend(models());
+    cases.push(powers());
     in_turns(cases);
 }

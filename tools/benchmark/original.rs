@@ -8,8 +8,15 @@ fn rows(numbers: &[f64], columns: usize) -> Array2<f64> {
     Array2::from_shape_vec((numbers.len() / columns, columns), numbers.to_vec()).expect("whole rows")
 }
 
-fn spherical(nugget: f64, sill: f64, range: f64) -> Variogram {
-    Variogram::new(VariogramModel::Spherical, nugget, sill, range)
+const SPHERICAL: u8 = 1;
+
+fn variogram(model: u8, nugget: f64, sill: f64, range: f64) -> Variogram {
+    let model = match model {
+        SPHERICAL => VariogramModel::Spherical,
+        2 => VariogramModel::Exponential,
+        _ => VariogramModel::Gaussian,
+    };
+    Variogram::new(model, nugget, sill, range)
 }
 
 fn drift_bases(survey: &Survey) -> Vec<DriftBasis> {
@@ -33,7 +40,7 @@ pub struct Fit {
 
 impl Fit {
     pub fn of(survey: &Survey) -> Fit {
-        let variogram = spherical(survey.nugget, survey.sill, survey.range);
+        let variogram = variogram(survey.model, survey.nugget, survey.sill, survey.range);
         Fit {
             coords: rows(&survey.coords, 2),
             values: Array1::from_vec(survey.values.clone()),
@@ -54,6 +61,15 @@ impl Fit {
     }
 }
 
+/// e^−u of every number, as the original has it: the C library's.
+#[inline(never)]
+pub fn powers(us: &[f64], out: &mut [f64]) {
+    for (u, place) in us.iter().zip(out.iter_mut()) {
+        *place = (-u).exp();
+    }
+    black_box(out);
+}
+
 pub struct Interpolation {
     interpolator: KrigingInterpolator,
     points: Array2<f64>,
@@ -65,7 +81,7 @@ impl Interpolation {
     pub fn of(samples: &Samples, kriging_type: u8) -> Interpolation {
         let kriging_type = if kriging_type == 1 { KrigingType::Ordinary } else { KrigingType::Universal };
         Interpolation {
-            interpolator: KrigingInterpolator::new(kriging_type, spherical(samples.nugget, samples.sill, samples.range)),
+            interpolator: KrigingInterpolator::new(kriging_type, variogram(SPHERICAL, samples.nugget, samples.sill, samples.range)),
             points: rows(&samples.points, 2),
             values: Array1::from_vec(samples.values.clone()),
             targets: rows(&samples.targets, 2),

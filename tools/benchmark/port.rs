@@ -41,7 +41,7 @@ impl Fit {
             &s.external,
             &s.nodes,
             &[],
-            SPHERICAL,
+            s.model,
             s.nugget,
             s.sill,
             s.range,
@@ -70,6 +70,18 @@ impl Fit {
         let all = self.survey.p() + 1;
         self.verdicts.iter().map(|verdict| if *verdict == 0 { all } else { *verdict as usize }).sum()
     }
+}
+
+extern "C" {
+    fn nakwemol_exp_neg_each(us: *const f64, us_count: usize, out: *mut f64, out_count: usize);
+}
+
+/// e^−u of every number, as a fit has them: the table is laid out once.
+#[inline(never)]
+pub fn powers(us: &[f64], out: &mut [f64]) {
+    // SAFETY: both lists are valid for their counts, and no number is in both.
+    unsafe { nakwemol_exp_neg_each(us.as_ptr(), us.len(), out.as_mut_ptr(), out.len()) };
+    black_box(out);
 }
 
 pub struct Interpolation {

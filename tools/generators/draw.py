@@ -10,6 +10,9 @@ def flat(points):
 
 
 class Draw(random.Random):
+    # what a variogram's model is drawn from: those that the first stored calls have
+    models = [1, 1, 4]
+
     def edge(self):
         """A number that is huge, tiny, subnormal or a signed zero."""
         size = self.choice([0.0, 5e-324, 2.0**-1030, 2.0**-1022, 1e-200, 2.0**-52, 1e150, 1e300, 1.7e308])
@@ -54,7 +57,12 @@ class Draw(random.Random):
         span = SPANS[style] * self.uniform(0.1, 2)
         if self.randrange(10) == 0:
             span = self.choice([0.0, -0.0, -span, self.edge()])
-        return self.choice([1, 1, 4]), nugget, sill, span
+        return self.choice(self.models), nugget, sill, span
+
+    def with_models(self, models):
+        """The same draw with other models."""
+        self.models = models
+        return self
 
     def count(self, most, few):
         """Mostly at most `few`, sometimes up to `most`."""

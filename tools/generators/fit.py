@@ -1,4 +1,4 @@
-"""crates/vectors_fit: fits, as fit_cases.py and fit_refusals.py draw them, with all that they leave.
+"""crates/vectors_fit: fits, as fit_cases.py, fit_models.py and fit_refusals.py draw them, with all that they leave.
 
 Figures, variances and coefficients are the original's. Weights, verdicts, work areas and the numbers of refusals are tools/reading's, which has to
 agree with the original wherever that answers: else nothing is written.
@@ -15,6 +15,7 @@ from tools.generators.calls import Fit
 from tools.generators.fit_case import LONGEST
 from tools.generators.fit_cases import accepted_cases
 from tools.generators.fit_covered import covered
+from tools.generators.fit_models import model_cases
 from tools.generators.fit_refusals import refused_cases
 from tools.generators.records import answer_words, answered, numbers, packed
 from tools.generators.replay import hold_refusal, made_files, marked, plus_zero, untouched, written_lines
@@ -24,7 +25,7 @@ from tools.reading.fractions_audit import verdict_by_fractions
 from tools.reading.lent import fit_lengths
 
 MARK_BYTE = 99
-MOST_BYTES = 2_000_000
+MOST_BYTES = 2_250_000
 MOST_NUMBERS, MOST_CODES = 3072, 64
 PARTS = {
     "figures": "figures",
@@ -117,7 +118,7 @@ def counted(all_ended):
 
 
 def files():
-    cases = [*accepted_cases(), *refused_cases()]
+    cases = [*accepted_cases(), *refused_cases(), *model_cases()]
     assert all(map(fits_program, cases))
     calls = [Fit(*case.survey[:6], tuple(case.survey.variogram), case.survey.r).words() for case in cases]
     answers = [answer for _, answer in answered(calls)]

@@ -1,4 +1,5 @@
-"""crates/vectors_interpolator: interpolations, as interpolator_cases.py and interpolator_refusals.py have them, with all that they leave.
+"""crates/vectors_interpolator: interpolations, as interpolator_cases.py, interpolator_models.py and interpolator_refusals.py have them, with all that they
+leave.
 
 Figures and variances are the original's. Work areas and the numbers of refusals are tools/reading's, which has to agree with the original wherever
 that answers: else nothing is written.
@@ -14,6 +15,7 @@ from tools.generators.calls import Interpolate
 from tools.generators.interpolator_case import LONGEST, MOST_NUMBERS
 from tools.generators.interpolator_cases import accepted_cases
 from tools.generators.interpolator_covered import covered
+from tools.generators.interpolator_models import model_cases
 from tools.generators.interpolator_refusals import refused_cases
 from tools.generators.records import answer_words, answered, numbers, packed
 from tools.generators.replay import hold_refusal, made_files, marked, plus_zero, untouched, written_lines
@@ -92,7 +94,7 @@ def counted(all_ended):
 
 
 def files():
-    cases = [*accepted_cases(), *refused_cases()]
+    cases = [*accepted_cases(), *refused_cases(), *model_cases()]
     assert all(map(fits_program, cases))
     calls = [Interpolate(*case.query[:5], tuple(case.query.variogram)).words() for case in cases]
     answers = [answer for _, answer in answered(calls)]

@@ -7,8 +7,9 @@ from tools.reading.elimination import beside_identity, eliminate, inverse
 from tools.reading.fit import solved
 from tools.reading.floats import running_sum
 from tools.reading.interpolator import assembled, right_hand_side
-from tools.reading.variogram import LINEAR, SPHERICAL, distance
+from tools.reading.variogram import EXPONENTIAL, GAUSSIAN, LINEAR, SPHERICAL, distance
 
+MODELS = (SPHERICAL, EXPONENTIAL, GAUSSIAN, LINEAR)
 NUMBERS = {0, 1, 2, 9, 11, 12, 13, 17, 18, 19}
 
 
@@ -59,7 +60,7 @@ def covered(all_ended):
     stopped = [ended for ended in all_ended if ended.number == 19]
     queries = [ended.case.query for ended in answered]
     assert {ended.number for ended in all_ended} == NUMBERS
-    assert {(q.kind, q.d, q.variogram.model) for q in queries} == {(kind, d, model) for kind, d in SHAPES for model in (SPHERICAL, LINEAR)}
+    assert {(q.kind, q.d, q.variogram.model) for q in queries} == {(kind, d, model) for kind, d in SHAPES for model in MODELS}
     assert {q.n for q in queries} == {*range(1, 49)} and {0, 1, 100} <= {q.m for q in queries} and (48, 100) in {(q.n, q.m) for q in queries}
     assert {(ended.case.query.kind, ended.case.query.d) for ended in stopped if ended.case.query.n == 0 and ended.case.whole} == set(SHAPES)
     assert {stop(ended) for ended in stopped if ended.case.whole} == {"first", "middle", "last"}
@@ -77,4 +78,7 @@ def covered(all_ended):
     variograms = [q.variogram for q in queries]
     assert {bits(v.sill) for v in variograms} >= {bits(0.0), bits(-0.0)} and any(v.nugget > v.sill for v in variograms)
     ranges = {(v.model, math.copysign(1.0, v.range), v.range == 0.0) for v in variograms}
-    assert ranges == {(model, sign, zero) for model in (SPHERICAL, LINEAR) for sign in (1.0, -1.0) for zero in (True, False)}
+    # an Exponential model has none but those above zero: 12
+    free = {(model, sign, zero) for model in (SPHERICAL, GAUSSIAN, LINEAR) for sign in (1.0, -1.0) for zero in (True, False)}
+    assert ranges == free | {(EXPONENTIAL, 1.0, False)}
+    assert {v.range for v in variograms} >= {5e-324}

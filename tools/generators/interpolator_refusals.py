@@ -1,4 +1,6 @@
 """Interpolations that are refused. The number that each has to give stands here, apart from the reading's."""
+import math
+
 from tools.generators.interpolator_case import Case, enough
 from tools.generators.refused import Refusals, changes, edited, shorts, too_short
 from tools.reading import edges
@@ -28,12 +30,17 @@ def applies(query, areas):
     return {number for number, test in tests(query, areas._replace(**{name: [0.0] * length for name, length in areas._asdict().items()})) if test}
 
 
+def undone(query):
+    """The numbers that cannot apply beside an earlier one: no list is odd with one dimension, and a range that is infinite by 11 is above zero."""
+    return {2 if query.d == 1 else 13, 12 if query.variogram.range == math.inf else 13}
+
+
 def listed():
     for first, numbers, ways in QUERIES.combined():
         query = edited(BASE, ways)
         areas = lent(query, shorts(ways))
-        # no list is odd with one dimension; with none there is no m, and with the greatest there is no target
-        assert query.d in (0, FAR) or set(numbers) <= applies(query, areas) | {2 if query.d == 1 else 13}, (numbers, query)
+        # with no dimension there is no m, and with the greatest there is no target
+        assert query.d in (0, FAR) or set(numbers) <= applies(query, areas) | undone(query), (numbers, query)
         yield Case(query, areas, number=first)
 
 

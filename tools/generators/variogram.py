@@ -2,15 +2,19 @@
 
 A record is eight little-endian words of 64 bits: what is called, six numbers, and the original's answer.
 
-    1, 4         Variogram::evaluate, Spherical and Linear: nugget, sill, range, h, 0, 0
+    1 to 4       Variogram::evaluate, Spherical, Exponential, Gaussian and Linear: nugget, sill, range, h, 0, 0
     11, 12, 13   calculate_distance over 1, 2 and 3 axes: three numbers of each point, zeros for those not taken
     20, 21       squared_distance_2d, and its root: ax, ay, bx, by, 0, 0
+
+Exponential and Gaussian are those of the original running the port's e^−u; tools/reading has to agree with it, by its own.
 """
+import math
 import random
 
 from tools.generators.records import files as made_files, packed
 from tools.oracle.oracle import ask
-from tools.patterns import NAN, bits, value, words
+from tools.patterns import NAN, bits, value, word, words
+from tools.reading.variogram import EXPONENTIAL, GAUSSIAN, Variogram
 
 RANDOM = random.Random(20260819)
 EPSILON = 0x3CB0_0000_0000_0000
@@ -69,6 +73,32 @@ def variograms():
             yield model, [bits(nugget), bits(sill), bits(span), bits(h)]
 
 
+def powers(model, span):
+    """Distances at which u of e^−u is what it turns on: 0 and subnormal, beside 2^-57, 512ths and whole numbers, about 35, far past it and infinite."""
+    wanted = [0.0, 5e-324, 2.0**-1022, 2.0**-58, 2.0**-57, 2.0**-48, 1.0, 2.0, 17.0, 34.0, 35.0, 36.0, 700.0, 1e300]
+    wanted += [RANDOM.randrange(1, 513) / 512 for _ in range(6)] + [RANDOM.uniform(0, 1), RANDOM.uniform(0, 40), RANDOM.expovariate(0.3)]
+    reach = value(span)
+    for u in wanted:
+        h = u * reach if model == EXPONENTIAL else math.sqrt(u) * abs(reach)
+        yield RANDOM.choice(beside(bits(abs(h))))
+
+
+def by_exponential():
+    """The two models by e^−u, with the same ranges; a sixth of the ranges have each distance of `powers`."""
+    ranges = PLAIN + ODD + [r ^ MINUS for r in PLAIN + ODD] + NOT_FINITE
+    for model in (EXPONENTIAL, GAUSSIAN):
+        for fixed in ranges:
+            for h in RANDOM.sample(distances_for(fixed), 3):
+                yield model, [number(), number(), fixed, h]
+        for fixed in PLAIN[1:] + ODD[-2:]:
+            for h in powers(model, fixed):
+                yield model, [bits(RANDOM.choice([0.0, 0.1, 2.5])), bits(RANDOM.choice([0.0, 1.0, 2.25])), fixed, h]
+        for _ in range(150):
+            span = 10 ** RANDOM.uniform(-3, 6)
+            h = span * (RANDOM.expovariate(0.5) if model == EXPONENTIAL else RANDOM.expovariate(1))
+            yield model, [bits(RANDOM.uniform(0, 2)), bits(RANDOM.uniform(0, 20)), bits(span), bits(h)]
+
+
 def coordinate():
     kind = RANDOM.randrange(10)
     if kind < 4:
@@ -115,11 +145,20 @@ def call(kind, numbers):
     return f"distance2 {words(numbers)}"
 
 
+def hold(kind, numbers, answer):
+    """Stops where the reading's variogram is another: it works e^−u out by itself."""
+    if kind in (EXPONENTIAL, GAUSSIAN):
+        nugget, sill, span, h = map(value, numbers)
+        read = word(bits(Variogram(kind, nugget, sill, span).evaluate(h)))
+        assert answer == read, (kind, words(numbers), answer, read)
+
+
 def eight_words(kind, numbers, answer):
+    hold(kind, numbers, answer)
     taken = answer.split()[-1 if kind == 21 else 0]
     return packed([kind, *numbers, *[0] * (6 - len(numbers)), int(taken, 16)])
 
 
 def files():
-    calls = [(kind, [NAN if value(n) != value(n) else n for n in numbers]) for kind, numbers in [*variograms(), *distances()]]
+    calls = [(kind, [NAN if value(n) != value(n) else n for n in numbers]) for kind, numbers in [*variograms(), *distances(), *by_exponential()]]
     return made_files([eight_words(*c, answer) for c, answer in zip(calls, ask([call(*c) for c in calls]))])

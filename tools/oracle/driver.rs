@@ -214,6 +214,12 @@ fn evaluate(words: &mut Words) -> String {
     hex(variogram.evaluate(words.float()))
 }
 
+/// e^−u as the original is given it here, and as Rust's own `exp` has it.
+fn exp_neg(words: &mut Words) -> String {
+    let minus = -words.float();
+    format!("{} {}", hex(minus.port_exp()), hex(minus.exp()))
+}
+
 fn answer(line: &str) -> String {
     let mut words = Words(line.split_whitespace());
     let call = words.next().to_string();
@@ -225,6 +231,7 @@ fn answer(line: &str) -> String {
         "evaluate" => Some(evaluate(words)),
         "distance" => Some(distance(words)),
         "distance2" => Some(distance2(words)),
+        "exp_neg" => Some(exp_neg(words)),
         "sqrt" => Some(hex(words.float().sqrt())),
         "invert_uked" => Some(inverse_line(gauss_jordan_invert_uked(&square(words)))),
         "matrix_inverse" => Some(inverse_line(any_interpolator().matrix_inverse(&square(words)).ok())),

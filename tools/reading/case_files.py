@@ -83,7 +83,7 @@ def print_file(title, data, **changes):
     print_parts(**changes)
     print(f"all {len(data)} bytes, in decimal")
     print_bytes(data)
-    print("wellmap prints", repr(printed(data).decode()), "(7, since n < p, comes before 12)")
+    print("wellmap prints", repr(printed(data).decode()), "(7, since n < p)")
 
 
 def print_written():

@@ -127,7 +127,7 @@ def compare(name, draw, count, drawn, read):
 def main():
     build(sys.argv[1])
     count = int(sys.argv[2]) if len(sys.argv) > 2 else 20000
-    draw = Draw(sys.argv[3] if len(sys.argv) > 3 else "nakwemol reading")
+    draw = Draw(sys.argv[3] if len(sys.argv) > 3 else "nakwemol reading").with_models([1, 1, 2, 2, 3, 3, 4])
     print(f"refusals: {edges.check()} calls at the edges, each as it has to be")
     different = compare("fits", draw, count, draw_fit, read_fit)
     different += compare("interpolations", draw, count // 4, draw_interpolate, read_interpolate)

@@ -53,8 +53,9 @@ def spoilt_variogram():
     return [edit(variogram=lambda call, f=f, b=b: call.variogram._replace(**{f: b})) for f in ("nugget", "sill", "range") for b in ODD]
 
 
-def models(*codes):
-    return [edit(variogram=lambda call, code=code: call.variogram._replace(model=code)) for code in codes]
+def without_range():
+    """An Exponential model, the second of the four, whose range is not above zero."""
+    return [edit(variogram=lambda call, span=span: call.variogram._replace(model=2, range=span)) for span in (0.0, -0.0, -TINY, -8.0, -1.7e308)]
 
 
 def grown(**counts):
@@ -81,7 +82,7 @@ FIT_EDITS = {
     9: [grown(n=49), grown(m=101), grown(n=20, codes=[3, 3, 4])],
     10: [edit(t=t) for t in [-TINY, -1.0, *ODD]],
     11: SURVEY_LISTS + spoilt_variogram(),
-    12: models(2, 3),
+    12: without_range(),
 }
 QUERY_EDITS = {
     13: [edit(d=0), edit(d=4), edit(d=1, kind=interpolator.UNIVERSAL)],
@@ -89,7 +90,7 @@ QUERY_EDITS = {
     2: [longer("targets"), shorter("targets")],
     9: [edit(values=spread(49), coords=spread(98)), edit(targets=spread(202))],
     11: LISTS + spoilt("targets") + spoilt_variogram(),
-    12: models(2, 3),
+    12: without_range(),
 }
 SAMPLES_EDITS = {
     13: [edit(d=0), edit(d=4)],
@@ -145,9 +146,14 @@ def accepted():
     base = survey()
     fits = [base, base._replace(r=-0.0), base._replace(t=-0.0), survey(n=48), survey(m=100), survey(m=0), survey(n=12, codes=[3, 2, 1, 4, 4])]
     fits += [survey(codes=[1])._replace(node_external=[math.nan]), survey(n=2), base._replace(variogram=MODEL._replace(model=4))]
+    # 12 is of Exponential alone, and of a range that is not above zero
+    spans = [*((2, span) for span in (TINY, 8.0)), *((3, span) for span in (TINY, 8.0, 0.0, -0.0, -8.0)), (1, 0.0), (1, -8.0), (4, 0.0), (4, -8.0)]
+    models = [MODEL._replace(model=model, range=span) for model, span in spans]
+    fits += [base._replace(variogram=model) for model in models]
     assert all(fit_number(call) in (0, 19) for call in fits) and fit_number(base) == 0
     query = interpolator.Query(1, 2, spread(4), spread(8), spread(4), MODEL)
     queries = [query, query._replace(values=[], coords=[]), query._replace(values=spread(48), coords=spread(96), targets=spread(200))]
+    queries += [query._replace(variogram=model) for model in models]
     assert all(query_number(call) in (0, 19) for call in queries) and query_number(queries[1]) == 19
     samples = semivariogram.Samples(2, spread(4), spread(8), 64)
     assert samples_number(samples) == 0 == samples_number(samples._replace(bins=1, values=spread(48), coords=spread(96)))

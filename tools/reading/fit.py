@@ -6,7 +6,7 @@ from tools.reading.audit import verdict
 from tools.reading.elimination import beside_identity, eliminate, inverse
 from tools.reading.floats import clamped, running_sum
 from tools.reading.survey import CONSTANT, LINEAR, QUADRATIC
-from tools.reading.variogram import NOT_OFFERED, distance
+from tools.reading.variogram import distance
 
 
 class Areas(NamedTuple):
@@ -34,7 +34,7 @@ def tests(survey, areas):
     yield 9, n > refusals.MOST_WELLS or p > refusals.MOST_COLUMNS or m > refusals.MOST_NODES
     yield 10, refusals.negative_or_not_finite(survey.t)
     yield 11, refusals.some_not_finite(survey.judged())
-    yield 12, survey.variogram.model in NOT_OFFERED
+    yield 12, survey.variogram.without_range()
     yield 17, len(areas.work) < 2 * s * s
     lengths = [(areas.figures, m), (areas.variances, m), (areas.verdicts, m), (areas.weights, n * m), (areas.coefficients, p)]
     yield 18, refusals.too_short(lengths)

@@ -5,7 +5,7 @@ from tools.reading import refusals
 from tools.reading.elimination import beside_identity, eliminate, inverse
 from tools.reading.fit import put, solved, weighted
 from tools.reading.floats import clamped, running_sum
-from tools.reading.variogram import NOT_OFFERED, Variogram, distance
+from tools.reading.variogram import Variogram, distance
 
 ORDINARY, UNIVERSAL = 1, 2
 
@@ -52,7 +52,7 @@ def tests(query, areas):
     yield 2, len(query.targets) % d != 0
     yield 9, n > refusals.MOST_WELLS or query.m > refusals.MOST_NODES
     yield 11, refusals.some_not_finite([*query.variogram.numbers(), *query.values, *query.coords, *query.targets])
-    yield 12, query.variogram.model in NOT_OFFERED
+    yield 12, query.variogram.without_range()
     yield 17, len(areas.work) < 2 * query.s * query.s
     yield 18, refusals.too_short([(areas.figures, query.m), (areas.variances, query.m)])
 

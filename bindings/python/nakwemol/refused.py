@@ -22,7 +22,7 @@ TOLD = {
     9: (ADDED, "Spread the nodes over several calls, which changes no node's answer; of wells and columns choose fewer."),
     10: (ADDED, "Give t as 0 or a number above it."),
     11: (ADDED, "Find the empty or overflown entry and correct it, or leave its well or node out."),
-    12: (ADDED, "Choose Spherical or Linear."),
+    12: (ADDED, "Give the Exponential model a range above zero, or choose another model."),
     13: (ADDED, "Give points of one to three axes; with one axis take Ordinary."),
     14: (DATA, "Give at least two."),
     15: (ADDED, "Ask for 1 to 64 bins."),

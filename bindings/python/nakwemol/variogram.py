@@ -6,7 +6,7 @@ from nakwemol import calls
 
 
 class VariogramModel(IntEnum):
-    """In the original's order. Exponential and Gaussian are refused by 12."""
+    """In the original's order. Exponential needs a range above zero: else it is refused by 12."""
 
     SPHERICAL = 1
     EXPONENTIAL = 2

@@ -54,6 +54,21 @@ class Calls(unittest.TestCase):
         fit = universal_kriging_fit(COORDS, VALUES, CONSTANT, NODE, tolerance=0.0)
         self.assertEqual(fit, ([4.0], [1.5], [0.5], [0.5, 0.5], [0]))
 
+    def test_models_by_the_exponential(self):
+        """The weights are halves by symmetry, so the variance is 2 g(1) - g(2) / 2, with g the variogram. A range of 0 is refused of Exponential alone."""
+        for model, far in ((VariogramModel.EXPONENTIAL, math.exp(-2)), (VariogramModel.GAUSSIAN, math.exp(-4))):
+            variogram = Variogram(model, 0.0, 1.0, 1.0)
+            (figure,), (variance,), _, _, _ = universal_kriging_fit(COORDS, VALUES, CONSTANT._replace(variogram=variogram), NODE, tolerance=1e-9)
+            self.assertAlmostEqual(figure, 4.0, places=14)
+            self.assertAlmostEqual(variance, 2 * (1 - math.exp(-1)) - (1 - far) / 2, places=14)
+            interpolated = KrigingInterpolator(KrigingType.ORDINARY, variogram).interpolate(COORDS, VALUES, NODE)
+            self.assertAlmostEqual(interpolated.variances[0], variance, places=14)
+        for span in (0.0, -0.0, -1.0):
+            exponential, gaussian = (Variogram(model, 0.0, 1.0, span) for model in (VariogramModel.EXPONENTIAL, VariogramModel.GAUSSIAN))
+            self.refused(12, universal_kriging_fit, COORDS, VALUES, CONSTANT._replace(variogram=exponential), NODE, tolerance=0.0)
+            self.refused(12, KrigingInterpolator(KrigingType.ORDINARY, exponential).interpolate, COORDS, VALUES, NODE)
+            universal_kriging_fit(COORDS, VALUES, CONSTANT._replace(variogram=gaussian), NODE, tolerance=0.0)
+
     def test_lists_rows_and_arrays_are_one(self):
         rows = universal_kriging_fit(COORDS, VALUES, CONSTANT, NODE, tolerance=0.0)
         flat = universal_kriging_fit((0, 0, 2, 0), (2, 6), CONSTANT, array.array("d", [1, 0]), tolerance=0.0)

@@ -62,7 +62,7 @@ fn told(number: u8) -> (ErrorKind, &'static str) {
         9 => (Added, "Spread the nodes over several calls, which changes no node's answer; of wells and columns choose fewer."),
         10 => (Added, "Give t as 0 or a number above it."),
         11 => (Added, "Find the empty or overflown entry and correct it, or leave its well or node out."),
-        12 => (Added, "Choose Spherical or Linear."),
+        12 => (Added, "Give the Exponential model a range above zero, or choose another model."),
         13 => (Added, "Give points of one to three axes; with one axis take Ordinary."),
         14 => (InsufficientData, "Give at least two."),
         15 => (Added, "Ask for 1 to 64 bins."),

@@ -1,6 +1,6 @@
 //! The variogram, and how the calls name its model.
 
-/// Variogram models, in the original's order. Exponential and Gaussian are refused by 12.
+/// Variogram models, in the original's order. Exponential needs a range above zero: else it is refused by 12.
 #[derive(Debug, Clone, Copy, PartialEq, Eq)]
 pub enum VariogramModel {
     Spherical,

@@ -27,6 +27,28 @@ fn fit_between_two_wells() {
     assert_eq!(fit.verdicts, [0]);
 }
 
+/// The weights are halves by symmetry, so the variance is 2 g(1) - g(2) / 2, with g the variogram. A range of 0 is refused of Exponential alone.
+#[test]
+fn models_by_the_exponential() {
+    let fit = |model, range| {
+        let options = UniversalKrigingOptions { variogram: Variogram::new(model, 0.0, 1.0, range), ..options(vec![DriftBasis::Constant]) };
+        universal_kriging_fit(&COORDS, &VALUES, &options, &NODE, None, 1e-9)
+    };
+    for (model, far) in [(VariogramModel::Exponential, (-2f64).exp()), (VariogramModel::Gaussian, (-4f64).exp())] {
+        let answer = fit(model, 1.0).unwrap();
+        assert!((answer.predicted[0] - 4.0).abs() < 1e-14);
+        assert!((answer.variance[0] - (2.0 * (1.0 - (-1f64).exp()) - (1.0 - far) / 2.0)).abs() < 1e-14);
+        let interpolator = KrigingInterpolator::new(KrigingType::Ordinary, Variogram::new(model, 0.0, 1.0, 1.0));
+        assert!((interpolator.interpolate(&COORDS, &VALUES, &NODE, 2).unwrap().variances[0] - answer.variance[0]).abs() < 1e-14);
+    }
+    for range in [0.0, -0.0, -1.0] {
+        assert_eq!(number(fit(VariogramModel::Exponential, range)), 12);
+        assert_eq!(number(fit(VariogramModel::Gaussian, range)), 0);
+        let interpolator = KrigingInterpolator::new(KrigingType::Ordinary, Variogram::new(VariogramModel::Exponential, 0.0, 1.0, range));
+        assert_eq!(number(interpolator.interpolate(&COORDS, &VALUES, &NODE, 2)), 12);
+    }
+}
+
 #[test]
 fn default_options() {
     let default = UniversalKrigingOptions::default();

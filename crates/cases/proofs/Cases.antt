@@ -6,6 +6,7 @@ use Rattle.survey_file.proofs.Cases.{writes-bytes, reads-bytes, reads-noted, wr
 use Rattle.cases.specs.Cases.{FourBins, Cases}
 use Rattle.cases.proofs.FitCases.{fit-cases}
 use Rattle.cases.proofs.InterpolationCases.{interpolation-cases}
+use Rattle.cases.proofs.ModelCases.{model-cases}
 
 four-bins : FourBins
 unfolding calculated add sub mul div lt le eq ofInt toUnsigned round ofBits toBits
@@ -15,6 +16,7 @@ pub cases : Cases
 cases = record {
   fits = fit-cases;
   interpolations = interpolation-cases;
+  models = model-cases;
   bins = four-bins;
   file-written = writes-bytes;
   file-read = reads-bytes;

@@ -1,5 +1,5 @@
--- Computed cases, their answers worked out outside these definitions: by tools/reading/cases.py, another reading of the paper in Python's floats and whole numbers, and where
--- the original Rust answers, the original's own. One record holds them all. Assumes nothing.
+-- Computed cases, their answers worked out outside these definitions: by tools/reading/cases.py, another reading of the paper in Python's floats and whole
+-- numbers, and where the original Rust answers, the original's own; those of ModelCases as it says. One record holds them all. Assumes nothing.
 use mathlib.Core.Path.{_≡_}
 use mathlib.Core.List.{[], _∷_}
 use mathlib.Core.Option.{some}
@@ -14,6 +14,7 @@ use Rattle.survey_file.specs.Reader.{readBytes}
 use Rattle.survey_file.specs.Cases.{survey, file, noted, bare, withModel}
 use Rattle.cases.specs.FitCases.{f, fs, FitCases}
 use Rattle.cases.specs.InterpolationCases.{InterpolationCases}
+use Rattle.cases.specs.ModelCases.{ModelCases}
 
 -- samples at (0, 0), (6, 8), (6, 0), (1.5, 0) with 1, 4, 2, 8, in five bins: the second is empty
 abbrev pub fourSamples : Samples
@@ -43,6 +44,8 @@ pub record Cases : Type 0 where
   pub fits : FitCases
   -- Ordinary on a line, Universal in the plane and in space, two targets each
   pub interpolations : InterpolationCases
+  -- the Exponential and the Gaussian model, and the ranges that 12 refuses
+  pub models : ModelCases
   -- several kept bins, and one empty among them
   pub bins : FourBins
   -- a file by its bytes, every field another number, without a note and with one

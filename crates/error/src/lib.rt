@@ -27,7 +27,7 @@ pub enum Refusal {
     Tolerance,
     // 11: a number that is not finite
     NotFinite,
-    // 12: a model that is not offered
+    // 12: an Exponential model whose range is not above zero
     Model,
     // 13: a dimension that is not offered
     Dimension,

@@ -1,4 +1,5 @@
-// The interpolator's matrix beside the identity, in the lent work area, and its elimination there.
+// The interpolator's matrix beside the identity, in the lent work area, and its elimination there. `table` is that of
+// e^−u, which the call makes once and lends: a variogram that made its own would write it out for each entry.
 use crate::KrigingInterpolator;
 use crate::trend::trend_term;
 use elimination::Elimination;
@@ -11,6 +12,7 @@ ghost use Prim.Native.Nat.{ℕ, _+_, _-_, _*_, _≤_, _<_};
 ghost use lib.ListN.{length, getD};
 ghost use lib.Ieee.{nan, binary64, sub};
 ghost use Rattle.area.specs.Area.{written};
+ghost use Rattle.exponential.specs.Exponential.{fractionTable};
 ghost use Rattle.variogram.specs.Model.{semivariance};
 ghost use Rattle.variogram.specs.Distance.{distance};
 ghost use Rattle.elimination.specs.Elimination.{outcomeOf, eliminated};
@@ -21,16 +23,26 @@ ghost use Rattle.interpolator.specs.Outcome.{known};
 ghost use Rattle.interpolation.specs.Assembly.{column, entry};
 
 // Sill less the variogram, between the known point i and the point j of a list. On the diagonal too: the variogram is 0 there.
-fn covariance(variogram: Variogram, points: &[f64], i: usize, ys: &[f64], j: usize, d: usize) -> f64
+fn covariance(
+    variogram: Variogram,
+    table: &[u64; 512],
+    points: &[f64],
+    i: usize,
+    ys: &[f64],
+    j: usize,
+    d: usize,
+) -> f64
+    requires { ⌜ now table ≡ fractionTable ⌝ }
     ensures { λ r. ⌜ r ≡ sub binary64 (variogram .sill) (semivariance variogram (distance (now (points .entry)) i (now (ys .entry)) j d)) ⌝ }
 {
     let dist = variogram::calculate_distance(points, i, ys, j, d);
-    variogram.sill - variogram.evaluate(dist)
+    variogram.sill - variogram.evaluate_by(table, dist)
 }
 
 // Entry i of the column of the point j of a list: its covariance with each known point, then its trend.
 pub(crate) fn column_entry(
     interpolator: KrigingInterpolator,
+    table: &[u64; 512],
     values: &[f64],
     points: &[f64],
     d: usize,
@@ -39,12 +51,12 @@ pub(crate) fn column_entry(
     i: usize,
 ) -> f64
     requires { ⌜ (i < length (now values) + added (interpolator .«kriging_type»)) × (interpolator .«kriging_type» ≡ Universal → 2 ≤ d)
-        × (j * d + d ≤ length (now ys)) ⌝ }
+        × (j * d + d ≤ length (now ys)) × (now table ≡ fractionTable) ⌝ }
     ensures { λ r. ⌜ r ≡ column (known interpolator (now (values .entry)) (now (points .entry)) d) (now (ys .entry)) j i ⌝ }
 {
     let n = values.len();
     if i < n {
-        return covariance(interpolator.variogram, points, i, ys, j, d);
+        return covariance(interpolator.variogram, table, points, i, ys, j, d);
     }
     let kriging_type = interpolator.kriging_type;
     trend_term(kriging_type, ys, j * d, i - n)
@@ -53,6 +65,7 @@ pub(crate) fn column_entry(
 // The entry in row i and column j of the matrix.
 fn matrix_entry(
     interpolator: KrigingInterpolator,
+    table: &[u64; 512],
     values: &[f64],
     points: &[f64],
     d: usize,
@@ -60,12 +73,12 @@ fn matrix_entry(
     j: usize,
 ) -> f64
     requires { ⌜ (i < length (now values) + added (interpolator .«kriging_type»)) × (j < length (now values) + added (interpolator .«kriging_type»))
-        × (interpolator .«kriging_type» ≡ Universal → 2 ≤ d) × (length (now values) * d ≤ length (now points)) ⌝ }
+        × (interpolator .«kriging_type» ≡ Universal → 2 ≤ d) × (length (now values) * d ≤ length (now points)) × (now table ≡ fractionTable) ⌝ }
     ensures { λ r. ⌜ r ≡ entry (known interpolator (now (values .entry)) (now (points .entry)) d) i j ⌝ }
 {
     let n = values.len();
     if j < n {
-        return column_entry(interpolator, values, points, d, points, j, i);
+        return column_entry(interpolator, table, values, points, d, points, j, i);
     }
     if i < n {
         let kriging_type = interpolator.kriging_type;
@@ -77,6 +90,7 @@ fn matrix_entry(
 // Row i of the matrix, from the diagonal on.
 fn fill_from_diagonal(
     interpolator: KrigingInterpolator,
+    table: &[u64; 512],
     values: &[f64],
     points: &[f64],
     d: usize,
@@ -85,13 +99,13 @@ fn fill_from_diagonal(
     work: &mut [f64],
 )
     requires { ⌜ (i < size) × (size ≡ length (now values) + added (interpolator .«kriging_type»)) × (interpolator .«kriging_type» ≡ Universal → 2 ≤ d)
-        × (length (now values) * d ≤ length (now points)) × (i * (2 * size) + 2 * size ≤ length (now work)) ⌝ }
+        × (length (now values) * d ≤ length (now points)) × (i * (2 * size) + 2 * size ≤ length (now work)) × (now table ≡ fractionTable) ⌝ }
     ensures { λ _. ⌜ now (work .exit) ≡ written (i * (2 * size) + i) (size - i)
         (λ c. entry (known interpolator (now (values .entry)) (now (points .entry)) d) i (i + c)) (now (work .entry)) ⌝ }
 {
     let row = i * (2 * size);
     for j in i..size {
-        work[row + j] = matrix_entry(interpolator, values, points, d, i, j);
+        work[row + j] = matrix_entry(interpolator, table, values, points, d, i, j);
     }
 }
 
@@ -99,6 +113,7 @@ fn fill_from_diagonal(
 // stands what the rows above, which are filled, hold in column i, so that no variogram is evaluated twice.
 fn fill_matrix_row(
     interpolator: KrigingInterpolator,
+    table: &[u64; 512],
     values: &[f64],
     points: &[f64],
     d: usize,
@@ -108,18 +123,20 @@ fn fill_matrix_row(
 )
     requires { ⌜ (i < size) × (size ≡ length (now values) + added (interpolator .«kriging_type»)) × (interpolator .«kriging_type» ≡ Universal → 2 ≤ d)
         × (length (now values) * d ≤ length (now points)) × (2 * size * size ≤ length (now work))
-        × ((j : ℕ) → j < i → getD (now work) (j * (2 * size) + i) nan ≡ entry (known interpolator (now values) (now points) d) j i) ⌝ }
+        × ((j : ℕ) → j < i → getD (now work) (j * (2 * size) + i) nan ≡ entry (known interpolator (now values) (now points) d) j i)
+        × (now table ≡ fractionTable) ⌝ }
     ensures { λ _. ⌜ now (work .exit) ≡ written (i * (2 * size)) (2 * size)
         (besideIdentity size (entry (known interpolator (now (values .entry)) (now (points .entry)) d)) i) (now (work .entry)) ⌝ }
 {
     mirror_row(work, size, i);
-    fill_from_diagonal(interpolator, values, points, d, size, i, work);
+    fill_from_diagonal(interpolator, table, values, points, d, size, i, work);
     identity_row(work, size, i);
 }
 
 // The matrix beside the identity.
 pub(crate) fn build_covariance_matrix(
     interpolator: KrigingInterpolator,
+    table: &[u64; 512],
     values: &[f64],
     points: &[f64],
     d: usize,
@@ -127,11 +144,11 @@ pub(crate) fn build_covariance_matrix(
     work: &mut [f64],
 )
     requires { ⌜ (size ≡ length (now values) + added (interpolator .«kriging_type»)) × (interpolator .«kriging_type» ≡ Universal → 2 ≤ d)
-        × (length (now values) * d ≤ length (now points)) × (2 * size * size ≤ length (now work)) ⌝ }
+        × (length (now values) * d ≤ length (now points)) × (2 * size * size ≤ length (now work)) × (now table ≡ fractionTable) ⌝ }
     ensures { λ _. ⌜ now (work .exit) ≡ laid size (entry (known interpolator (now (values .entry)) (now (points .entry)) d)) (now (work .entry)) ⌝ }
 {
     for i in 0..size {
-        fill_matrix_row(interpolator, values, points, d, size, i, work);
+        fill_matrix_row(interpolator, table, values, points, d, size, i, work);
     }
 }
 

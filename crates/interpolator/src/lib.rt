@@ -75,12 +75,14 @@ impl KrigingInterpolator {
         }
         let kriging_type = self.kriging_type;
         let size = values.len() + trend::trend_terms(kriging_type);
-        assembly::build_covariance_matrix(self, values, points, d, size, work);
+        let table = exponential::fraction_table(); // once: a constant that is read is written out whole
+        assembly::build_covariance_matrix(self, &table, values, points, d, size, work);
         let elimination = assembly::solve_kriging_system(work, size);
         match elimination {
             Elimination::Done => {
                 point::interpolate_points(
                     self,
+                    &table,
                     values,
                     points,
                     targets,

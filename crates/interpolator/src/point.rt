@@ -7,6 +7,7 @@ ghost use lib.ListN.{length, getD};
 ghost use lib.Ieee.{nan, binary64, mul};
 ghost use Rattle.area.specs.Area.{written};
 ghost use Rattle.ieee.specs.Sums.{lessEach};
+ghost use Rattle.exponential.specs.Exponential.{fractionTable};
 ghost use Rattle.interpolation.specs.declared.KrigingType.the-variants.{Universal};
 ghost use Rattle.interpolation.specs.Call.{areasOf, added};
 ghost use Rattle.interpolator.specs.Outcome.{queryOf, known};
@@ -16,6 +17,7 @@ ghost use Rattle.interpolation.specs.Interpolation.{figure, variance, answered}
 // b of the target t.
 fn fill_right_side(
     interpolator: KrigingInterpolator,
+    table: &[u64; 512],
     values: &[f64],
     points: &[f64],
     targets: &[f64],
@@ -25,12 +27,12 @@ fn fill_right_side(
     b: &mut [f64],
 )
     requires { ⌜ (size ≡ length (now values) + added (interpolator .«kriging_type»)) × (interpolator .«kriging_type» ≡ Universal → 2 ≤ d)
-        × (t * d + d ≤ length (now targets)) × (size ≤ length (now b)) ⌝ }
+        × (t * d + d ≤ length (now targets)) × (size ≤ length (now b)) × (now table ≡ fractionTable) ⌝ }
     ensures { λ _. ⌜ now (b .exit) ≡ written 0 size
         (column (known interpolator (now (values .entry)) (now (points .entry)) d) (now (targets .entry)) t) (now (b .entry)) ⌝ }
 {
     for i in 0..size {
-        b[i] = column_entry(interpolator, values, points, d, targets, t, i);
+        b[i] = column_entry(interpolator, table, values, points, d, targets, t, i);
     }
 }
 
@@ -55,6 +57,7 @@ pub struct Estimate {
 // The target t, from the finished elimination. 52 = 48 + 4 is the size of the greatest system.
 fn interpolate_point(
     interpolator: KrigingInterpolator,
+    table: &[u64; 512],
     values: &[f64],
     points: &[f64],
     targets: &[f64],
@@ -64,14 +67,25 @@ fn interpolate_point(
     work: &[f64],
 ) -> Estimate
     requires { ⌜ (size ≡ length (now values) + added (interpolator .«kriging_type»)) × (interpolator .«kriging_type» ≡ Universal → 2 ≤ d)
-        × (t * d + d ≤ length (now targets)) × (size ≤ 52) × (2 * size * size ≤ length (now work)) ⌝ }
+        × (t * d + d ≤ length (now targets)) × (size ≤ 52) × (2 * size * size ≤ length (now work))
+        × (now table ≡ fractionTable) ⌝ }
     ensures value { λ r. ⌜ r .value
         ≡ figure (queryOf interpolator (now (values .entry)) (now (points .entry)) (now (targets .entry)) d) (now (work .entry)) t ⌝ }
     ensures variance { λ r. ⌜ r .variance
         ≡ variance (queryOf interpolator (now (values .entry)) (now (points .entry)) (now (targets .entry)) d) (now (work .entry)) t ⌝ }
 {
     let mut b = [0.0; 52];
-    fill_right_side(interpolator, values, points, targets, d, t, size, &mut b);
+    fill_right_side(
+        interpolator,
+        table,
+        values,
+        points,
+        targets,
+        d,
+        t,
+        size,
+        &mut b,
+    );
     let mut z = [0.0; 52];
     solution::fill_z(work, size, &b, &mut z);
     let value = solution::weighted_sum(&z, values, values.len());
@@ -85,6 +99,7 @@ fn interpolate_point(
 // Every target.
 pub(crate) fn interpolate_points(
     interpolator: KrigingInterpolator,
+    table: &[u64; 512],
     values: &[f64],
     points: &[f64],
     targets: &[f64],
@@ -96,13 +111,24 @@ pub(crate) fn interpolate_points(
 )
     requires { ⌜ (size ≡ length (now values) + added (interpolator .«kriging_type»)) × (interpolator .«kriging_type» ≡ Universal → 2 ≤ d)
         × (1 ≤ d) × (size ≤ 52) × (2 * size * size ≤ length (now work))
-        × (length (now targets) / d ≤ length (now figures)) × (length (now targets) / d ≤ length (now variances)) ⌝ }
+        × (length (now targets) / d ≤ length (now figures)) × (length (now targets) / d ≤ length (now variances))
+        × (now table ≡ fractionTable) ⌝ }
     ensures { λ _. ⌜ areasOf (now (work .entry)) (now (figures .exit)) (now (variances .exit))
         ≡ answered (queryOf interpolator (now (values .entry)) (now (points .entry)) (now (targets .entry)) d)
         (areasOf (now (work .entry)) (now (figures .entry)) (now (variances .entry))) (now (work .entry)) ⌝ }
 {
     for t in 0..targets.len() / d {
-        let estimate = interpolate_point(interpolator, values, points, targets, d, t, size, work);
+        let estimate = interpolate_point(
+            interpolator,
+            table,
+            values,
+            points,
+            targets,
+            d,
+            t,
+            size,
+            work,
+        );
         figures[t] = estimate.value;
         variances[t] = estimate.variance;
     }

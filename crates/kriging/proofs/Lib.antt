@@ -1,4 +1,5 @@
 pub mod DriftRows
+pub mod Lent
 pub mod MatrixEntries
 pub mod RightHand
 pub mod NodeParts

@@ -8,6 +8,7 @@ ghost use lib.ListN.{length, getD};
 ghost use lib.Ieee.{Float, nan};
 ghost use Rattle.area.specs.Area.{written};
 ghost use Rattle.ieee.specs.Floats.{zeroFloat};
+ghost use Rattle.exponential.specs.Exponential.{fractionTable};
 ghost use Rattle.survey.specs.Survey.{surveyOf, columnSum, externalCount};
 ghost use Rattle.fit.specs.Areas.{areasOf};
 ghost use Rattle.fit.specs.Drift.{DriftIn};
@@ -40,6 +41,7 @@ pub(crate) fn krige_nodes(
     coords: &[f64],
     bases: &[u8],
     options: UniversalKrigingOptions,
+    table: &[u64; 512],
     nodes: &[f64],
     node_external: &[f64],
     tolerance: f64,
@@ -57,7 +59,7 @@ pub(crate) fn krige_nodes(
         × (2 * (length (now values) + p) * (length (now values) + p) ≤ length (now work))
         × (length (now nodes) / 2 ≤ length (now predicted)) × (length (now nodes) / 2 ≤ length (now variance))
         × (length (now nodes) / 2 ≤ length (now verdicts)) × (length (now values) * (length (now nodes) / 2) ≤ length (now weights))
-        × (p ≤ length (now coefficients)) ⌝ }
+        × (p ≤ length (now coefficients)) × (now table ≡ fractionTable) ⌝ }
     ensures { λ _. ⌜ ((external : List Float)
         → let s = surveyOf (now (values .entry)) (now (coords .entry)) (now (bases .entry)) external
         (now (nodes .entry)) (now («node_external» .entry)) options tolerance in
@@ -79,6 +81,7 @@ pub(crate) fn krige_nodes(
             coords,
             bases,
             options,
+            table,
             nodes,
             node_external,
             tolerance,

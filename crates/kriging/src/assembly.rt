@@ -7,12 +7,19 @@ ghost use Prim.Native.Nat.{ℕ, _+_, _-_, _*_, _≤_, _<_};
 ghost use lib.ListN.{length, getD};
 ghost use lib.Ieee.{nan};
 ghost use Rattle.area.specs.Area.{written};
+ghost use Rattle.exponential.specs.Exponential.{fractionTable};
 ghost use Rattle.elimination.specs.Inverse.{besideIdentity, laid};
 ghost use Rattle.fit.specs.Assembly.{between, joined};
 
 // The entry between wells i and j: 0 + r on the diagonal, else the variogram.
-fn gamma(coords: &[f64], options: UniversalKrigingOptions, i: usize, j: usize) -> f64
-    requires { ⌜ (2 * i + 1 < length (now coords)) × (2 * j + 1 < length (now coords)) ⌝ }
+fn gamma(
+    coords: &[f64],
+    options: UniversalKrigingOptions,
+    table: &[u64; 512],
+    i: usize,
+    j: usize,
+) -> f64
+    requires { ⌜ (2 * i + 1 < length (now coords)) × (2 * j + 1 < length (now coords)) × (now table ≡ fractionTable) ⌝ }
     ensures { λ r. ⌜ r ≡ between options (now (coords .entry)) i j ⌝ }
 {
     if i == j {
@@ -24,24 +31,25 @@ fn gamma(coords: &[f64], options: UniversalKrigingOptions, i: usize, j: usize) -
         coords[2 * j],
         coords[2 * j + 1],
     );
-    options.variogram.evaluate(h)
+    options.variogram.evaluate_by(table, h)
 }
 
 // The entry in row i and column j of the matrix, on the diagonal or past it, where F lies row after row in `drift`.
 fn matrix_entry(
     coords: &[f64],
     options: UniversalKrigingOptions,
+    table: &[u64; 512],
     drift: &[f64],
     n: usize,
     p: usize,
     i: usize,
     j: usize,
 ) -> f64
-    requires { ⌜ (i ≤ j) × (j < n + p) × (2 * n ≤ length (now coords)) × (n * p ≤ length (now drift)) ⌝ }
+    requires { ⌜ (i ≤ j) × (j < n + p) × (2 * n ≤ length (now coords)) × (n * p ≤ length (now drift)) × (now table ≡ fractionTable) ⌝ }
     ensures { λ r. ⌜ r ≡ joined n (between options (now (coords .entry))) (λ i j. getD (now (drift .entry)) (i * p + j) nan) i j ⌝ }
 {
     if j < n {
-        return gamma(coords, options, i, j);
+        return gamma(coords, options, table, i, j);
     }
     if i < n {
         return drift[i * p + (j - n)];
@@ -53,13 +61,15 @@ fn matrix_entry(
 fn fill_from_diagonal(
     coords: &[f64],
     options: UniversalKrigingOptions,
+    table: &[u64; 512],
     drift: &[f64],
     n: usize,
     p: usize,
     i: usize,
     work: &mut [f64],
 )
-    requires { ⌜ (i < n + p) × (2 * n ≤ length (now coords)) × (n * p ≤ length (now drift)) × (i * (2 * (n + p)) + 2 * (n + p) ≤ length (now work)) ⌝ }
+    requires { ⌜ (i < n + p) × (2 * n ≤ length (now coords)) × (n * p ≤ length (now drift)) × (i * (2 * (n + p)) + 2 * (n + p) ≤ length (now work))
+        × (now table ≡ fractionTable) ⌝ }
     ensures { λ _. ⌜ now (work .exit) ≡ written (i * (2 * (n + p)) + i) (n + p - i)
         (λ c. joined n (between options (now (coords .entry))) (λ i j. getD (now (drift .entry)) (i * p + j) nan) i (i + c))
         (now (work .entry)) ⌝ }
@@ -67,7 +77,7 @@ fn fill_from_diagonal(
     let size = n + p;
     let row = i * (2 * size);
     for j in i..size {
-        work[row + j] = matrix_entry(coords, options, drift, n, p, i, j);
+        work[row + j] = matrix_entry(coords, options, table, drift, n, p, i, j);
     }
 }
 
@@ -76,6 +86,7 @@ fn fill_from_diagonal(
 fn fill_matrix_row(
     coords: &[f64],
     options: UniversalKrigingOptions,
+    table: &[u64; 512],
     drift: &[f64],
     n: usize,
     p: usize,
@@ -84,14 +95,14 @@ fn fill_matrix_row(
 )
     requires { ⌜ (i < n + p) × (2 * n ≤ length (now coords)) × (n * p ≤ length (now drift)) × (2 * (n + p) * (n + p) ≤ length (now work))
         × ((j : ℕ) → j < i → getD (now work) (j * (2 * (n + p)) + i) nan
-        ≡ joined n (between options (now coords)) (λ i j. getD (now drift) (i * p + j) nan) j i) ⌝ }
+        ≡ joined n (between options (now coords)) (λ i j. getD (now drift) (i * p + j) nan) j i) × (now table ≡ fractionTable) ⌝ }
     ensures { λ _. ⌜ now (work .exit) ≡ written (i * (2 * (n + p))) (2 * (n + p))
         (besideIdentity (n + p) (joined n (between options (now (coords .entry))) (λ i j. getD (now (drift .entry)) (i * p + j) nan)) i)
         (now (work .entry)) ⌝ }
 {
     let size = n + p;
     mirror_row(work, size, i);
-    fill_from_diagonal(coords, options, drift, n, p, i, work);
+    fill_from_diagonal(coords, options, table, drift, n, p, i, work);
     identity_row(work, size, i);
 }
 
@@ -99,17 +110,18 @@ fn fill_matrix_row(
 pub(crate) fn assemble(
     coords: &[f64],
     options: UniversalKrigingOptions,
+    table: &[u64; 512],
     drift: &[f64],
     n: usize,
     p: usize,
     work: &mut [f64],
 )
-    requires { ⌜ (2 * n ≤ length (now coords)) × (n * p ≤ length (now drift)) × (2 * (n + p) * (n + p) ≤ length (now work)) ⌝ }
+    requires { ⌜ (2 * n ≤ length (now coords)) × (n * p ≤ length (now drift)) × (2 * (n + p) * (n + p) ≤ length (now work)) × (now table ≡ fractionTable) ⌝ }
     ensures { λ _. ⌜ now (work .exit) ≡ laid (n + p)
         (joined n (between options (now (coords .entry))) (λ i j. getD (now (drift .entry)) (i * p + j) nan))
         (now (work .entry)) ⌝ }
 {
     for i in 0..n + p {
-        fill_matrix_row(coords, options, drift, n, p, i, work);
+        fill_matrix_row(coords, options, table, drift, n, p, i, work);
     }
 }

@@ -152,9 +152,10 @@ fn fit_taken(
 {
     let n = values.len();
     let p = survey_checks::counts::drift_columns(bases);
+    let table = exponential::fraction_table(); // it is written out whole, so once, and lent
     let mut drift = [0.0; 576];
     fill_drift(bases, external, coords, n, p, &mut drift);
-    assemble(coords, options, &drift, n, p, work);
+    assemble(coords, options, &table, &drift, n, p, work);
     match elimination::gauss_jordan_invert_uked(work, n + p) {
         Elimination::Done => {
             krige_nodes(
@@ -162,6 +163,7 @@ fn fit_taken(
                 coords,
                 bases,
                 options,
+                &table,
                 nodes,
                 node_external,
                 tolerance,

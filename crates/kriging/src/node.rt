@@ -7,6 +7,7 @@ ghost use Prim.Native.Nat.{_+_, _*_, _≤_, _<_};
 ghost use lib.ListN.{length, getD, take, drop};
 ghost use lib.Ieee.{Float, nan};
 ghost use Rattle.area.specs.Area.{written};
+ghost use Rattle.exponential.specs.Exponential.{fractionTable};
 ghost use Rattle.audit.specs.Audit.{driftFinite, columnVerdictGiven};
 ghost use Rattle.audit.specs.Lists.{entryIn, weighedIn};
 ghost use Rattle.survey.specs.Survey.{surveyOf, columnSum, externalCount, size, xOf, yOf};
@@ -14,13 +15,21 @@ ghost use Rattle.fit.specs.Drift.{driftRow, DriftIn};
 ghost use Rattle.fit.specs.Node.{gammaTo, rightHandOf, zOf, varianceOf, nodeOf};
 
 // The variogram from a place to each of the n wells.
-fn fill_gamma(coords: &[f64], variogram: Variogram, x: f64, y: f64, n: usize, b: &mut [f64])
-    requires { ⌜ (2 * n ≤ length (now coords)) × (n ≤ length (now b)) ⌝ }
+fn fill_gamma(
+    coords: &[f64],
+    variogram: Variogram,
+    table: &[u64; 512],
+    x: f64,
+    y: f64,
+    n: usize,
+    b: &mut [f64],
+)
+    requires { ⌜ (2 * n ≤ length (now coords)) × (n ≤ length (now b)) × (now table ≡ fractionTable) ⌝ }
     ensures { λ _. ⌜ now (b .exit) ≡ written 0 n (gammaTo variogram (now (coords .entry)) x y) (now (b .entry)) ⌝ }
 {
     for i in 0..n {
         let h = variogram::distance_2d(coords[2 * i], coords[2 * i + 1], x, y);
-        b[i] = variogram.evaluate(h);
+        b[i] = variogram.evaluate_by(table, h);
     }
 }
 
@@ -29,6 +38,7 @@ fn fill_right_hand(
     coords: &[f64],
     bases: &[u8],
     variogram: Variogram,
+    table: &[u64; 512],
     nodes: &[f64],
     node_external: &[f64],
     n: usize,
@@ -37,7 +47,7 @@ fn fill_right_hand(
     b: &mut [f64],
 )
     requires { ⌜ (2 * n ≤ length (now coords)) × (2 * q + 1 < length (now nodes)) × (externalCount (now bases) ≡ k)
-        × (q * k + k ≤ length (now «node_external»)) × (n + columnSum (now bases) ≤ length (now b)) ⌝ }
+        × (q * k + k ≤ length (now «node_external»)) × (n + columnSum (now bases) ≤ length (now b)) × (now table ≡ fractionTable) ⌝ }
     ensures { λ _. ⌜ take (n + columnSum (now (bases .entry))) (now (b .exit))
         ≡ rightHandOf n (gammaTo variogram (now (coords .entry)) (xOf (now (nodes .entry)) q) (yOf (now (nodes .entry)) q))
         (driftRow (now (bases .entry)) (xOf (now (nodes .entry)) q) (yOf (now (nodes .entry)) q)
@@ -45,7 +55,7 @@ fn fill_right_hand(
 {
     let x = nodes[2 * q];
     let y = nodes[2 * q + 1];
-    fill_gamma(coords, variogram, x, y, n, b);
+    fill_gamma(coords, variogram, table, x, y, n, b);
     crate::drift::fill_query_drift_row(bases, node_external, k, q, x, y, b, n);
 }
 
@@ -97,6 +107,7 @@ pub(crate) fn krige_node(
     coords: &[f64],
     bases: &[u8],
     options: UniversalKrigingOptions,
+    table: &[u64; 512],
     nodes: &[f64],
     node_external: &[f64],
     tolerance: f64,
@@ -110,7 +121,7 @@ pub(crate) fn krige_node(
     requires { ⌜ (2 * length (now values) ≤ length (now coords)) × (columnSum (now bases) ≡ p) × (externalCount (now bases) ≡ k)
         × (length (now values) + p ≤ 60) × (2 * q + 1 < length (now nodes)) × (q * k + k ≤ length (now «node_external»))
         × (2 * (length (now values) + p) * (length (now values) + p) ≤ length (now work))
-        × («finite_drift» ≡ driftFinite (length (now values)) p (entryIn (now drift) p)) ⌝ }
+        × («finite_drift» ≡ driftFinite (length (now values)) p (entryIn (now drift) p)) × (now table ≡ fractionTable) ⌝ }
     ensures places { λ r. ⌜ length (r .z) ≡ 60 ⌝ }
     ensures byte { λ r. ⌜ r .verdict < 256 ⌝ }
     ensures node { λ r. ⌜ ((external : List Float)
@@ -127,6 +138,7 @@ pub(crate) fn krige_node(
         coords,
         bases,
         options.variogram,
+        table,
         nodes,
         node_external,
         n,

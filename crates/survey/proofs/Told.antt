@@ -12,12 +12,15 @@ use Rattle.error.specs.Rules.{Told, no-more, tells}
 use Rattle.error.proofs.Rules.{joined}
 use Rattle.ieee.specs.Floats.{zeroFloat}
 use Rattle.variogram.specs.declared.Variogram.{Variogram}
-use Rattle.variogram.proofs.Model.{not-offered}
+use Rattle.variogram.specs.Model.{wrongModel}
+use Rattle.variogram.proofs.Model.{wrong-model}
 use Rattle.survey.specs.declared.Limits.{Limits}
 use Rattle.survey.specs.Survey.{Survey, wells, columns, externals}
-use Rattle.survey.specs.Rules.{WrongCoords, OddNodes, BadCode, SomeBadCode, BadAmount, WrongExternal, WrongNodeExternal, TooMany, VariogramNotFinite, NumberNotFinite}
+use Rattle.survey.specs.Rules.{WrongCoords, OddNodes, BadCode, SomeBadCode, BadAmount, WrongExternal, WrongNodeExternal}
+use Rattle.survey.specs.Rules.{TooMany, VariogramNotFinite, NumberNotFinite}
 use Rattle.survey.specs.Rules.{listRules, limitRules, numberRules, modelRules, surveyRules}
-use Rattle.survey.specs.Refusals.{wrongCoords, oddNodes, badCode, badAmount, wrongExternal, wrongNodeExternal, tooMany, variogramNotFinite, numberNotFinite, wrongModel}
+use Rattle.survey.specs.Refusals.{wrongCoords, oddNodes, badCode, badAmount, wrongExternal, wrongNodeExternal}
+use Rattle.survey.specs.Refusals.{tooMany, variogramNotFinite, numberNotFinite}
 use Rattle.survey.specs.Refusals.{listTests, limitTests, numberTests, modelTests, surveyTests}
 
 -- ---- test by test
@@ -84,7 +87,7 @@ number-told : (s : Survey) (e : List Float) → Told (numberTests s e) (numberRu
 number-told s e = tells 10 (amount-told (s .tolerance)) (tells 11 (numbers-told s e) no-more)
 
 pub model-told : (v : Variogram) → Told (modelTests v) (modelRules v)
-model-told v = tells 12 (told (wrongModel v) (not-offered (v .model))) no-more
+model-told v = tells 12 (told (wrongModel v) (wrong-model v)) no-more
 
 pub survey-told : (limits : Limits) (s : Survey) (m : ℕ) (e : List Float) → Told (surveyTests limits s m e) (surveyRules limits s m e)
 unfolding surveyTests

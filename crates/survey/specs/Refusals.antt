@@ -10,7 +10,7 @@ use Rattle.error.specs.Tests.{Test, test, any, firstOf}
 use Rattle.ieee.specs.Floats.{zeroFloat}
 use Rattle.ieee.specs.Finite.{allFinite}
 use Rattle.variogram.specs.declared.Variogram.{Variogram}
-use Rattle.variogram.specs.Model.{notOffered}
+use Rattle.variogram.specs.Model.{wrongModel}
 use Rattle.survey.specs.declared.Limits.{Limits}
 use Rattle.survey.specs.Survey.{Survey, wells, nodeCount, columns, externals}
 
@@ -66,10 +66,6 @@ numberNotFinite s e =
     || (not (allFinite (s .coords))
     || (not (allFinite (s .external)) || (not (allFinite (s .nodes)) || (ltb 0 (externals s) && not (allFinite e))))))
 
--- 12: "Exponential or Gaussian"
-abbrev pub wrongModel : Variogram → Bool
-wrongModel v = notOffered (v .model)
-
 -- ---- tests, in the order of the rules
 abbrev pub listTests : Survey → ℕ → List Float → List Test
 listTests s m e =
@@ -89,6 +85,7 @@ limitTests limits s m = test 9 (tooMany limits s m) ∷ []
 abbrev pub numberTests : Survey → List Float → List Test
 numberTests s e = test 10 (badAmount (s .tolerance)) ∷ test 11 (numberNotFinite s e) ∷ []
 
+-- 12: "an Exponential survey whose range is not above zero"
 abbrev pub modelTests : Variogram → List Test
 modelTests v = test 12 (wrongModel v) ∷ []
 

@@ -11,7 +11,7 @@ use Rattle.error.specs.Rules.{Rule, rule}
 use Rattle.ieee.specs.Floats.{zeroFloat}
 use Rattle.ieee.specs.Finite.{NotFinite, SomeNotFinite}
 use Rattle.variogram.specs.declared.Variogram.{Variogram}
-use Rattle.variogram.specs.Model.{NotOffered}
+use Rattle.variogram.specs.Model.{WrongModel}
 use Rattle.survey.specs.declared.Limits.{Limits}
 use Rattle.survey.specs.Survey.{Survey, wells, columns, externals}
 
@@ -71,10 +71,6 @@ NumberNotFinite s e =
     ⊎ SomeNotFinite (s .nodes)
     ⊎ ((0 < externals s) × SomeNotFinite e)
 
--- 12: "Exponential or Gaussian"
-abbrev pub WrongModel : Variogram → Type 0
-WrongModel v = NotOffered (v .model)
-
 -- ---- rules, in the order in which they count
 -- the lists
 abbrev pub listRules : Survey → ℕ → List Float → List Rule
@@ -97,7 +93,7 @@ limitRules limits s m = rule 9 (TooMany limits s m) ∷ []
 abbrev pub numberRules : Survey → List Float → List Rule
 numberRules s e = rule 10 (BadAmount (s .tolerance)) ∷ rule 11 (NumberNotFinite s e) ∷ []
 
--- the model
+-- the model: "12 now means an Exponential survey whose range is not above zero, and nothing else"
 abbrev pub modelRules : Variogram → List Rule
 modelRules v = rule 12 (WrongModel v) ∷ []
 

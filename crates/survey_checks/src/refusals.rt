@@ -180,15 +180,21 @@ pub fn number_refusal(
     Judgement::Accepted
 }
 
-// 12: the model.
+// 12: an Exponential model whose range is not above zero.
 pub fn model_refusal(v: Variogram) -> Judgement
     ensures { λ r. ⌜ judged r ≡ firstOf (modelTests v) ⌝ }
 {
     let model = v.model;
     match model {
         VariogramModel::Spherical => Judgement::Accepted,
-        VariogramModel::Exponential => Judgement::Refused(Refusal::Model),
-        VariogramModel::Gaussian => Judgement::Refused(Refusal::Model),
+        VariogramModel::Exponential => {
+            if v.range > 0.0 {
+                Judgement::Accepted
+            } else {
+                Judgement::Refused(Refusal::Model)
+            }
+        }
+        VariogramModel::Gaussian => Judgement::Accepted,
         VariogramModel::Linear => Judgement::Accepted,
     }
 }

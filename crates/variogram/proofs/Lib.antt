@@ -3,3 +3,4 @@ pub mod Squares
 pub mod Distance
 pub mod Itself
 pub mod Signs
+pub mod Exponents

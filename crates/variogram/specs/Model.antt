@@ -1,7 +1,14 @@
--- The variogram at a distance: paper 01, "Variogram", each operation rounded once and in the order in which it stands there. Assumes nothing.
-use mathlib.Core.Bool.{Bool, true, false, cond}
-use lib.Ieee.{Float, nan, binary64, add, sub, mul, div, lt, le, ofBits}
-use Rattle.ieee.specs.Floats.{zeroFloat, epsilon}
+-- The variogram at a distance: paper 01, "Variogram", and paper 02, "Exponential and Gaussian wells". Each operation is rounded once, in the order
+-- in which it stands there. Assumes nothing.
+use Prim.Native.Nat.{ℕ}
+use mathlib.Core.Path.{_≡_}
+use mathlib.Core.Bool.{Bool, true, false, not, cond}
+use mathlib.Core.List.{List}
+use lib.IntN.{ℤ}
+use lib.Ieee.{Float, nan, fin, binary64, add, sub, mul, div, lt, le, ofBits}
+use Rattle.ieee.specs.Floats.{zeroFloat, oneFloat, epsilon}
+use Rattle.ieee.specs.Values.{Signed}
+use Rattle.exponential.specs.Exponential.{expNeg, expNegBy}
 use Rattle.variogram.specs.declared.Variogram.{Variogram}
 use Rattle.variogram.specs.declared.VariogramModel.{VariogramModel}
 use Rattle.variogram.specs.declared.VariogramModel.the-variants.{Spherical, Exponential, Gaussian, Linear}
@@ -30,25 +37,57 @@ spherical nugget sill range h =
 unfoldable pub linear : Float → Float → Float → Float → Float
 linear nugget sill range h = add binary64 nugget (mul binary64 (div binary64 sill range) (cond (lt h range) h range))
 
--- Past the zero test, by the model. "Outside: the Exponential and Gaussian models": a NaN stands for them.
-abbrev pub ofModel : VariogramModel → Float → Float → Float → Float → Float
-ofModel Spherical = spherical
-ofModel Exponential = λ nugget sill range h. nan
-ofModel Gaussian = λ nugget sill range h. nan
-ofModel Linear = linear
+-- "Both follow the formulas of source document 000": "self.nugget + partial_sill * (1.0 - (..).exp())", with "partial_sill = self.sill - self.nugget"
+-- and e for the power of e
+abbrev pub towardsSill : Float → Float → Float → Float
+towardsSill nugget sill e = add binary64 nugget (mul binary64 (sub binary64 sill nugget) (sub binary64 oneFloat e))
 
--- "0 if h < 2^-52", of every model
+-- Exponential, "(-h / self.range).exp()": e^−u for u = h / range
+unfoldable pub exponentialModel : (Float → Float) → Float → Float → Float → Float → Float
+exponentialModel exp nugget sill range h = towardsSill nugget sill (exp (div binary64 h range))
+
+-- Gaussian, "(-(h * h) / (self.range * self.range)).exp()": e^−u for u = h·h over range·range
+unfoldable pub gaussian : (Float → Float) → Float → Float → Float → Float → Float
+gaussian exp nugget sill range h = towardsSill nugget sill (exp (div binary64 (mul binary64 h h) (mul binary64 range range)))
+
+-- past the zero test, by the model
+abbrev pub ofModel : (Float → Float) → VariogramModel → Float → Float → Float → Float → Float
+ofModel exp Spherical = spherical
+ofModel exp Exponential = exponentialModel exp
+ofModel exp Gaussian = gaussian exp
+ofModel exp Linear = linear
+
+-- "0 if h < 2^-52", of every model, for an e^−u
+unfoldable pub semivarianceWith : (Float → Float) → Variogram → Float → Float
+unfolding spherical exponentialModel gaussian linear
+semivarianceWith exp v h = cond (lt h epsilon) zeroFloat (ofModel exp (v .model) (v .nugget) (v .sill) (v .range) h)
+
+-- the variogram, with e^−u itself
 unfoldable pub semivariance : Variogram → Float → Float
-unfolding spherical linear
-semivariance v h = cond (lt h epsilon) zeroFloat (ofModel (v .model) (v .nugget) (v .sill) (v .range) h)
+unfolding semivarianceWith expNeg
+semivariance v h = semivarianceWith expNeg v h
 
--- "12 Exponential or Gaussian": what a call that takes a model refuses, as a test and as the paper says it
-abbrev pub notOffered : VariogramModel → Bool
-notOffered Spherical = false
-notOffered Exponential = true
-notOffered Gaussian = true
-notOffered Linear = false
+-- and with e^−u by a table that is lent
+unfoldable pub semivarianceBy : List ℕ → Variogram → Float → Float
+unfolding semivarianceWith expNegBy
+semivarianceBy lent v h = semivarianceWith (expNegBy lent) v h
 
-pub data NotOffered : VariogramModel → Type 0 where
-  exponential : NotOffered Exponential
-  gaussian : NotOffered Gaussian
+-- "12 now means an Exponential survey whose range is not above zero, and nothing else": as a test
+abbrev pub wrongRange : VariogramModel → Float → Bool
+wrongRange Spherical range = false
+wrongRange Exponential range = not (lt zeroFloat range)
+wrongRange Gaussian range = false
+wrongRange Linear range = false
+
+abbrev pub wrongModel : Variogram → Bool
+wrongModel v = wrongRange (v .model) (v .range)
+
+-- and as the paper says it. "not above zero": a zero of either sign, or whatever has a minus; a NaN is not above zero either, but 11 comes before
+pub data NotAboveZero : Float → Type 0 where
+  a-zero : (s : Bool) (e : ℤ) → NotAboveZero (fin s 0 e)
+  negative : {x : Float} → Signed true x → NotAboveZero x
+  not-a-number : NotAboveZero nan
+
+pub record WrongModel (v : Variogram) : Type 0 where
+  pub model-is : v .model ≡ Exponential
+  pub range-is : NotAboveZero (v .range)

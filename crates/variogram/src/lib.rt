@@ -4,10 +4,10 @@ ghost use Prim.Native.Nat.{_+_, _≤_, _<_};
 ghost use lib.ListN.{length};
 ghost use lib.Dec.{ltb};
 ghost use lib.Ieee.{nan};
-ghost use Rattle.variogram.specs.Model.{variogram, semivariance};
+ghost use Rattle.variogram.specs.Model.{variogram, semivariance, semivarianceBy};
 ghost use Rattle.variogram.specs.Distance.{squaredDistance2d, distance2d, squares, axisFrom, hasPoint, distance};
 
-// Variogram models, in the Rust's order. The base offers Spherical and Linear.
+// Variogram models, in the Rust's order.
 pub enum VariogramModel {
     Spherical,
     Exponential,
@@ -23,7 +23,7 @@ pub struct Variogram {
     pub model: VariogramModel,
 }
 
-// What a call outside the base gets: a model that is not offered, a dimension, a place past the end.
+// What a dimension that is not offered and a place past the end get.
 fn not_a_number() -> f64
     ensures { λ r. ⌜ r ≡ nan ⌝ }
 {
@@ -49,22 +49,35 @@ impl Variogram {
     pub fn evaluate(self, h: f64) -> f64
         ensures { λ r. ⌜ r ≡ semivariance self h ⌝ }
     {
+        let table = exponential::fraction_table();
+        self.evaluate_by(&table, h)
+    }
+
+    // The same by a table of e^−u that is lent, for a caller that evaluates many: `exponential::fraction_table`'s.
+    pub fn evaluate_by(self, lent: &[u64; 512], h: f64) -> f64
+        ensures { λ r. ⌜ r ≡ semivarianceBy (now (lent .entry)) self h ⌝ }
+    {
         if h < Self::EPSILON {
             return 0.0;
         }
+        let partial_sill = self.sill - self.nugget;
         let model = self.model;
         match model {
             VariogramModel::Spherical => {
                 if h >= self.range {
                     self.sill
                 } else {
-                    let partial_sill = self.sill - self.nugget;
                     let h_r = h / self.range;
                     self.nugget + partial_sill * (1.5 * h_r - 0.5 * (h_r * (h_r * h_r)))
                 }
             }
-            VariogramModel::Exponential => not_a_number(),
-            VariogramModel::Gaussian => not_a_number(),
+            VariogramModel::Exponential => {
+                self.nugget + partial_sill * (1.0 - exponential::exp_neg_by(lent, h / self.range))
+            }
+            VariogramModel::Gaussian => {
+                let u = (h * h) / (self.range * self.range);
+                self.nugget + partial_sill * (1.0 - exponential::exp_neg_by(lent, u))
+            }
             VariogramModel::Linear => {
                 let slope = self.sill / self.range;
                 self.nugget + slope * ieee::min(h, self.range)

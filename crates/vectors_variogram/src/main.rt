@@ -33,6 +33,8 @@ fn along(x: [f64; 6], d: usize) -> f64 {
 fn answer(call: u64, x: [f64; 6]) -> u64 {
     match call {
         1 => patterns::pattern(evaluated(VariogramModel::Spherical, x)),
+        2 => patterns::pattern(evaluated(VariogramModel::Exponential, x)),
+        3 => patterns::pattern(evaluated(VariogramModel::Gaussian, x)),
         4 => patterns::pattern(evaluated(VariogramModel::Linear, x)),
         11 => patterns::pattern(along(x, 1)),
         12 => patterns::pattern(along(x, 2)),

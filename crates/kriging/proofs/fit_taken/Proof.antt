@@ -1,6 +1,6 @@
 -- `kriging::fit_taken` meets its contract: F and the matrix are the paper's, and the call ends as its elimination does. Assumes nothing.
 use Prim.Native.Nat.{ℕ, _+_, _*_, _≤_, _<_}
-use mathlib.Core.Path.{_≡_, refl, ap, sym, _∙_, subst}
+use mathlib.Core.Path.{_≡_, ap, sym, _∙_, subst}
 use mathlib.Core.Bool.{true}
 use mathlib.Core.List.{List}
 use native.Mathlib.Omega.{arith}
@@ -17,46 +17,18 @@ use Rattle.elimination.specs.Inverse.{laid}
 use Rattle.elimination.specs.Call.{afterElimination}
 use Rattle.elimination.proofs.Laid.{kept-laid}
 use Rattle.elimination.proofs.Stops.{refused-exactly}
-use Rattle.survey.specs.Survey.{Survey, surveyOf, wells, columns, size, xOf, yOf}
-use Rattle.fit.specs.Areas.{Areas, areasOf}
-use Rattle.fit.specs.Drift.{DriftIn, driftRow, drift}
+use Rattle.survey.specs.Survey.{Survey, wells, columns, size}
+use Rattle.fit.specs.Drift.{DriftIn, drift}
 use Rattle.fit.specs.Assembly.{between, joined, entry, assembled}
 use Rattle.fit.specs.Fit.{answered}
 use Rattle.kriging.proofs.Taken.{few-wells, few-columns, columns-counted, coords-twice, externals-whole, node-externals}
 use Rattle.kriging.proofs.Taken.{work-long, predicted-long, variance-long, verdicts-long, weights-long, coefficients-long}
 use Rattle.kriging.proofs.Fitting.{drift-laid, matrix-laid, taken-there}
+use Rattle.kriging.proofs.fit_taken.Proof.States.{at-entry, at-table, at-columns, at-laid, at-drift, at-matrix, at-ended, at-done, at-solved, at-nodes}
+use Rattle.kriging.proofs.fit_taken.Proof.States.{survey-of, areas-of}
 use Rattle.kriging.proofs.fit_taken.Statement.{statement}
 use Rattle.kriging.proofs.fit_taken.Tie as tie
-
--- The states that the needs look back to, in the order of the code: a name takes a later state back to its own.
-abbrev at-areas : tie.After-drift-columns → tie.After-slice-known
-at-areas c = c .before .before .before .before .before .before
-
-abbrev at-lists : tie.After-slice-known → tie.After-shared-slice-known
-at-lists c = c .before .before .before .before .before .before
-
-abbrev at-entry : tie.After-drift-columns → tie.Start
-at-entry c = at-lists (at-areas c) .before
-
-abbrev at-columns : tie.After-fill-drift → tie.After-drift-columns
-at-columns c = c .before .before
-
-abbrev at-drift : tie.After-assemble → tie.After-fill-drift
-at-drift c = c .before .before .before .before
-
-abbrev at-matrix : tie.After-gauss-jordan-invert-uked → tie.After-assemble
-at-matrix c = c .before .before .before .before
-
--- the survey and the areas that came
-abbrev survey-of : tie.After-drift-columns → Survey
-survey-of c =
-    let a = at-entry c .args in
-    surveyOf (a .values .now) (a .coords .now) (a .bases .now) (a .external .now) (a .nodes .now) (a .node-external .now) (a .options) (a .tolerance)
-
-abbrev areas-of : tie.After-drift-columns → Areas
-areas-of c =
-    let a = at-entry c .args in
-    areasOf (a .work .now) (a .predicted .now) (a .variance .now) (a .verdicts .now) (a .weights .now) (a .coefficients .now)
+mod States
 
 -- p is counted
 counted : (c : tie.After-drift-columns) → c .drift-columns .result ≡ columns (survey-of c)
@@ -75,6 +47,10 @@ fits c =
 drift-columns-requires : tie.Need-drift-columns-requires
 drift-columns-requires c κs = search needs
 
+-- let table = exponential::fraction_table();
+fraction-table-requires : tie.Need-fraction-table-requires
+fraction-table-requires c κs = search needs
+
 -- fill_drift(bases, external, coords, n, p, &mut drift);
 slice-aggregate-fill-drift : tie.Need-slice-aggregate-fill-drift
 slice-aggregate-fill-drift c = search needs
@@ -84,14 +60,14 @@ abbrev F-of : tie.After-fill-drift → List Float
 F-of c = c .fill-drift .last .1 .1 .1 .1 .1 .0
 
 -- F in its list, and the matrix in the work area, are the paper's
-drift-in : (c : tie.After-fill-drift) → DriftIn (survey-of (at-columns c)) (c .fill-drift .last .1 .1 .1 .1 .1 .0)
+drift-in : (c : tie.After-fill-drift) → DriftIn (survey-of (at-columns c)) (F-of c)
 drift-in c =
     let d = at-columns c in
     let s = survey-of d in
     drift-laid s _ _ (fits d) (c .fill-drift .ensures ∙ ap (λ (p : ℕ). filled p (wells s) (drift s) _) (counted d))
 
 matrix-in : (c : tie.After-assemble) → let d = at-columns (at-drift c) in
-    c .assemble .last .1 .1 .1 .1 .1 .0 ≡ assembled (survey-of d) (at-entry d .args .work .now)
+    c .assemble .last .1 .1 .1 .1 .1 .1 .0 ≡ assembled (survey-of d) (at-entry d .args .work .now)
 matrix-in c =
     let f = at-drift c in
     let d = at-columns f in
@@ -100,7 +76,7 @@ matrix-in c =
     ∙ ap
     (λ (p : ℕ). laid (wells s + p) (joined (wells s) (between (s .options) (s .coords)) (λ i j. getD (F-of f) (i * p + j) nan)) (at-entry d .args .work .now))
     (counted d)
-    ∙ matrix-laid s (f .fill-drift .last .1 .1 .1 .1 .1 .0) (at-entry d .args .work .now) (drift-in f)
+    ∙ matrix-laid s (F-of f) (at-entry d .args .work .now) (drift-in f)
 
 -- the elimination is that of the definition
 eliminated-in : (c : tie.After-gauss-jordan-invert-uked) → let d = at-columns (at-drift (at-matrix c)) in
@@ -111,7 +87,7 @@ eliminated-in c =
     let d = at-columns (at-drift m) in
     let s = survey-of d in
     c .gauss-jordan-invert-uked .ensures
-    ∙ ap (λ (p : ℕ). elimination.eliminated true (wells s + p) (m .assemble .last .1 .1 .1 .1 .1 .0)) (counted d)
+    ∙ ap (λ (p : ℕ). elimination.eliminated true (wells s + p) (m .assemble .last .1 .1 .1 .1 .1 .1 .0)) (counted d)
     ∙ ap (λ (xs : List Float). elimination.eliminated true (size s) xs) (matrix-in m)
 
 -- an area that holds the matrix is not too short for the elimination
@@ -120,7 +96,7 @@ not-short s w h l = omega (arith, kept-laid (size s) (entry s) w .len)
 
 fill-drift-requires : tie.Need-fill-drift-requires
 fill-drift-requires c κs =
-    let d = c .before in
+    let d = c .before .before in
     let s = survey-of d in
     let a = areas-of d in
     let t = at-entry d .pre in
@@ -128,13 +104,13 @@ fill-drift-requires c κs =
     let k = coords-twice s a t in
     (sym (counted d), omega arith, omega arith, subst (λ (p : ℕ). wells s * p ≤ 576) (sym (counted d)) (fits d))
 
--- assemble(coords, options, &drift, n, p, work);
+-- assemble(coords, options, &table, &drift, n, p, work);
 slice-aggregate-assemble : tie.Need-slice-aggregate-assemble
 slice-aggregate-assemble c = search needs
 
 assemble-requires : tie.Need-assemble-requires
 assemble-requires c κs =
-    let f = c .before .before .before in
+    let f = at-laid c in
     let d = at-columns f in
     let s = survey-of d in
     let a = areas-of d in
@@ -142,8 +118,9 @@ assemble-requires c κs =
     let k = coords-twice s a t in
     let F = f .fill-drift .kept .1 .1 .1 .1 .1 .0 in (
       omega arith,
-      subst (λ (p : ℕ). wells s * p ≤ length (f .fill-drift .last .1 .1 .1 .1 .1 .0)) (sym (counted d)) (omega (arith, fits d, F)),
+      subst (λ (p : ℕ). wells s * p ≤ length (F-of f)) (sym (counted d)) (omega (arith, fits d, F)),
       subst (λ (p : ℕ). 2 * (wells s + p) * (wells s + p) ≤ length (at-entry d .args .work .now)) (sym (counted d)) (work-long s a t),
+      at-table f .fraction-table .ensures,
     )
 
 -- match elimination::gauss_jordan_invert_uked(work, n + p) {
@@ -160,15 +137,6 @@ enum-told c = search needs
 slice-aggregate-krige-nodes : tie.Need-slice-aggregate-krige-nodes
 slice-aggregate-krige-nodes c = search needs
 
-abbrev at-half-lent : tie.After-krige-nodes-arg6 → tie.After-krige-nodes-arg2
-at-half-lent c = c .before .before .before .before
-
-abbrev at-done : tie.After-krige-nodes-arg6 → tie.After-enum-told
-at-done c = at-half-lent c .before .before .before
-
-abbrev at-solved : tie.After-krige-nodes-arg6 → tie.After-gauss-jordan-invert-uked
-at-solved c = at-done c .before .before .before .before
-
 -- krige_nodes(
 krige-nodes-requires : tie.Need-krige-nodes-requires
 krige-nodes-requires c κs =
@@ -184,12 +152,13 @@ krige-nodes-requires c κs =
       omega (arith, counted d, few-wells s a t, few-columns s a t),
       node-externals s a t,
       subst (λ (p : ℕ). 2 * (wells s + p) * (wells s + p) ≤ length (g .gauss-jordan-invert-uked .last .0)) (sym (counted d))
-          (omega (arith, work-long s a t, g .gauss-jordan-invert-uked .kept .0, at-matrix g .assemble .kept .1 .1 .1 .1 .1 .0)),
+          (omega (arith, work-long s a t, g .gauss-jordan-invert-uked .kept .0, at-matrix g .assemble .kept .1 .1 .1 .1 .1 .1 .0)),
       predicted-long s a t,
       variance-long s a t,
       verdicts-long s a t,
       weights-long s a t,
       subst (λ (p : ℕ). p ≤ length (at-entry d .args .coefficients .now)) (sym (counted d)) (coefficients-long s a t),
+      at-table f .fraction-table .ensures,
     )
 
 -- Elimination::Stopped(_) => Fit::Refused(Refusal::Singular),
@@ -199,12 +168,6 @@ enum-told-2 c = search needs
 -- Elimination::TooShort => Fit::Refused(Refusal::WorkArea), // the work area was looked at before
 enum-told-3 : tie.Need-enum-told-3
 enum-told-3 c = search needs
-
-abbrev at-half-back : tie.After-slice-known13 → tie.After-verdicts
-at-half-back c = c .before .before .before .before .before
-
-abbrev at-nodes : tie.After-slice-known13 → tie.After-krige-nodes
-at-nodes c = at-half-back c .before .before .before .before .before
 
 -- fn fit_taken(
 same-length : tie.Need-same-length
@@ -244,7 +207,7 @@ same-length-7 c = search needs
 returns-2 : tie.Need-returns-2
 unfolding afterElimination
 returns-2 c =
-    let g = c .before .before .before .before in
+    let g = at-ended (c .before .before) in
     let d = at-columns (at-drift (at-matrix g)) in
     taken-there (survey-of d) (areas-of d) (Stopped _) (g .gauss-jordan-invert-uked .last .0) (at-entry d .pre)
     (ap (λ (r : Elimination). elimination.outcomeOf r (g .gauss-jordan-invert-uked .last .0)) (sym (c .enum-told2 .given .1)) ∙ eliminated-in g)
@@ -254,7 +217,7 @@ same-length-8 c = search needs
 
 returns-3 : tie.Need-returns-3
 returns-3 c =
-    let g = c .before .before .before .before in
+    let g = at-ended (c .before .before) in
     let d = at-columns (at-drift (at-matrix g)) in
     let s = survey-of d in
     let w = at-entry d .args .work .now in
@@ -267,6 +230,7 @@ fit-taken-spec =
     tie.close
     (tie.spec
     drift-columns-requires
+    fraction-table-requires
     slice-aggregate-fill-drift
     fill-drift-requires
     slice-aggregate-assemble

@@ -1,7 +1,6 @@
--- `kriging::universal_kriging_fit` meets its contract: turned away as its rules say, or fitted; all that the contract says follows from the equation. Assumes nothing.
+-- `kriging::universal_kriging_fit` meets its contract: turned away by its rules, or fitted; all that it says follows from the equation. Assumes nothing.
 use mathlib.Core.Path.{_≡_, ap, sym, _∙_}
 use borrow.Author.Needs.{needs}
-use Rattle.error.specs.declared.Judgement.{Judgement}
 use Rattle.error.specs.Numbers.{judged}
 use Rattle.survey.specs.declared.Limits.{Limits}
 use Rattle.survey.specs.Limits.{base}
@@ -14,26 +13,46 @@ use Rattle.kriging.proofs.universal_kriging_fit.Statement.{statement}
 use Rattle.kriging.proofs.universal_kriging_fit.Tie as tie
 
 -- The states that the needs look back to, in the order of the code: a name takes a later state back to its own.
-abbrev at-half-lent : tie.After-fit-refusal → tie.After-fit-refusal-arg3
-at-half-lent c = c .before .before .before .before
+abbrev at-half-lent : tie.After-fit-refusal → tie.After-fit-refusal-arg4
+at-half-lent c = c .before .before .before
+
+abbrev at-first-lent : tie.After-fit-refusal → tie.After-fit-refusal-arg
+at-first-lent c = at-half-lent c .before .before .before
 
 abbrev at-limits : tie.After-fit-refusal → tie.After-base
-at-limits c = at-half-lent c .before .before .before
+at-limits c = at-first-lent c .before
 
-abbrev at-areas : tie.After-base → tie.After-slice-known
-at-areas c = c .before .before .before .before .before .before
+-- the lists and the areas, each known by its elements
+abbrev at-lists : tie.After-shared-slice-known6 → tie.After-shared-slice-known3
+at-lists c = c .before .before .before
 
-abbrev at-lists : tie.After-slice-known → tie.After-shared-slice-known
-at-lists c = c .before .before .before .before .before .before
+abbrev at-areas : tie.After-slice-known6 → tie.After-slice-known3
+at-areas c = c .before .before .before
+
+abbrev at-last-list : tie.After-slice-known6 → tie.After-shared-slice-known6
+at-last-list c = at-areas c .before .before .before
 
 abbrev at-entry : tie.After-fit-refusal → tie.Start
-at-entry c = at-lists (at-areas (at-limits c)) .before
+at-entry c = at-lists (at-last-list (at-limits c .before)) .before .before .before
 
-abbrev at-half-back : tie.After-slice-known12 → tie.After-slice-known9
-at-half-back c = c .before .before .before .before .before .before
+-- the fit of what is taken: what is lent to it, and how it comes back
+abbrev at-areas-lent : tie.After-fit-taken-arg6 → tie.After-fit-taken-arg3
+at-areas-lent c = c .before .before .before
 
 abbrev at-taken : tie.After-fit-taken-arg6 → tie.After-enum-told
-at-taken c = c .before .before .before .before .before .before
+at-taken c = at-areas-lent c .before .before .before
+
+abbrev at-weights : tie.After-slice-known12 → tie.After-weights
+at-weights c = c .before .before .before
+
+abbrev at-verdicts : tie.After-weights → tie.After-slice-known9
+at-verdicts c = c .before .before .before
+
+abbrev at-predicted : tie.After-slice-known9 → tie.After-predicted
+at-predicted c = c .before .before .before
+
+abbrev at-fitted : tie.After-slice-known12 → tie.After-fit-taken
+at-fitted c = at-predicted (at-verdicts (at-weights c)) .before .before .before
 
 -- the survey and the areas that came
 abbrev survey-of : tie.After-fit-refusal → Survey
@@ -119,7 +138,7 @@ same-length-12 c = search needs
 
 returns-2 : tie.Need-returns-2
 returns-2 c =
-    let t = at-half-back c .before .before .before .before .before .before in
+    let t = at-fitted c in
     let f = at-taken (t .before) .before .before in
     promised (survey-of f) (areas-of f) (t .fit-taken .ensures)
 

@@ -67,13 +67,16 @@ at-work c = c .before .before .before
 abbrev at-matrix : tie.After-solve-kriging-system → tie.After-build-covariance-matrix
 at-matrix c = at-work c .before
 
+abbrev at-table : tie.After-solve-kriging-system → tie.After-fraction-table
+at-table c = at-matrix c .before .before .before
+
 abbrev at-terms : tie.After-solve-kriging-system → tie.After-trend-terms
-at-terms c = at-matrix c .before .before
+at-terms c = at-table c .before
 
 abbrev at-inverse : tie.After-slice-known5 → tie.After-solve-kriging-system
 at-inverse c = c .before .before
 
-abbrev at-done : tie.After-interpolate-points-arg3 → tie.After-enum-told2
+abbrev at-done : tie.After-interpolate-points-arg2 → tie.After-enum-told2
 at-done c = c .before .before .before
 
 abbrev at-figures : tie.After-slice-known7 → tie.After-figures
@@ -107,14 +110,14 @@ work-long c = subst (λ (s : ℕ). 2 * s * s ≤ length (at-accepted c .args .wo
 
 -- what the work area holds after the assembly, and after the elimination
 abbrev assembled : tie.After-build-covariance-matrix → List Float
-assembled c = c .build-covariance-matrix .last .1 .1 .1 .1 .1 .0
+assembled c = c .build-covariance-matrix .last .1 .1 .1 .1 .1 .1 .0
 
 abbrev finished : tie.After-solve-kriging-system → List Float
 finished c = c .solve-kriging-system .last .0
 
 -- it keeps its length, and the elimination, as it ended, is that of the matrix
 kept-long : (c : tie.After-solve-kriging-system) → length (finished c) ≡ length (at-accepted (at-terms c) .args .work .now)
-kept-long c = c .solve-kriging-system .kept .0 ∙ at-matrix c .build-covariance-matrix .kept .1 .1 .1 .1 .1 .0
+kept-long c = c .solve-kriging-system .kept .0 ∙ at-matrix c .build-covariance-matrix .kept .1 .1 .1 .1 .1 .1 .0
 
 ended : (c : tie.After-solve-kriging-system) (o : Elimination) → c .solve-kriging-system .result ≡ o
     → outcomeOf o (finished c) ≡ eliminated false (size-of (at-terms c)) (assembled (at-matrix c))
@@ -161,12 +164,17 @@ trend-terms-requires c κs = search needs
 add-size : tie.Need-add-size
 add-size c = omega (arith, c .trend-terms .ensures, added-few (at-accepted c .args .self .«kriging_type»))
 
--- assembly::build_covariance_matrix(self, values, points, d, size, work);
+-- let table = exponential::fraction_table();
+fraction-table-requires : tie.Need-fraction-table-requires
+fraction-table-requires c κs = search needs
+
+-- assembly::build_covariance_matrix(self, &table, values, points, d, size, work);
 build-covariance-matrix-requires : tie.Need-build-covariance-matrix-requires
 build-covariance-matrix-requires c κs =
-    let t = c .before in
+    let f = c .before .before in
+    let t = f .before in
     let k = known-of t in
-    (sized t, k .surface, omega (arith, k .points), work-long t)
+    (sized t, k .surface, omega (arith, k .points), work-long t, f .fraction-table .ensures)
 
 -- let elimination = assembly::solve_kriging_system(work, size);
 solve-kriging-system-requires : tie.Need-solve-kriging-system-requires
@@ -179,13 +187,14 @@ enum-told-2 c = search needs
 -- point::interpolate_points(..);
 interpolate-points-requires : tie.Need-interpolate-points-requires
 interpolate-points-requires c κs =
-    let v = at-inverse (at-done c .before .before) in
+    let v = at-inverse (at-done (c .before) .before .before) in
     let t = at-terms v in
     let s = at-accepted t in
     let k = known-of t in
     let few = few-wells base (query s) (areas s) (none-applies (t .before)) in
     let terms = added-few (s .args .self .«kriging_type») in
-    (sized t, k .surface, k .axes, omega (arith, few, terms, t .trend-terms .ensures), omega (arith, work-long t, kept-long v), k .figures, k .variances)
+    let own = at-table v .fraction-table .ensures in
+    (sized t, k .surface, k .axes, omega (arith, few, terms, t .trend-terms .ensures), omega (arith, work-long t, kept-long v), k .figures, k .variances, own)
 
 -- Elimination::Stopped(_)
 enum-told-3 : tie.Need-enum-told-3
@@ -208,7 +217,7 @@ same-length-6 c = search needs
 returns-2 : tie.Need-returns-2
 returns-2 c =
     let p = at-figures c .before in
-    let d = at-done (p .before) in
+    let d = at-done (p .before .before) in
     let v = at-inverse (d .before .before) in
     let t = at-terms v in
     let s = at-accepted t in
@@ -269,6 +278,7 @@ interpolate-spec =
     enum-told
     trend-terms-requires
     add-size
+    fraction-table-requires
     build-covariance-matrix-requires
     solve-kriging-system-requires
     enum-told-2

@@ -15,12 +15,12 @@ use Rattle.interpolator.proofs.assembly.build_covariance_matrix.Stateme
 use Rattle.interpolator.proofs.assembly.build_covariance_matrix.Tie as tie
 
 abbrev Inv-loop : tie.InvT-loop
-Inv-loop interpolator values points d size work₀ i₀ work i =
+Inv-loop interpolator table values points d size work₀ i₀ work i =
     (i ≤ size) × (length work ≡ length work₀)
     × (work ≡ filled (2 * size) i (besideIdentity size (entry (known interpolator values points d))) work₀)
 
 abbrev μ-loop : tie.MeasureT-loop
-μ-loop interpolator values points d size work₀ i₀ work i = size - i
+μ-loop interpolator table values points d size work₀ i₀ work i = size - i
 
 -- The states that the needs look back to, in the order of the code: a name takes a later state back to its own.
 abbrev State : (tie.InvT-loop → tie.MeasureT-loop → Type 0) → Type 0
@@ -45,7 +45,7 @@ wide s = let a = s .args in width-inside (a .size) (length (a .work .now)) (s .p
 loop-holds : tie.Need-loop-holds Inv-loop μ-loop
 loop-holds c = (omega arith, refl, refl)
 
--- fill_matrix_row(interpolator, values, points, d, size, i, work);
+-- fill_matrix_row(interpolator, table, values, points, d, size, i, work);
 fill-matrix-row-requires : tie.Need-fill-matrix-row-requires Inv-loop μ-loop
 fill-matrix-row-requires c κs =
     let h = at-turn c in
@@ -59,6 +59,7 @@ fill-matrix-row-requires c κs =
       p .2,
       omega (arith, p .3, l .inv .1),
       λ j b. laid-above (a .size) m (a .work .now) (l .work) (l .i) j (p .3) (omega arith) b (l .inv .2),
+      p .4,
     )
 
 -- for i in 0..size
@@ -77,7 +78,7 @@ loop-again c =
     let s = a .size in
     let e = besideIdentity s (entry (known (a .interpolator) (a .values .now) (a .points .now) (a .d))) in (
       omega arith,
-      f .fill-matrix-row .kept .1 .1 .1 .1 .1 .1 .0 ∙ l .inv .1,
+      f .fill-matrix-row .kept .1 .1 .1 .1 .1 .1 .1 .0 ∙ l .inv .1,
       next-row (2 * s) (l .i) e (a .work .now) (l .work) _ (l .inv .2) (f .fill-matrix-row .ensures),
     )
 

@@ -16,7 +16,7 @@ at-entry c = c .before .before .before
 abbrev query : tie.Start → Query
 query c = let a = c .args in known (a .interpolator) (a .values .now) (a .points .now) (a .d)
 
--- return covariance(interpolator.variogram, points, i, ys, j, d);
+-- return covariance(interpolator.variogram, table, points, i, ys, j, d);
 covariance-requires : tie.Need-covariance-requires
 covariance-requires c κs = search needs
 

@@ -1,8 +1,11 @@
--- `interpolator::assembly::covariance` meets its contract: the variogram at the distance, taken from the sill. Assumes nothing.
+-- `interpolator::assembly::covariance` meets its contract: the variogram at the distance, by the table itself, taken from the sill. Assumes nothing.
+use Prim.Native.Nat.{ℕ}
 use mathlib.Core.Path.{ap, _∙_}
+use mathlib.Core.List.{List}
 use borrow.Author.Needs.{needs}
 use lib.Ieee.{Float, binary64, sub}
-use Rattle.variogram.specs.Model.{semivariance}
+use Rattle.variogram.specs.Model.{semivariance, semivarianceBy}
+use Rattle.variogram.proofs.Model.{by-own-table}
 use Rattle.interpolator.proofs.assembly.covariance.Statement.{statement}
 use Rattle.interpolator.proofs.assembly.covariance.Tie as tie
 
@@ -14,15 +17,18 @@ at-entry c = c .before .before .before
 calculate-distance-requires : tie.Need-calculate-distance-requires
 calculate-distance-requires c κs = search needs
 
--- variogram.sill - variogram.evaluate(dist)
-evaluate-requires : tie.Need-evaluate-requires
-evaluate-requires c κs = search needs
+-- variogram.sill - variogram.evaluate_by(table, dist)
+evaluate-by-requires : tie.Need-evaluate-by-requires
+evaluate-by-requires c κs = search needs
 
 returns : tie.Need-returns
 returns c =
     let e = c .before in
-    let v = at-entry (e .before) .args .variogram in
-    ap (λ (x : Float). sub binary64 (v .sill) x) (e .evaluate .ensures ∙ ap (semivariance v) (e .before .calculate-distance .ensures))
+    let s = at-entry (e .before) in
+    let v = s .args .variogram in
+    let h = e .before .calculate-distance .result in
+    let by-table = e .evaluate-by .ensures ∙ ap (λ (lent : List ℕ). semivarianceBy lent v h) (s .pre) ∙ by-own-table v h in
+    ap (λ (x : Float). sub binary64 (v .sill) x) (by-table ∙ ap (semivariance v) (e .before .calculate-distance .ensures))
 
 pub covariance-spec : {M : Type 1} → statement M
-covariance-spec = tie.close (tie.spec calculate-distance-requires evaluate-requires returns)
+covariance-spec = tie.close (tie.spec calculate-distance-requires evaluate-by-requires returns)

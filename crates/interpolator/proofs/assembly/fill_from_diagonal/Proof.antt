@@ -13,12 +13,12 @@ use Rattle.interpolator.proofs.assembly.fill_from_diagonal.Statement.{s
 use Rattle.interpolator.proofs.assembly.fill_from_diagonal.Tie as tie
 
 abbrev Inv-loop : tie.InvT-loop
-Inv-loop interpolator values points d size i work₀ row j₀ work j =
+Inv-loop interpolator table values points d size i work₀ row j₀ work j =
     (i ≤ j) × (j ≤ size) × (row ≡ i * (2 * size)) × (length work ≡ length work₀)
     × (work ≡ written (i * (2 * size) + i) (j - i) (λ c. entry (known interpolator values points d) i (i + c)) work₀)
 
 abbrev μ-loop : tie.MeasureT-loop
-μ-loop interpolator values points d size i work₀ row j₀ work j = size - j
+μ-loop interpolator table values points d size i work₀ row j₀ work j = size - j
 
 -- The states that the needs look back to, in the order of the code: a name takes a later state back to its own.
 abbrev State : (tie.InvT-loop → tie.MeasureT-loop → Type 0) → Type 0
@@ -46,11 +46,11 @@ loop-holds c =
     let none : 0 ≡ i - i = omega arith in
     (omega arith, omega arith, refl, refl, all-turns _ _ _ none refl)
 
--- work[row + j] = matrix_entry(interpolator, values, points, d, i, j);
+-- work[row + j] = matrix_entry(interpolator, table, values, points, d, i, j);
 matrix-entry-requires : tie.Need-matrix-entry-requires Inv-loop μ-loop
 matrix-entry-requires c κs =
     let p = at-entry (c .before) .pre in
-    (omega (arith, p .0, p .1), omega (arith, p .1, c .loop-test .taken), p .2, p .3)
+    (omega (arith, p .0, p .1), omega (arith, p .1, c .loop-test .taken), p .2, p .3, p .5)
 
 add-work : tie.Need-add-work Inv-loop μ-loop
 add-work c = omega arith

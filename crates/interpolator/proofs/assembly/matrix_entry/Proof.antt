@@ -16,12 +16,12 @@ at-entry c = c .before .before
 abbrev query : tie.Start → Query
 query c = let a = c .args in known (a .interpolator) (a .values .now) (a .points .now) (a .d)
 
--- return column_entry(interpolator, values, points, d, points, j, i);
+-- return column_entry(interpolator, table, values, points, d, points, j, i);
 column-entry-requires : tie.Need-column-entry-requires
 column-entry-requires c κs =
     let s = at-entry (c .before) in
     let a = s .args in
-    (s .pre .0, s .pre .2, omega (arith, s .pre .3, row-end (a .d) (a .j) (length (a .values .now)) (c .if1 .taken)))
+    (s .pre .0, s .pre .2, omega (arith, s .pre .3, row-end (a .d) (a .j) (length (a .values .now)) (c .if1 .taken)), s .pre .4)
 
 returns : tie.Need-returns
 returns c =

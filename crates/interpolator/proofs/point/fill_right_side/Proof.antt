@@ -13,11 +13,11 @@ use Rattle.interpolator.proofs.point.fill_right_side.Statement.{stateme
 use Rattle.interpolator.proofs.point.fill_right_side.Tie as tie
 
 abbrev Inv-loop : tie.InvT-loop
-Inv-loop interpolator values points targets d t size b₀ i₀ b i =
+Inv-loop interpolator table values points targets d t size b₀ i₀ b i =
     (i ≤ size) × (length b ≡ length b₀) × (b ≡ written 0 i (column (known interpolator values points d) targets t) b₀)
 
 abbrev μ-loop : tie.MeasureT-loop
-μ-loop interpolator values points targets d t size b₀ i₀ b i = size - i
+μ-loop interpolator table values points targets d t size b₀ i₀ b i = size - i
 
 -- The states that the needs look back to, in the order of the code: a name takes a later state back to its own.
 abbrev State : (tie.InvT-loop → tie.MeasureT-loop → Type 0) → Type 0
@@ -33,11 +33,11 @@ at-entry c = at-lent c .before .before .before
 loop-holds : tie.Need-loop-holds Inv-loop μ-loop
 loop-holds c = (omega arith, refl, refl)
 
--- b[i] = column_entry(interpolator, values, points, d, targets, t, i);
+-- b[i] = column_entry(interpolator, table, values, points, d, targets, t, i);
 column-entry-requires : tie.Need-column-entry-requires Inv-loop μ-loop
 column-entry-requires c κs =
     let p = at-entry (c .before) .pre in
-    (omega (arith, p .0, c .loop-test .taken), p .1, p .2)
+    (omega (arith, p .0, c .loop-test .taken), p .1, p .2, p .4)
 
 mul-b : tie.Need-mul-b Inv-loop μ-loop
 mul-b c = omega arith

@@ -33,7 +33,7 @@ at-figure c = c .before .before .before
 abbrev query : tie.Start → Query
 query c = let a = c .args in queryOf (a .interpolator) (a .values .now) (a .points .now) (a .targets .now) (a .d)
 
--- fill_right_side(interpolator, values, points, targets, d, t, size, &mut b);
+-- fill_right_side(interpolator, table, values, points, targets, d, t, size, &mut b);
 slice-aggregate-fill-right-side : tie.Need-slice-aggregate-fill-right-side
 slice-aggregate-fill-right-side c = search needs
 
@@ -81,7 +81,7 @@ returns c =
     let a = s .args in
     let right = column-unread (a .interpolator) (a .values .now) (a .points .now) (a .targets .now) (a .d) (a .targets .now) (a .t) in
     let long = s .pre .3 in
-    let places = r .fill-right-side .kept .1 .1 .1 .1 .1 .1 .1 .0 in
+    let places = r .fill-right-side .kept .1 .1 .1 .1 .1 .1 .1 .1 .0 in
     let rows = z .fill-z .ensures ∙ solved-is (a .size) (a .work .now) _ _ (s .pre .4) (omega (arith, places)) (omega arith) in
     let solved = filled-solved (query s) (a .work .now) (a .t) (a .size) _ _ _ _ _ (s .pre .0) right
     (r .fill-right-side .ensures) rows (omega arith) (omega arith) in (

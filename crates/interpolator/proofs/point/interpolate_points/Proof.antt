@@ -16,13 +16,13 @@ use Rattle.interpolator.proofs.point.interpolate_points.Statement.{stat
 use Rattle.interpolator.proofs.point.interpolate_points.Tie as tie
 
 abbrev Inv-loop : tie.InvT-loop
-Inv-loop interpolator values points targets d size work figures₀ variances₀ t₀ t-end figures variances t =
+Inv-loop interpolator table values points targets d size work figures₀ variances₀ t₀ t-end figures variances t =
     (t ≤ t-end) × (t-end ≡ length targets / d) × (length figures ≡ length figures₀) × (length variances ≡ length variances₀)
     × (figures ≡ written 0 t (figure (queryOf interpolator values points targets d) work) figures₀)
     × (variances ≡ written 0 t (variance (queryOf interpolator values points targets d) work) variances₀)
 
 abbrev μ-loop : tie.MeasureT-loop
-μ-loop interpolator values points targets d size work figures₀ variances₀ t₀ t-end figures variances t = t-end - t
+μ-loop interpolator table values points targets d size work figures₀ variances₀ t₀ t-end figures variances t = t-end - t
 
 -- The states that the needs look back to, in the order of the code: a name takes a later state back to its own.
 abbrev State : (tie.InvT-loop → tie.MeasureT-loop → Type 0) → Type 0
@@ -60,7 +60,7 @@ interpolate-point-requires c κs =
     let s = at-entry (c .before) in
     let a = s .args in
     let row = row-end (a .d) (c .before .loop .t) (length (a .targets .now) / a .d) (below c) in
-    (s .pre .0, s .pre .1, omega (arith, row, div-add-mod' (length (a .targets .now)) (a .d)), s .pre .3, s .pre .4)
+    (s .pre .0, s .pre .1, omega (arith, row, div-add-mod' (length (a .targets .now)) (a .d)), s .pre .3, s .pre .4, s .pre .7)
 
 -- figures[t] = estimate.value;
 figures-inside : (c : State tie.After-interpolate-point) → at-loop c .loop .t < length (at-loop c .loop .figures)

@@ -1,71 +1,17 @@
 -- `kriging::answer::krige_nodes` meets its contract: after q turns the areas are what q nodes leave. Assumes nothing.
 use Prim.Native.Nat.{ℕ, _≤_, _<_, _*_, _/_, _+_, _-_}
-use mathlib.Core.Path.{_≡_, refl, ap, sym, _∙_, subst}
-use mathlib.Core.List.{List}
+use mathlib.Core.Path.{_≡_, refl, sym, _∙_, subst}
 use native.Mathlib.Omega.{arith}
 use borrow.Author.Needs.{needs}
-use lib.ListN.{length, length-set, getD, take, drop, length-drop}
+use lib.ListN.{length, length-set, take, drop, length-drop}
 use lib.Seq.{length-take-le}
-use lib.Ieee.{Float, nan}
-use Rattle.audit.specs.Audit.{driftFinite}
-use Rattle.audit.specs.Lists.{entryIn}
-use Rattle.survey.specs.Survey.{Survey, surveyOf, columnSum, externalCount}
-use Rattle.fit.specs.Areas.{areasOf}
-use Rattle.fit.specs.Drift.{DriftIn}
 use Rattle.fit.specs.Node.{nodeOf}
-use Rattle.kriging.proofs.Progress.{row-inside, Progress, none-yet, one-more, all-nodes}
+use Rattle.kriging.proofs.Progress.{row-inside, none-yet, one-more, all-nodes}
+use Rattle.kriging.proofs.answer.krige_nodes.Proof.States.{Inv-loop, μ-loop, State, at-columns, at-zeros, at-entry, survey-of}
+use Rattle.kriging.proofs.answer.krige_nodes.Proof.States.{loop-of, at-storing, at-node, at-weights, at-first}
 use Rattle.kriging.proofs.answer.krige_nodes.Statement.{statement}
 use Rattle.kriging.proofs.answer.krige_nodes.Tie as tie
-
-abbrev Inv-loop : tie.InvT-loop
-Inv-loop values coords bases options nodes node-external tolerance drift p work predicted₀ variance₀ verdicts₀ weights₀ coefficients₀
-    n size k finite-drift q₀ q-end predicted variance verdicts weights coefficients q =
-    (q ≤ q-end) × (q-end ≡ length nodes / 2) × (n ≡ length values) × (size ≡ n + p) × (k ≡ externalCount bases)
-    × (finite-drift ≡ driftFinite n p (entryIn drift p))
-    × (length predicted ≡ length predicted₀) × (length variance ≡ length variance₀) × (length verdicts ≡ length verdicts₀)
-    × (length weights ≡ length weights₀) × (length coefficients ≡ length coefficients₀)
-    × ((external : List Float) → let s = surveyOf values coords bases external nodes node-external options tolerance in
-    DriftIn s drift
-    → Progress s (areasOf work predicted₀ variance₀ verdicts₀ weights₀ coefficients₀) (nodeOf s work) q
-    (areasOf work predicted variance verdicts weights coefficients))
-
-abbrev μ-loop : tie.MeasureT-loop
-μ-loop values coords bases options nodes node-external tolerance drift p work predicted₀ variance₀ verdicts₀ weights₀ coefficients₀
-    n size k finite-drift q₀ q-end predicted variance verdicts weights coefficients q = q-end - q
-
-abbrev State : (tie.InvT-loop → tie.MeasureT-loop → Type 0) → Type 0
-State S = S Inv-loop μ-loop
-
--- The states that the needs look back to, in the order of the code: a name takes a later state back to its own.
-abbrev at-areas : State tie.After-external-columns → State tie.After-shared-slice-known7
-at-areas c = c .before .before .before .before .before .before
-
-abbrev at-lists : State tie.After-shared-slice-known7 → State tie.After-shared-slice-known
-at-lists c = c .before .before .before .before .before .before
-
-abbrev at-columns : State tie.After-external-columns → State tie.Start
-at-columns c = at-lists (at-areas c) .before
-
-abbrev at-zeros : State tie.At-loop → State tie.After-store-zeros
-at-zeros c = c .before .before .before
-
-abbrev at-entry : State tie.At-loop → State tie.Start
-at-entry c = at-columns (at-zeros c .before .before .before)
-
-abbrev at-node : State tie.After-store → State tie.After-krige-node
-at-node c = c .before .before .before .before .before
-
-abbrev at-first : State tie.After-store2 → State tie.After-store
-at-first c = c .before .before .before .before .before .before
-
-abbrev loop-of : State tie.After-krige-node → State tie.At-loop
-loop-of c = c .before .before
-
--- the survey, whatever externals the wells have
-abbrev survey-of : State tie.At-loop → List Float → Survey
-survey-of l external =
-    let a = at-entry l .args in
-    surveyOf (a .values .now) (a .coords .now) (a .bases .now) external (a .nodes .now) (a .node-external .now) (a .options) (a .tolerance)
+mod States
 
 -- a node's number is below the nodes'
 below : (c : State tie.In-loop) → c .before .loop .q < length (at-entry (c .before) .args .nodes .now) / 2
@@ -122,13 +68,14 @@ krige-node-requires c κs =
           (row-inside _ (l .loop .q) _ _ (below c) (pre .3)),
       pre .4,
       v .5,
+      pre .10,
     )
 
 -- predicted[q] = node.figure;
 mul-predicted : tie.Need-mul-predicted Inv-loop μ-loop
 mul-predicted c =
     let l = c .before .before in
-    omega (arith, below (c .before), at-entry l .pre .5, l .loop .inv .6, at-entry l .good .1 .1 .1 .1 .1 .1 .1 .1 .1 .1 .0 .1)
+    omega (arith, below (c .before), at-entry l .pre .5, l .loop .inv .6, at-entry l .good .1 .1 .1 .1 .1 .1 .1 .1 .1 .1 .1 .0 .1)
 
 slice-write-predicted : tie.Need-slice-write-predicted Inv-loop μ-loop
 slice-write-predicted c = let l = c .before .before in omega (arith, below (c .before), at-entry l .pre .5, l .loop .inv .6)
@@ -181,11 +128,11 @@ slice-aggregate-store c = sym (z-first (c .before .before .before))
 
 mul-store : tie.Need-mul-store Inv-loop μ-loop
 mul-store c =
-    let v = c .before .before .before .before in
-    omega (arith, weights-inside v, at-entry (loop-of v) .good .1 .1 .1 .1 .1 .1 .1 .1 .1 .1 .1 .1 .1 .0 .1)
+    let v = at-storing c in
+    omega (arith, weights-inside v, at-entry (loop-of v) .good .1 .1 .1 .1 .1 .1 .1 .1 .1 .1 .1 .1 .1 .1 .0 .1)
 
 store-requires : tie.Need-store-requires Inv-loop μ-loop
-store-requires c κs = let krige = c .before .before .before .before in omega (arith, weights-inside krige, z-first krige)
+store-requires c κs = let krige = at-storing c in omega (arith, weights-inside krige, z-first krige)
 
 -- store(&z[n..size], coefficients, 0);
 mul-store-2 : tie.Need-mul-store-2 Inv-loop μ-loop
@@ -202,14 +149,14 @@ part-store-end c = let v = at-node (c .before .before .before) in omega (arith, 
 
 store-requires-2 : tie.Need-store-requires-2 Inv-loop μ-loop
 store-requires-2 c κs =
-    let v = at-node (c .before .before .before .before .before) in
+    let v = at-node (at-weights c) in
     omega (arith, z-last v, at-entry (loop-of v) .pre .9, loop-of v .loop .inv .10)
 
 -- for q in 0..nodes.len() / 2 {
 add-q : tie.Need-add-q Inv-loop μ-loop
 add-q c =
     let v = at-node (at-first (c .before .before)) in
-    omega (arith, below (v .before), at-entry (loop-of v) .good .1 .1 .1 .1 .0 .1)
+    omega (arith, below (v .before), at-entry (loop-of v) .good .1 .1 .1 .1 .1 .0 .1)
 
 loop-less : tie.Need-loop-less Inv-loop μ-loop
 loop-less c = omega arith

@@ -14,12 +14,12 @@ use Rattle.kriging.proofs.assembly.assemble.Statement.{statement}
 use Rattle.kriging.proofs.assembly.assemble.Tie as tie
 
 abbrev Inv-loop : tie.InvT-loop
-Inv-loop coords options drift n p work₀ i₀ i-end work i =
+Inv-loop coords options table drift n p work₀ i₀ i-end work i =
     (i ≤ n + p) × (i-end ≡ n + p) × (length work ≡ length work₀)
     × (work ≡ filled (2 * (n + p)) i (besideIdentity (n + p) (matrix coords options drift n p)) work₀)
 
 abbrev μ-loop : tie.MeasureT-loop
-μ-loop coords options drift n p work₀ i₀ i-end work i = n + p - i
+μ-loop coords options table drift n p work₀ i₀ i-end work i = n + p - i
 
 -- The states that the needs look back to, in the order of the code: a name takes a later state back to its own.
 abbrev State : (tie.InvT-loop → tie.MeasureT-loop → Type 0) → Type 0
@@ -47,7 +47,7 @@ add-i-end c = omega (arith, wide (c .before .before .before))
 loop-holds : tie.Need-loop-holds Inv-loop μ-loop
 loop-holds c = (omega arith, refl, refl, refl)
 
--- fill_matrix_row(coords, options, drift, n, p, i, work);
+-- fill_matrix_row(coords, options, table, drift, n, p, i, work);
 fill-matrix-row-requires : tie.Need-fill-matrix-row-requires Inv-loop μ-loop
 fill-matrix-row-requires c κs =
     let h = at-turn c in
@@ -60,6 +60,7 @@ fill-matrix-row-requires c κs =
       omega arith,
       omega arith,
       λ j b. laid-above s m (a .work .now) (l .work) (l .i) j (omega arith) (omega arith) b (l .inv .3),
+      at-entry h .pre .3,
     )
 
 -- for i in 0..n + p
@@ -79,11 +80,11 @@ loop-again c =
     let e = besideIdentity s (matrix (a .coords .now) (a .options) (a .drift .now) (a .n) (a .p)) in (
       omega arith,
       refl,
-      f .fill-matrix-row .kept .1 .1 .1 .1 .1 .1 .0 ∙ l .inv .2,
+      f .fill-matrix-row .kept .1 .1 .1 .1 .1 .1 .1 .0 ∙ l .inv .2,
       next-row (2 * s) (l .i) e (a .work .now) (l .work) _ (l .inv .3) (f .fill-matrix-row .ensures),
     )
 
--- pub(crate) fn assemble(coords: &[f64], options: UniversalKrigingOptions, drift: &[f64], n: usize, p: usize, work: &mut [f64])
+-- pub(crate) fn assemble(..)
 same-length : tie.Need-same-length Inv-loop μ-loop
 same-length c = search needs
 

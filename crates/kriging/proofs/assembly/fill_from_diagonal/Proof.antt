@@ -12,16 +12,19 @@ use Rattle.kriging.proofs.assembly.fill_from_diagonal.Statement.{statem
 use Rattle.kriging.proofs.assembly.fill_from_diagonal.Tie as tie
 
 abbrev Inv-loop : tie.InvT-loop
-Inv-loop coords options drift n p i work₀ size row j₀ work j =
+Inv-loop coords options table drift n p i work₀ size row j₀ work j =
     (i ≤ j) × (j ≤ size) × (size ≡ n + p) × (row ≡ i * (2 * (n + p))) × (length work ≡ length work₀)
     × (work ≡ written (i * (2 * (n + p)) + i) (j - i) (λ c. matrix coords options drift n p i (i + c)) work₀)
 
 abbrev μ-loop : tie.MeasureT-loop
-μ-loop coords options drift n p i work₀ size row j₀ work j = size - j
+μ-loop coords options table drift n p i work₀ size row j₀ work j = size - j
 
--- The state that the needs look back to: a name takes a later state back to it.
+-- The states that the needs look back to: a name takes a later state back to its own.
+abbrev at-start : tie.After-slice-known Inv-loop μ-loop → tie.Start Inv-loop μ-loop
+at-start c = c .before .before .before
+
 abbrev at-entry : tie.At-loop Inv-loop μ-loop → tie.Start Inv-loop μ-loop
-at-entry c = c .before .before .before .before
+at-entry c = at-start (c .before)
 
 -- The needs, grouped below the lines of src/ that they are for.
 
@@ -39,13 +42,13 @@ mul-row-2 c = omega arith
 -- for j in i..size
 loop-holds : tie.Need-loop-holds Inv-loop μ-loop
 loop-holds c =
-    let i = c .before .before .before .args .i in
+    let i = at-start c .args .i in
     let none : 0 ≡ i - i = omega arith in
     (omega arith, omega arith, refl, refl, refl, all-turns _ _ _ none refl)
 
--- work[row + j] = matrix_entry(coords, options, drift, n, p, i, j);
+-- work[row + j] = matrix_entry(coords, options, table, drift, n, p, i, j);
 matrix-entry-requires : tie.Need-matrix-entry-requires Inv-loop μ-loop
-matrix-entry-requires c κs = omega arith
+matrix-entry-requires c κs = (omega arith, omega arith, omega arith, omega arith, at-entry (c .before) .pre .4)
 
 add-work : tie.Need-add-work Inv-loop μ-loop
 add-work c = omega arith

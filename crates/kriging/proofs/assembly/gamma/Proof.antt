@@ -2,6 +2,7 @@
 use mathlib.Core.Path.{_∙_, ap}
 use borrow.Author.Needs.{needs}
 use Rattle.variogram.specs.Model.{semivariance}
+use Rattle.kriging.proofs.Lent.{by-lent}
 use Rattle.kriging.proofs.MatrixEntries.{between-own, between-others}
 use Rattle.kriging.proofs.assembly.gamma.Statement.{statement}
 use Rattle.kriging.proofs.assembly.gamma.Tie as tie
@@ -66,16 +67,18 @@ shared-slice-read-distance-2d-4 c = search needs
 distance-2d-requires : tie.Need-distance-2d-requires
 distance-2d-requires c κs = search needs
 
--- options.variogram.evaluate(h)
-evaluate-requires : tie.Need-evaluate-requires
-evaluate-requires c κs = search needs
+-- options.variogram.evaluate_by(table, h)
+evaluate-by-requires : tie.Need-evaluate-by-requires
+evaluate-by-requires c κs = search needs
 
 returns-2 : tie.Need-returns-2
 returns-2 c =
     let d = c .before in
     let s = at-else d in
-    let a = s .before .before .args in
-    c .evaluate .ensures
+    let entry = s .before .before in
+    let a = entry .args in
+    c .evaluate-by .ensures
+    ∙ by-lent (a .table .now) (a .options .variogram) (d .distance-2d .result) (entry .pre .2)
     ∙ ap (semivariance (a .options .variogram)) (d .distance-2d .ensures)
     ∙ between-others (a .options) (a .coords .now) (a .i) (a .j) (s .if1 .left)
 
@@ -99,5 +102,5 @@ gamma-spec =
     mul-distance-2d-8
     shared-slice-read-distance-2d-4
     distance-2d-requires
-    evaluate-requires
+    evaluate-by-requires
     returns-2)

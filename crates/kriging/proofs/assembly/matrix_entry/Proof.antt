@@ -24,7 +24,7 @@ drift-of s i j = getD (s .args .drift .now) (i * s .args .p + j) nan
 
 -- The needs, grouped below the lines of src/ that they are for.
 
--- return gamma(coords, options, i, j);
+-- return gamma(coords, options, table, i, j);
 gamma-requires : tie.Need-gamma-requires
 gamma-requires c κs = search needs
 

@@ -1,6 +1,4 @@
 -- `kriging::node::fill_right_hand` meets its contract: what the two fills leave, one after the other, is the list of b. Assumes nothing.
-use Prim.Native.Nat.{ℕ, _+_, _≤_}
-use mathlib.Core.Path.{_≡_, ap, sym, _∙_}
 use native.Mathlib.Omega.{arith}
 use borrow.Author.Needs.{needs}
 use Rattle.survey.specs.Survey.{columnSum}
@@ -10,11 +8,17 @@ use Rattle.kriging.proofs.node.fill_right_hand.Statement.{statement}
 use Rattle.kriging.proofs.node.fill_right_hand.Tie as tie
 
 -- The states that the needs look back to, in the order of the code: a name takes a later state back to its own.
-abbrev at-lists : tie.After-fill-gamma → tie.After-shared-slice-known4
-at-lists c = c .before .before .before .before .before
+abbrev at-area : tie.After-fill-gamma-arg → tie.After-slice-known
+at-area c = c .before .before .before
+
+abbrev at-lists : tie.After-fill-gamma-arg → tie.After-shared-slice-known2
+at-lists c = at-area c .before .before .before
+
+abbrev at-lent : tie.After-fill-gamma-arg → tie.Start
+at-lent c = at-lists c .before .before
 
 abbrev at-entry : tie.After-fill-gamma → tie.Start
-at-entry c = at-lists c .before .before .before .before
+at-entry c = at-lent (c .before)
 
 abbrev at-gamma : tie.After-fill-query-drift-row-arg → tie.After-fill-gamma
 at-gamma c = c .before .before .before
@@ -42,16 +46,16 @@ mul-y-2 c = omega arith
 shared-slice-read-y : tie.Need-shared-slice-read-y
 shared-slice-read-y c = omega arith
 
--- fill_gamma(coords, variogram, x, y, n, b);
+-- fill_gamma(coords, variogram, table, x, y, n, b);
 fill-gamma-requires : tie.Need-fill-gamma-requires
-fill-gamma-requires c κs = omega arith
+fill-gamma-requires c κs = (omega arith, omega arith, at-lent c .pre .5)
 
 -- crate::drift::fill_query_drift_row(bases, node_external, k, q, x, y, b, n);
 fill-query-drift-row-requires : tie.Need-fill-query-drift-row-requires
 fill-query-drift-row-requires c κs =
     let g = at-gamma c in
     let p = at-entry g .pre in
-    (omega (arith, p .4, g .fill-gamma .kept .1 .1 .1 .1 .1 .0), p .2, omega (arith, p .3))
+    (omega (arith, p .4, g .fill-gamma .kept .1 .1 .1 .1 .1 .1 .0), p .2, omega (arith, p .3))
 
 -- fn fill_right_hand(
 same-length : tie.Need-same-length

@@ -1,6 +1,6 @@
 -- `kriging::node::krige_node` meets its contract: what the calls leave are the parts of the paper's node. Assumes nothing.
 use Prim.Native.Nat.{ℕ, _+_, _-_, _*_, _≤_}
-use mathlib.Core.Path.{_≡_, refl, ap, sym, _∙_, subst}
+use mathlib.Core.Path.{_≡_, ap, sym, _∙_, subst}
 use mathlib.Core.List.{List, []}
 use native.Mathlib.Omega.{arith}
 use borrow.Author.Needs.{needs}
@@ -25,24 +25,33 @@ part-is n p xs h =
     ∙ sym (ap (λ (l : List Float). drop n l) (take-add n p xs) ∙ drop-at (take n xs) (take p (drop n xs)) n (length-take-le n xs h))
 
 -- The states that the needs look back to, in the order of the code: a name takes a later state back to its own.
-abbrev at-lists : tie.After-fill-right-hand → tie.After-shared-slice-known4
-at-lists c = c .before .before .before .before .before
+abbrev at-lists : tie.After-b → tie.After-shared-slice-known5
+at-lists c = c .before .before .before
+
+abbrev at-first-lists : tie.After-b → tie.After-shared-slice-known2
+at-first-lists c = at-lists c .before .before .before
 
 abbrev at-entry : tie.After-fill-right-hand → tie.Start
-at-entry c = at-lists c .before .before .before .before
+at-entry c = at-first-lists (c .before) .before .before
 
 abbrev at-right : tie.After-b3 → tie.After-fill-right-hand
 at-right c = c .before .before
 
 -- what b holds then
 abbrev b-of : tie.After-fill-right-hand → List Float
-b-of c = c .fill-right-hand .last .1 .1 .1 .1 .1 .1 .1 .1 .0
+b-of c = c .fill-right-hand .last .1 .1 .1 .1 .1 .1 .1 .1 .1 .0
 
 abbrev at-b : tie.After-solve-node → tie.After-b3
 at-b c = c .before
 
-abbrev at-solved : tie.After-z3 → tie.After-solve-node
-at-solved c = c .before .before .before .before
+abbrev at-solved : tie.After-weighted-sum → tie.After-solve-node
+at-solved c = c .before .before .before
+
+abbrev at-lent : tie.After-audit-figure → tie.After-z3
+at-lent c = c .before .before .before
+
+abbrev at-figure : tie.After-audit-figure → tie.After-weighted-sum
+at-figure c = at-lent c .before
 
 abbrev size-of : tie.Start → ℕ
 size-of c = length (c .args .values .now) + c .args .p
@@ -67,7 +76,7 @@ array-share-prefix-b c = search needs
 b-length : (c : tie.After-b3) → let r = at-right c in length (take (size-of (at-entry r)) (b-of r)) ≡ size-of (at-entry r)
 b-length c =
     let r = at-right c in
-    length-take-le (size-of (at-entry r)) (b-of r) (omega (arith, r .fill-right-hand .kept .1 .1 .1 .1 .1 .1 .1 .1 .0, at-entry r .pre .3))
+    length-take-le (size-of (at-entry r)) (b-of r) (omega (arith, r .fill-right-hand .kept .1 .1 .1 .1 .1 .1 .1 .1 .1 .0, at-entry r .pre .3))
 
 slice-aggregate-solve-node : tie.Need-slice-aggregate-solve-node
 slice-aggregate-solve-node c = sym (b-length c)
@@ -91,10 +100,10 @@ weighted-sum-requires c κs = search needs
 
 -- &z[..n],
 array-share-prefix-z : tie.Need-array-share-prefix-z
-array-share-prefix-z c = z-inside (c .before .before .before)
+array-share-prefix-z c = z-inside (at-solved c)
 
 slice-aggregate-audit-figure : tie.Need-slice-aggregate-audit-figure
-slice-aggregate-audit-figure c = sym (length-take-le _ _ (z-inside (at-solved c)))
+slice-aggregate-audit-figure c = sym (length-take-le _ _ (z-inside (at-solved (c .before))))
 
 -- &b[n..size],
 mul-audit-figure : tie.Need-mul-audit-figure
@@ -115,13 +124,13 @@ audit-figure-requires c κs = search needs
 
 -- the figure, the number of wells, and f0 as it lies in b
 abbrev figure-of : tie.After-audit-figure → Float
-figure-of c = c .before .before .before .before .weighted-sum .result
+figure-of c = at-figure c .weighted-sum .result
 
 abbrev wells-of : tie.After-solve-node → ℕ
 wells-of v = length (at-entry (at-right (at-b v)) .args .values .now)
 
 abbrev f0-of : tie.After-solve-node → List Float
-f0-of v = let r = at-right (at-b v) in drop (wells-of v) (take (size-of (at-entry r)) (r .fill-right-hand .last .1 .1 .1 .1 .1 .1 .1 .1 .0))
+f0-of v = let r = at-right (at-b v) in drop (wells-of v) (take (size-of (at-entry r)) (b-of r))
 
 f0-length : (v : tie.After-solve-node) → length (f0-of v) ≤ 60
 f0-length v =
@@ -129,26 +138,26 @@ f0-length v =
     omega (arith, length-drop (wells-of v) (take (size-of (at-entry r)) (b-of r)), b-length (at-b v), at-entry r .pre .3)
 
 -- the verdict, as the last call answers it
-audited : (c : tie.After-audit-figure) → let v = at-solved (c .before .before .before) in
+audited : (c : tie.After-audit-figure) → let v = at-solved (at-figure c) in
     let a = at-entry (at-right (at-b v)) .args in
     c .audit-figure .result
     ≡ verdictWith (v .solve-node .result .columns)
     (auditedIn (weighedIn (take (wells-of v) (v .solve-node .result .z)) [] (f0-of v) (a .tolerance)) (a .values .now) (figure-of c))
 audited c =
-    let v = at-solved (c .before .before .before) in
+    let v = at-solved (at-figure c) in
     let r = at-right (at-b v) in
     let a = at-entry r .args in
     c .audit-figure .ensures
     ∙ ap
     (λ (f0 : List Float). verdictWith (v .solve-node .result .columns)
     (auditedIn (weighedIn (take (wells-of v) (v .solve-node .result .z)) [] f0 (a .tolerance)) (a .values .now) (figure-of c)))
-    (part-is (wells-of v) (a .p) (r .fill-right-hand .last .1 .1 .1 .1 .1 .1 .1 .1 .0)
-    (omega (arith, r .fill-right-hand .kept .1 .1 .1 .1 .1 .1 .1 .1 .0, at-entry r .pre .3)))
+    (part-is (wells-of v) (a .p) (b-of r)
+    (omega (arith, r .fill-right-hand .kept .1 .1 .1 .1 .1 .1 .1 .1 .1 .0, at-entry r .pre .3)))
 
 -- it fits a byte
 byte : (c : tie.After-audit-figure) → c .audit-figure .result ≤ 255
 byte c =
-    let v = at-solved (c .before .before .before) in
+    let v = at-solved (at-figure c) in
     let few = f0-length v in
     let columns : v .solve-node .result .columns ≤ 255 =
     subst (λ (k : ℕ). k ≤ 255) (sym (v .solve-node .ensures .1 .1 .1)) (columns-bound _ _ (omega (arith, few))) in
@@ -159,11 +168,11 @@ byte c =
 returns : tie.Need-returns
 unfolding rightHand
 returns c =
-    let v = at-solved (c .before .before .before) in
+    let v = at-solved (at-figure c) in
     let r = at-right (at-b v) in
     let a = at-entry r .args in
     let pre = at-entry r .pre in
-    let bs = r .fill-right-hand .last .1 .1 .1 .1 .1 .1 .1 .1 .0 in (
+    let bs = b-of r in (
       v .solve-node .ensures .0,
       (
         omega (arith, byte c),
@@ -181,7 +190,7 @@ returns c =
               z-of = v .solve-node .ensures .1 .0;
               variance-of = v .solve-node .ensures .1 .1 .0;
               columns-of = v .solve-node .ensures .1 .1 .1;
-              figure-of = c .before .before .before .before .weighted-sum .ensures;
+              figure-of = at-figure c .weighted-sum .ensures;
               verdict-of = audited c;
               scanned = pre .7;
             }),

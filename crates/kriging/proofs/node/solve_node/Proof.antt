@@ -21,11 +21,17 @@ rest-of : (xs : List Float) (n : ℕ) → take (length xs - n) (drop n xs) ≡ d
 rest-of xs n = ap (λ (k : ℕ). take k (drop n xs)) (sym (length-drop n xs)) ∙ take-length (drop n xs)
 
 -- The states that the needs look back to, in the order of the code: a name takes a later state back to its own.
+abbrev at-lists : tie.After-fill-z → tie.After-shared-slice-known2
+at-lists c = c .before .before .before
+
 abbrev at-entry : tie.After-fill-z → tie.Start
-at-entry c = c .before .before .before .before .before
+at-entry c = at-lists c .before .before
+
+abbrev at-sum : tie.After-z4 → tie.After-weighted-sum
+at-sum c = c .before .before
 
 abbrev at-z : tie.After-z4 → tie.After-fill-z
-at-z c = c .before .before .before .before .before
+at-z c = at-sum c .before .before .before
 
 -- fill_z(work, size, b, &mut z);
 slice-aggregate-fill-z : tie.Need-slice-aggregate-fill-z

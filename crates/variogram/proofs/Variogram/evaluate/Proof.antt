@@ -1,77 +1,25 @@
--- `variogram::Variogram::evaluate` meets its contract: the zero test first, then each arm by the model that it is told. Assumes nothing.
-use mathlib.Core.Path.{_∙_, sym}
+-- `variogram::Variogram::evaluate` meets its contract: by the table itself, lent. Assumes nothing.
+use Prim.Native.Nat.{ℕ}
+use mathlib.Core.Path.{ap, _∙_}
+use mathlib.Core.List.{List}
 use borrow.Author.Needs.{needs}
-use Rattle.variogram.specs.declared.VariogramModel.the-variants.{Spherical, Exponential, Gaussian, Linear}
-use Rattle.variogram.specs.Model.{linear}
-use Rattle.variogram.proofs.Model.{same-spot, by-model, spherical-far, spherical-near}
+use Rattle.variogram.specs.Model.{semivarianceBy}
+use Rattle.variogram.proofs.Model.{by-own-table}
 use Rattle.variogram.proofs.Variogram.evaluate.Statement.{statement}
 use Rattle.variogram.proofs.Variogram.evaluate.Tie as tie
 
+fraction-table-requires : tie.Need-fraction-table-requires
+fraction-table-requires c κs = search needs
+
+evaluate-by-requires : tie.Need-evaluate-by-requires
+evaluate-by-requires c κs = search needs
+
 returns : tie.Need-returns
-returns c = sym (same-spot _ _ (c .if1 .taken))
-
-enum-told : tie.Need-enum-told
-enum-told c = search needs
-
-enum-told-2 : tie.Need-enum-told-2
-enum-told-2 c = search needs
-
-not-a-number-requires : tie.Need-not-a-number-requires
-not-a-number-requires c κs = search needs
-
-enum-told-3 : tie.Need-enum-told-3
-enum-told-3 c = search needs
-
-not-a-number-requires-2 : tie.Need-not-a-number-requires-2
-not-a-number-requires-2 c κs = search needs
-
-enum-told-4 : tie.Need-enum-told-4
-enum-told-4 c = search needs
-
-min-requires : tie.Need-min-requires
-min-requires c κs = search needs
-
-returns-2 : tie.Need-returns-2
-returns-2 c =
-    let told = c .before .before in
-    sym (by-model _ _ Spherical (told .before .before .if1 .left) (told .enum-told .given .1) ∙ spherical-far _ _ _ _ (c .if2 .taken))
-
-returns-3 : tie.Need-returns-3
-returns-3 c =
-    let near = c .before .before .before in
-    let told = near .before .before in
-    sym (by-model _ _ Spherical (told .before .before .if1 .left) (told .enum-told .given .1) ∙ spherical-near _ _ _ _ (near .if2 .left))
-
-returns-4 : tie.Need-returns-4
-returns-4 c =
-    let told = c .before in
-    c .not-a-number .ensures ∙ sym (by-model _ _ Exponential (told .before .before .if1 .left) (told .enum-told2 .given .1))
-
-returns-5 : tie.Need-returns-5
-returns-5 c =
-    let told = c .before in
-    c .not-a-number2 .ensures ∙ sym (by-model _ _ Gaussian (told .before .before .if1 .left) (told .enum-told3 .given .1))
-
-returns-6 : tie.Need-returns-6
-unfolding linear
-returns-6 c =
-    let told = c .before .before .before in
-    rw (c .before .min .ensures) (sym (by-model _ _ Linear (told .before .before .if1 .left) (told .enum-told4 .given .1)))
+returns c =
+    let s = c .before .before .before in
+    c .evaluate-by .ensures
+    ∙ ap (λ (lent : List ℕ). semivarianceBy lent (s .args .self) (s .args .h)) (c .before .before .fraction-table .ensures)
+    ∙ by-own-table (s .args .self) (s .args .h)
 
 pub evaluate-spec : {M : Type 1} → statement M
-evaluate-spec =
-    tie.close
-    (tie.spec
-    returns
-    enum-told
-    enum-told-2
-    not-a-number-requires
-    enum-told-3
-    not-a-number-requires-2
-    enum-told-4
-    min-requires
-    returns-2
-    returns-3
-    returns-4
-    returns-5
-    returns-6)
+evaluate-spec = tie.close (tie.spec fraction-table-requires evaluate-by-requires returns)

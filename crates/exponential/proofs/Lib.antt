@@ -1,0 +1,13 @@
+pub mod Table
+pub mod Times
+pub mod ShortSeries
+pub mod Digits
+pub mod Units
+pub mod Cases
+pub mod Rule
+pub mod ShortSums
+pub mod SeriesNear
+pub mod UnitsNear
+pub mod Shown
+pub mod Exact
+pub mod Lent

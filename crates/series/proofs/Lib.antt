@@ -1,0 +1,12 @@
+pub mod Sums
+pub mod Terms
+pub mod Cauchy
+pub mod Products
+pub mod Pairs
+pub mod Squares
+pub mod Steps
+pub mod Bounds
+pub mod Bracket
+pub mod Near
+pub mod Scale
+pub mod Signs
