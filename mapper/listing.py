@@ -24,7 +24,7 @@ def parsed(listing, count):
     if any(line is None or int(line.group(1)) != i + 1 for i, line in enumerate(found)):
         raise Damaged('one of its nodes is missing or not whole')
     if not all(line.startswith(b'coef ') for line in lines[count + 1:-1]):
-        raise Damaged('it does not end with the coefficients')
+        raise Damaged('it does not end with the multipliers')
     return floats(found, 2), floats(found, 3), bytes(int(line.group(4)) for line in found)
 
 

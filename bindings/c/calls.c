@@ -24,12 +24,12 @@ static const double values[] = {2, 6}, coords[] = {0, 0, 2, 0}, nodes[] = {1, 0}
 static const uint8_t bases[] = {NAKWEMOL_BASIS_CONSTANT};
 
 /* Each area has one place more than it needs. */
-static double work[19], predicted[2], variance[2], weights[3], coefficients[2];
+static double work[19], predicted[2], variance[2], weights[3], multipliers[2];
 static uint8_t verdicts[2];
 
 static void clear(void) {
     for (int i = 0; i < 19; i++) work[i] = -1;
-    for (int i = 0; i < 2; i++) predicted[i] = variance[i] = coefficients[i] = -1;
+    for (int i = 0; i < 2; i++) predicted[i] = variance[i] = multipliers[i] = -1;
     for (int i = 0; i < 3; i++) weights[i] = -1;
     verdicts[0] = verdicts[1] = 99;
 }
@@ -37,7 +37,7 @@ static void clear(void) {
 static uint8_t fit_range(uint8_t model, double range, size_t lent) {
     clear();
     return nakwemol_fit(values, 2, coords, 4, bases, 1, none, 0, nodes, 2, none, 0, model, 0, 1, range, 0, 0,
-                        work, 19, predicted, lent, variance, 2, verdicts, 2, weights, 3, coefficients, 2);
+                        work, 19, predicted, lent, variance, 2, verdicts, 2, weights, 3, multipliers, 2);
 }
 
 static uint8_t fit(uint8_t model, size_t lent) {
@@ -77,12 +77,12 @@ static void fits(void) {
     same("verdict", verdicts[0], 0);
     same("weight 1", weights[0], 0.5);
     same("weight 2", weights[1], 0.5);
-    same("coefficient", coefficients[0], 0.5);
+    same("multiplier", multipliers[0], 0.5);
     same("past the figure", predicted[1], -1);
     same("past the variance", variance[1], -1);
     same("past the verdict", verdicts[1], 99);
     same("past the weights", weights[2], -1);
-    same("past the coefficient", coefficients[1], -1);
+    same("past the multiplier", multipliers[1], -1);
     same("past the work", work[18], -1);
     same("an area too short", fit(NAKWEMOL_SPHERICAL, 0), NAKWEMOL_ANSWER_AREA);
     same("a code that is none", fit(5, 0), NAKWEMOL_UNKNOWN_CODE);

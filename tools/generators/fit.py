@@ -1,10 +1,10 @@
 """crates/vectors_fit: fits, as fit_cases.py, fit_models.py and fit_refusals.py draw them, with all that they leave.
 
-Figures, variances and coefficients are the original's. Weights, verdicts, work areas and the numbers of refusals are tools/reading's, which has to
+Figures, variances and multipliers are the original's. Weights, verdicts, work areas and the numbers of refusals are tools/reading's, which has to
 agree with the original wherever that answers: else nothing is written.
 
 A record is words of 64 bits: the lengths of the values, coordinates, externals, nodes and node externals, and of the codes; the model, nugget, sill,
-range, r and t; how much is lent of the work area, the figures, variances, verdicts, weights and coefficients; the lists in that order, then the codes.
+range, r and t; how much is lent of the work area, the figures, variances, verdicts, weights and multipliers; the lists in that order, then the codes.
 After these the number, 0 for an answer; how much is written of each area, in the same order; how much of the work area is told, all that is written
 or nothing; and then what stands there, area after area.
 """
@@ -30,7 +30,7 @@ MOST_NUMBERS, MOST_CODES = 3072, 64
 PARTS = {
     "figures": "figures",
     "variances": "variances",
-    "coefficients": "coefficients",
+    "multipliers": "multipliers",
     "weights": "weights",
     "verdicts": "verdicts",
     "work areas": "work",
@@ -65,7 +65,7 @@ def read(case):
 
 
 def original(answer, ended):
-    """The original's own figures, variances and coefficients, by their patterns; a zero variance as +0."""
+    """The original's own figures, variances and multipliers, by their patterns; a zero variance as +0."""
     m, p = ended.case.survey.m, ended.case.survey.p
     zero, nodes, *rest = answer_words(answer)
     assert (zero, nodes, rest[2 * m]) == (0, m, p), answer
@@ -73,12 +73,12 @@ def original(answer, ended):
 
 
 def held(ended, answer):
-    """Stops where the original answers otherwise: in figures, variances, coefficients or the kind of a refusal."""
+    """Stops where the original answers otherwise: in figures, variances, multipliers or the kind of a refusal."""
     if ended.number:
         hold_refusal(ended.number, answer, ended.case.survey)
         return
     m, p, areas = ended.case.survey.m, ended.case.survey.p, ended.areas
-    reading = [list(map(bits, area)) for area in (areas.figures[:m], areas.variances[:m], areas.coefficients[:p])]
+    reading = [list(map(bits, area)) for area in (areas.figures[:m], areas.variances[:m], areas.multipliers[:p])]
     assert list(original(answer, ended)) == reading, (ended.case.survey, answer)
 
 
@@ -86,7 +86,7 @@ def asked_words(case):
     survey, lent = case.survey, case.lent
     lists = [survey.values, survey.coords, survey.external, survey.nodes, survey.node_external]
     options = [survey.variogram.model, *numbers([*survey.variogram.numbers(), survey.r, survey.t])]
-    areas = [lent.work, lent.figures, lent.variances, lent.verdicts, lent.weights, lent.coefficients]
+    areas = [lent.work, lent.figures, lent.variances, lent.verdicts, lent.weights, lent.multipliers]
     return [*map(len, lists), len(survey.codes), *options, *areas, *(x for xs in lists for x in numbers(xs)), *survey.codes]
 
 
@@ -94,10 +94,10 @@ def told_words(ended, answer):
     """The areas, as far as they are written: the original's where it has them."""
     areas, written = ended.areas, ended.written
     told = written.work if ended.case.whole else 0
-    figures, variances, coefficients = original(answer, ended) if ended.number == 0 else ([], [], [])
-    counts = [written.work, written.figures, written.variances, written.verdicts, written.weights, written.coefficients, told]
+    figures, variances, multipliers = original(answer, ended) if ended.number == 0 else ([], [], [])
+    counts = [written.work, written.figures, written.variances, written.verdicts, written.weights, written.multipliers, told]
     weights, verdicts, work = numbers(areas.weights[:written.weights]), areas.verdicts[:written.verdicts], numbers(areas.work[:told])
-    return [ended.number, *counts, *work, *figures, *variances, *verdicts, *weights, *coefficients]
+    return [ended.number, *counts, *work, *figures, *variances, *verdicts, *weights, *multipliers]
 
 
 def fits_program(case):

@@ -14,7 +14,7 @@ class Case(NamedTuple):
 
 
 # the program's own arrays are as long as this
-LONGEST = Areas(figures=108, variances=108, verdicts=108, weights=4808, coefficients=16, work=7208)
+LONGEST = Areas(figures=108, variances=108, verdicts=108, weights=4808, multipliers=16, work=7208)
 
 
 def lengths_of(lengths):

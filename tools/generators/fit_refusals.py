@@ -5,7 +5,7 @@ from tools.reading import edges
 from tools.reading.survey import Survey
 
 BASE = edges.survey()
-# the areas by which 18 and 17 may be too short: figures, variances, verdicts, weights, coefficients; work
+# the areas by which 18 and 17 may be too short: figures, variances, verdicts, weights, multipliers; work
 SHORTS = {17: [5], 18: [0, 1, 2, 3, 4]}
 WAYS = {
     **{number: [(change, None) for change in changes] for number, changes in edges.FIT_EDITS.items()},

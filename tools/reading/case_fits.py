@@ -96,10 +96,10 @@ def over_weights_alone(survey):
     return {**outcome, "variances": [clamped(running_sum(part)) for part in parts]}
 
 
-def first_node_coefficients(survey):
-    """The coefficients as the first node alone leaves them."""
+def first_node_multipliers(survey):
+    """The multipliers as the first node alone leaves them."""
     alone = survey._replace(nodes=survey.nodes[:2], node_external=survey.node_external[:survey.k])
-    return {**of_fit(survey), "coefficients": of_fit(alone)["coefficients"]}
+    return {**of_fit(survey), "multipliers": of_fit(alone)["multipliers"]}
 
 
 def copied(outcome, name):
@@ -124,8 +124,8 @@ def wrong_placings(survey):
 def wrong_answers(survey):
     right = of_fit(survey)
     return {
-        "coefficients from the first p entries of z": changed(survey, fit, "coefficients_of", lambda z, p: z[:p]),
-        "coefficients from the first node": first_node_coefficients(survey),
+        "multipliers from the first p entries of z": changed(survey, fit, "multipliers_of", lambda z, p: z[:p]),
+        "multipliers from the first node": first_node_multipliers(survey),
         "weights written well after well": {**right, "weights": transposed(right["weights"], survey.m)},
         "node 1's figure for every node": copied(right, "figures"),
         "node 1's verdict for every node": copied(right, "verdicts"),
@@ -147,7 +147,7 @@ def print_case(survey, small=True):
     case_text.fields("expected", {name: items for name, items in outcome.items() if small or name != "work"})
     if small:
         case_text.on_the_way(fit.assembled(survey), [fit.right_hand_side(survey, q) for q in range(survey.m)])
-    answer = case_text.ok(survey.m, outcome["figures"], outcome["variances"]) + case_text.ok(f" {survey.p}", outcome["coefficients"])[3:]
+    answer = case_text.ok(survey.m, outcome["figures"], outcome["variances"]) + case_text.ok(f" {survey.p}", outcome["multipliers"])[3:]
     case_text.agrees(call(survey), answer)
     return outcome
 
@@ -162,7 +162,7 @@ def print_externals():
 def print_no_nodes():
     case_text.title("fit 2: the same wells, no node (m = 0)")
     outcome = print_case(NO_NODES)
-    case_text.wrong(outcome, {f"coefficients {x}": {**outcome, "coefficients": [x, x]} for x in (math.nan, -0.0)})
+    case_text.wrong(outcome, {f"multipliers {x}": {**outcome, "multipliers": [x, x]} for x in (math.nan, -0.0)})
 
 
 def swapped_drift(codes, x, y, externals):
@@ -176,7 +176,7 @@ def print_surface():
         "node axes exchanged": changed_survey(SURFACE, node=node_yx),
         "well axes exchanged": changed_survey(SURFACE, well=well_yx),
         "1, y, x for wells and nodes": changed(SURFACE, fit, "drift_row", swapped_drift),
-        "coefficients from the first p entries of z": changed(SURFACE, fit, "coefficients_of", lambda z, p: z[:p]),
+        "multipliers from the first p entries of z": changed(SURFACE, fit, "multipliers_of", lambda z, p: z[:p]),
     }
     case_text.wrong(outcome, wrong)
 

@@ -3,7 +3,7 @@
 
 Usage: tools/reading/compare.py KRIGING.RS [COUNT [SEED]]     COUNT fits (20,000), and a quarter as many of each of the other two
 
-A call is compared where the original answers it: figures, variances, coefficients, distances, semivariances, and the kinds of the refusals that
+A call is compared where the original answers it: figures, variances, multipliers, distances, semivariances, and the kinds of the refusals that
 it has. Where paper 01 adds a refusal nothing is compared, and the call is counted beside; these are tried at their edges (edges.py). Each
 reading is also held to what paper 01 says of areas, and its verdicts to sums of fractions. Prints what was compared and, of what differs, the
 shortest call.
@@ -59,7 +59,7 @@ def read_fit(draw, call):
     if n * p * m < 40:
         for q in range(m):
             assert areas.verdicts[q] == verdict_by_fractions(survey, areas, q)
-    return 0, expected(0, f"ok {m}" + patterns(areas.figures[:m]) + patterns(areas.variances[:m]) + f" {p}" + patterns(areas.coefficients[:p]))
+    return 0, expected(0, f"ok {m}" + patterns(areas.figures[:m]) + patterns(areas.variances[:m]) + f" {p}" + patterns(areas.multipliers[:p]))
 
 
 def read_interpolate(draw, call):

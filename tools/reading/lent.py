@@ -12,7 +12,7 @@ def untouched(area_after, length):
 
 
 def fit_lengths(survey):
-    """Figures, variances, verdicts, weights, coefficients, work."""
+    """Figures, variances, verdicts, weights, multipliers, work."""
     n, m, p, s = survey.n, survey.m, survey.p, survey.s
     return [m, m, m, n * m, p, 2 * s * s]
 

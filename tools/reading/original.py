@@ -15,8 +15,8 @@ def told(lines):
     if lines[0].startswith("refused "):
         return [f"error {kind}" for kind in KINDS.get(int(lines[0].split()[1]), ())]
     nodes = [text.split() for text in lines[1:] if not text.startswith("coef ")]
-    coefficients = [text.split()[1] for text in lines if text.startswith("coef ")]
-    parts = ["ok", str(len(nodes)), *(node[1] for node in nodes), *(node[2] for node in nodes), str(len(coefficients)), *coefficients]
+    multipliers = [text.split()[1] for text in lines if text.startswith("coef ")]
+    parts = ["ok", str(len(nodes)), *(node[1] for node in nodes), *(node[2] for node in nodes), str(len(multipliers)), *multipliers]
     return [" ".join(parts)]
 
 

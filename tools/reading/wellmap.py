@@ -27,7 +27,7 @@ def lines(data):
     if number:
         return [f"refused {number}"]
     nodes = [f"{q + 1} {shown(areas.figures[q])} {shown(areas.variances[q])} {areas.verdicts[q]}" for q in range(survey.m)]
-    return [f"nodes {survey.m}", *nodes, *(f"coef {shown(x)}" for x in areas.coefficients[:survey.p])]
+    return [f"nodes {survey.m}", *nodes, *(f"coef {shown(x)}" for x in areas.multipliers[:survey.p])]
 
 
 def printed(data):

@@ -34,12 +34,12 @@ class UniversalKrigingOptions(NamedTuple):
 
 
 class UniversalKrigingResult(NamedTuple):
-    """For n wells, m nodes and p columns: m figures, m variances, the p coefficients of the last node, n·m weights, node after node, and m verdicts: 0
+    """For n wells, m nodes and p columns: m figures, m variances, the p multipliers of the last node, n·m weights, node after node, and m verdicts: 0
     where the node passed its audit, 1 to p + 1 the first row missed, 255 where something is not finite."""
 
     predicted: list
     variance: list
-    drift_coefficients: list
+    multipliers: list
     weights: list
     verdicts: list
 
@@ -68,7 +68,7 @@ def universal_kriging_fit(coords, values, options, query_points, query_external_
     k = codes.count(EXTERNAL_CODE)
     node_external = flat(query_external_drift, k, "query_external_drift") if k and query_external_drift is not None else []
     n, p, m = min(len(values), WELLS), min(sum(COLUMNS_OF.get(code, 0) for code in codes), COLUMNS), min(len(nodes) // 2, NODES)
-    work, predicted, variance, weights, coefficients = map(calls.area, (2 * (n + p) ** 2, m, m, n * m, p))
+    work, predicted, variance, weights, multipliers = map(calls.area, (2 * (n + p) ** 2, m, m, n * m, p))
     verdicts = calls.codes([0] * m)
     unless_0(calls.call(
         "nakwemol_fit",
@@ -83,6 +83,6 @@ def universal_kriging_fit(coords, values, options, query_points, query_external_
         variance,
         verdicts,
         weights,
-        coefficients,
+        multipliers,
     ))
-    return UniversalKrigingResult(*map(list, (predicted, variance, coefficients, weights, verdicts)))
+    return UniversalKrigingResult(*map(list, (predicted, variance, multipliers, weights, verdicts)))

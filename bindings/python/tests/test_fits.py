@@ -34,7 +34,7 @@ def next_record(words):
 
 def exported_agrees(r):
     """The exported call: its number, what it writes, and what it does not."""
-    work, predicted, variance, verdicts, weights, coefficients = (calls.numbers(marked(length)) for length in r.lent)
+    work, predicted, variance, verdicts, weights, multipliers = (calls.numbers(marked(length)) for length in r.lent)
     verdicts = calls.codes([MARK_BYTE] * r.lent[3])
     number = calls.call(
         "nakwemol_fit",
@@ -48,9 +48,9 @@ def exported_agrees(r):
         variance,
         verdicts,
         weights,
-        coefficients,
+        multipliers,
     )
-    areas = zip((work, predicted, variance, weights, coefficients), (0, 1, 2, 4, 5))
+    areas = zip((work, predicted, variance, weights, multipliers), (0, 1, 2, 4, 5))
     judged = r.told[3] + [MARK_BYTE] * (r.lent[3] - r.written[3])
     return number == r.number and list(verdicts) == judged and all(holds(area, r.told[at], r.written[at]) for area, at in areas)
 
@@ -72,7 +72,7 @@ def safe_agrees(r, drift_bases):
         fit = universal_kriging_fit(r.coords, r.values, options, r.nodes, r.node_external, tolerance=tolerance)
     except Refused as refused:
         return refused.number == r.number
-    areas = [patterns(fit.predicted), patterns(fit.variance), fit.verdicts, patterns(fit.weights), patterns(fit.drift_coefficients)]
+    areas = [patterns(fit.predicted), patterns(fit.variance), fit.verdicts, patterns(fit.weights), patterns(fit.multipliers)]
     return r.number == 0 and areas == r.told[1:]
 
 

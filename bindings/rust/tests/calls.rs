@@ -22,7 +22,7 @@ fn fit_between_two_wells() {
     let fit = universal_kriging_fit(&COORDS, &VALUES, &options(vec![DriftBasis::Constant]), &NODE, None, 0.0).unwrap();
     assert_eq!(fit.predicted, [4.0]);
     assert_eq!(fit.variance, [1.5]);
-    assert_eq!(fit.drift_coefficients, [0.5]);
+    assert_eq!(fit.multipliers, [0.5]);
     assert_eq!(fit.weights, [0.5, 0.5]);
     assert_eq!(fit.verdicts, [0]);
 }

@@ -1,5 +1,5 @@
 -- Fits whose answers were worked out outside these definitions: tools/reading/cases.py has another reading of the paper in Python's floats and whole numbers, which
--- prints them, and holds figures, variances and coefficients to the original Rust, run. It also tries wrong readings, each of which changes a number here. Assumes nothing.
+-- prints them, and holds figures, variances and multipliers to the original Rust, run. It also tries wrong readings, each of which changes a number here. Assumes nothing.
 use Prim.Native.Nat.{ℕ, _*_}
 use mathlib.Core.Path.{_≡_}
 use mathlib.Core.List.{List, [], _∷_, map}
@@ -29,30 +29,30 @@ areasOf s = record {
   variance = replicate (nodeCount s) nan;
   verdicts = replicate (nodeCount s) 7;
   weights = replicate (wells s * nodeCount s) nan;
-  coefficients = replicate (columns s) nan;
+  multipliers = replicate (columns s) nan;
 }
 
 abbrev pub answerOf : Survey → Outcome Areas
 answerOf s = fitted base s (areasOf s)
 
--- what is looked at: the number, figures, variances, verdicts, weights and coefficients
+-- what is looked at: the number, figures, variances, verdicts, weights and multipliers
 abbrev pub answer : ℕ → List Float → List Float → List ℕ → List Float → List Float → Outcome Areas
-answer number figures variances verdicts weights coefficients = outcome number (record {
+answer number figures variances verdicts weights multipliers = outcome number (record {
   work = [];
   predicted = figures;
   variance = variances;
   verdicts = verdicts;
   weights = weights;
-  coefficients = coefficients;
+  multipliers = multipliers;
 })
 
 abbrev pub seen : Outcome Areas → Outcome Areas
-seen o = answer (o .number) (o .areas .predicted) (o .areas .variance) (o .areas .verdicts) (o .areas .weights) (o .areas .coefficients)
+seen o = answer (o .number) (o .areas .predicted) (o .areas .variance) (o .areas .verdicts) (o .areas .weights) (o .areas .multipliers)
 
 -- a survey is accepted, and has this answer
 abbrev pub Answers : Survey → List ℕ → List ℕ → List ℕ → List ℕ → List ℕ → Type 0
-Answers s figures variances verdicts weights coefficients =
-    seen (answerOf s) ≡ answer 0 (fs figures) (fs variances) verdicts (fs weights) (fs coefficients)
+Answers s figures variances verdicts weights multipliers =
+    seen (answerOf s) ≡ answer 0 (fs figures) (fs variances) verdicts (fs weights) (fs multipliers)
 
 -- ---- three wells, at (1, 2), (4, 6), (4, 2), values 2, 5, 3.5; Spherical 0.25, 1.25, 8, r = 0.125, t = 2^-53
 abbrev pub threeWells : List ℕ → List ℕ → List ℕ → List ℕ → Survey

@@ -17,11 +17,11 @@ use Rattle.fit.specs.Assembly.{entry, assembled}
 use Rattle.fit.specs.Node.{Node, nodeOf}
 use Rattle.fit.specs.Refusals.{refusal}
 
--- "The coefficient area gets .. the last p entries of the last node's z; zeros if m = 0."
-abbrev pub coefficient : Survey → (ℕ → Node) → ℕ → Float
-coefficient s node j = cond (eqb (nodeCount s) 0) zeroFloat (getD (node (nodeCount s - 1) .z) (wells s + j) nan)
+-- "The coefficient area gets .. the last p entries of the last node's z; zeros if m = 0." It "keeps its bits and is called multipliers".
+abbrev pub multiplier : Survey → (ℕ → Node) → ℕ → Float
+multiplier s node j = cond (eqb (nodeCount s) 0) zeroFloat (getD (node (nodeCount s - 1) .z) (wells s + j) nan)
 
--- the areas of an accepted fit: "m figures and variances; .. m verdicts, n·m weights (node after node), p coefficients"
+-- the areas of an accepted fit: "m figures and variances; .. m verdicts, n·m weights (node after node), p coefficients", now called multipliers
 unfoldable pub answered : Survey → Areas → List Float → (ℕ → Node) → Areas
 answered s a work node = record {
   work = work;
@@ -29,7 +29,7 @@ answered s a work node = record {
   variance = written 0 (nodeCount s) (λ q. node q .variance) (a .variance);
   verdicts = written 0 (nodeCount s) (λ q. node q .verdict) (a .verdicts);
   weights = written 0 (wells s * nodeCount s) (λ t. getD (node (t / wells s) .z) (t % wells s) nan) (a .weights);
-  coefficients = written 0 (columns s) (coefficient s node) (a .coefficients);
+  multipliers = written 0 (columns s) (multiplier s node) (a .multipliers);
 }
 
 -- the fit as a call that eliminates, and skips a zero factor

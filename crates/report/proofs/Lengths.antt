@@ -47,19 +47,19 @@ lines-before k (suc n) line h =
       | no m ↦ let b = lines-before k n line (omega arith) in omega (arith, lines-more n line)
     ]
 
-pub coef-lines-length : (p : ℕ) (coefficients : List Float) → length (lines p (coefAt coefficients)) ≡ 22 * p
-coef-lines-length zero coefficients = refl
-coef-lines-length (suc p) coefficients =
-    omega (arith, lines-more p (coefAt coefficients), coef-lines-length p coefficients, coef-line-length (getD coefficients p nan))
+pub coef-lines-length : (p : ℕ) (multipliers : List Float) → length (lines p (coefAt multipliers)) ≡ 22 * p
+coef-lines-length zero multipliers = refl
+coef-lines-length (suc p) multipliers =
+    omega (arith, lines-more p (coefAt multipliers), coef-lines-length p multipliers, coef-line-length (getD multipliers p nan))
 
-pub listing-length : (figures variances : List Float) (verdicts : List ℕ) (coefficients : List Float)
-    → length (listing figures variances verdicts coefficients)
-    ≡ length (decimalText (length verdicts)) + 7 + length (lines (length verdicts) (nodeAt figures variances verdicts)) + 22 * length coefficients
+pub listing-length : (figures variances : List Float) (verdicts : List ℕ) (multipliers : List Float)
+    → length (listing figures variances verdicts multipliers)
+    ≡ length (decimalText (length verdicts)) + 7 + length (lines (length verdicts) (nodeAt figures variances verdicts)) + 22 * length multipliers
 unfolding listing
-listing-length figures variances verdicts coefficients =
+listing-length figures variances verdicts multipliers =
     let m = length verdicts in
     let ns = lines m (nodeAt figures variances verdicts) in
-    let cs = lines (length coefficients) (coefAt coefficients) in
+    let cs = lines (length multipliers) (coefAt multipliers) in
     let a = length-append (countLine m ++ ns) cs in
     let b = length-append (countLine m) ns in
-    omega (arith, word-line-length (ascii "nodes") m, coef-lines-length (length coefficients) coefficients)
+    omega (arith, word-line-length (ascii "nodes") m, coef-lines-length (length multipliers) multipliers)

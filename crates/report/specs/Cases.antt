@@ -22,7 +22,7 @@ zeros k = replicate k (f 0)
 abbrev pub caseB : List ℕ
 caseB = ascii "nodes 1\n1 4010000000000000 3ff8000000000000 0\ncoef 3fe0000000000000\n"
 
--- what it is printed of, "4, 1.5, coefficient 0.5, 0"
+-- what it is printed of, "4, 1.5, multiplier 0.5, 0"
 abbrev pub ofB : {A : Type 0} → (List Float → List Float → List ℕ → List Float → A) → A
 ofB g = g (f 0x4010_0000_0000_0000 ∷ []) (f 0x3ff8_0000_0000_0000 ∷ []) (0 ∷ []) (f 0x3fe0_0000_0000_0000 ∷ [])
 
@@ -45,7 +45,7 @@ pub record Cases : Type 0 where
   -- every digit, "in small letters"; -0 has its sign
   pub every-digit : bitsText (f 0x0123_4567_89ab_cdef) ≡ ascii "0123456789abcdef"
   pub minus-zero : bitsText (f 0x8000_0000_0000_0000) ≡ ascii "8000000000000000"
-  -- no node: the coefficients are +0
+  -- no node: the multipliers are +0
   pub no-node : listing [] [] [] (zeros 2) ≡ ascii "nodes 0\ncoef 0000000000000000\ncoef 0000000000000000\n"
   -- ten nodes: "node number from 1"
   pub ten-nodes : listing (zeros 10) (zeros 10) (0 ∷ 1 ∷ 2 ∷ 3 ∷ 4 ∷ 5 ∷ 6 ∷ 7 ∷ 10 ∷ 13 ∷ []) []

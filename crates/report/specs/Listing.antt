@@ -23,7 +23,7 @@ abbrev pub nodeLine : ℕ → Float → Float → ℕ → List ℕ
 nodeLine number figure variance verdict =
     decimalText number ++ spaced (bitsText figure) ++ spaced (bitsText variance) ++ spaced (decimalText verdict) ++ ascii "\n"
 
--- a coefficient's line
+-- a multiplier's line
 abbrev pub coefLine : Float → List ℕ
 coefLine x = ascii "coef" ++ spaced (bitsText x) ++ ascii "\n"
 
@@ -36,14 +36,14 @@ lines (suc k) line = lines k line ++ line k
 abbrev pub nodeAt : List Float → List Float → List ℕ → ℕ → List ℕ
 nodeAt figures variances verdicts i = nodeLine (i + 1) (getD figures i nan) (getD variances i nan) (getD verdicts i 0)
 
--- the line of the coefficient at place j: "one coef line a column"
+-- the line of the multiplier at place j: "one coef line a column"
 abbrev pub coefAt : List Float → ℕ → List ℕ
-coefAt coefficients j = coefLine (getD coefficients j nan)
+coefAt multipliers j = coefLine (getD multipliers j nan)
 
--- all of an accepted fit's; there are as many nodes as verdicts, and as many columns as coefficients
+-- all of an accepted fit's; there are as many nodes as verdicts, and as many columns as multipliers
 unfoldable pub listing : List Float → List Float → List ℕ → List Float → List ℕ
-listing figures variances verdicts coefficients =
-    countLine (length verdicts) ++ lines (length verdicts) (nodeAt figures variances verdicts) ++ lines (length coefficients) (coefAt coefficients)
+listing figures variances verdicts multipliers =
+    countLine (length verdicts) ++ lines (length verdicts) (nodeAt figures variances verdicts) ++ lines (length multipliers) (coefAt multipliers)
 
 -- "A refusal prints only `refused N`"
 unfoldable pub refusedText : ℕ → List ℕ

@@ -24,7 +24,7 @@ printed text area = cond (leb (length text) (length area)) (outcomeOf (Done (len
 
 -- The listing of an accepted fit. A node has one figure, one variance and one verdict: lists of different lengths have no listing, and nothing is written.
 unfoldable pub listed : List Float → List Float → List ℕ → List Float → List ℕ → Outcome
-listed figures variances verdicts coefficients area =
+listed figures variances verdicts multipliers area =
     cond (eqb (length figures) (length verdicts) && eqb (length variances) (length verdicts))
-    (printed (listing figures variances verdicts coefficients) area)
+    (printed (listing figures variances verdicts multipliers) area)
     (outcomeOf Uneven area)

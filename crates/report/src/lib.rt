@@ -30,18 +30,18 @@ pub fn text_area() -> [u8; LONGEST]
     [0; LONGEST]
 }
 
-// The listing of an accepted fit: a line for the number of nodes, one for each node and one for each coefficient.
+// The listing of an accepted fit: a line for the number of nodes, one for each node and one for each multiplier.
 pub fn write_listing(
     predicted: &[f64],
     variance: &[f64],
     verdicts: &[u8],
-    coefficients: &[f64],
+    multipliers: &[f64],
     text: &mut [u8],
 ) -> Printed
     ensures equation { λ r. ⌜ outcomeOf r (now (text .exit))
-        ≡ listed (now (predicted .entry)) (now (variance .entry)) (now (verdicts .entry)) (now (coefficients .entry)) (now (text .entry)) ⌝ }
-    ensures longest { λ _. ⌜ (length (now (verdicts .entry)) ≤ 100 → length (now (coefficients .entry)) ≤ 12
-        → length (listing (now (predicted .entry)) (now (variance .entry)) (now (verdicts .entry)) (now (coefficients .entry))) ≤ longest) ⌝ }
+        ≡ listed (now (predicted .entry)) (now (variance .entry)) (now (verdicts .entry)) (now (multipliers .entry)) (now (text .entry)) ⌝ }
+    ensures longest { λ _. ⌜ (length (now (verdicts .entry)) ≤ 100 → length (now (multipliers .entry)) ≤ 12
+        → length (listing (now (predicted .entry)) (now (variance .entry)) (now (verdicts .entry)) (now (multipliers .entry))) ≤ longest) ⌝ }
 {
     let m = verdicts.len();
     if predicted.len() != m {
@@ -50,12 +50,12 @@ pub fn write_listing(
     if variance.len() != m {
         return Printed::Uneven;
     }
-    if !room::listing_fits(verdicts, coefficients.len(), text.len()) {
+    if !room::listing_fits(verdicts, multipliers.len(), text.len()) {
         return Printed::TooShort;
     }
     let counted = put::put_count(m, text, 0);
     let listed = put::put_nodes(predicted, variance, verdicts, text, counted);
-    Printed::Done(put::put_coefficients(coefficients, text, listed))
+    Printed::Done(put::put_multipliers(multipliers, text, listed))
 }
 
 // A refusal's one line.

@@ -101,8 +101,8 @@ fn put_node(
     put_byte(b'\n', text, judged)
 }
 
-// The line of a coefficient.
-fn put_coefficient(x: f64, text: &mut [u8], at: usize) -> usize
+// The line of a multiplier.
+fn put_multiplier(x: f64, text: &mut [u8], at: usize) -> usize
     requires { ⌜ Room at (coefLine x) (now text) ⌝ }
     ensures { λ r. ⌜ Put at (coefLine x) (now (text .entry)) r (now (text .exit)) ⌝ }
 {
@@ -139,14 +139,14 @@ pub(crate) fn put_nodes(
     next
 }
 
-// The lines of all coefficients.
-pub(crate) fn put_coefficients(coefficients: &[f64], text: &mut [u8], at: usize) -> usize
-    requires { ⌜ Room at (lines (length (now coefficients)) (coefAt (now coefficients))) (now text) ⌝ }
-    ensures { λ r. ⌜ Put at (lines (length (now (coefficients .entry))) (coefAt (now (coefficients .entry)))) (now (text .entry)) r (now (text .exit)) ⌝ }
+// The lines of all multipliers.
+pub(crate) fn put_multipliers(multipliers: &[f64], text: &mut [u8], at: usize) -> usize
+    requires { ⌜ Room at (lines (length (now multipliers)) (coefAt (now multipliers))) (now text) ⌝ }
+    ensures { λ r. ⌜ Put at (lines (length (now (multipliers .entry))) (coefAt (now (multipliers .entry)))) (now (text .entry)) r (now (text .exit)) ⌝ }
 {
     let mut next = at;
-    for j in 0..coefficients.len() {
-        next = put_coefficient(coefficients[j], text, next);
+    for j in 0..multipliers.len() {
+        next = put_multiplier(multipliers[j], text, next);
     }
     next
 }

@@ -50,11 +50,11 @@ fn left_by_nodes(verdicts: &[u8], room: usize) -> usize
     rest
 }
 
-// Whether the listing of these verdicts and p coefficients has at most `size` bytes: a coefficient's line has 22.
+// Whether the listing of these verdicts and p multipliers has at most `size` bytes: a multiplier's line has 22.
 pub(crate) fn listing_fits(verdicts: &[u8], p: usize, size: usize) -> bool
     requires { ⌜ size < 2 ^ 63 ⌝ }
-    ensures { λ r. ⌜ ((figures variances coefficients : List Float) → length coefficients ≡ p
-        → r ≡ leb (length (listing figures variances (now (verdicts .entry)) coefficients)) size) ⌝ }
+    ensures { λ r. ⌜ ((figures variances multipliers : List Float) → length multipliers ≡ p
+        → r ≡ leb (length (listing figures variances (now (verdicts .entry)) multipliers)) size) ⌝ }
 {
     let room = left(size + 1, decimal_length(verdicts.len() as u64) + 7);
     let rest = left_by_nodes(verdicts, room);

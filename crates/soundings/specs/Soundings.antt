@@ -76,7 +76,7 @@ areas n = record {
   variance = n0 ∷ [];
   verdicts = 1 ∷ [];
   weights = replicate n n0;
-  coefficients = n0 ∷ [];
+  multipliers = n0 ∷ [];
 }
 
 -- "(0,0) value 5", with another variogram in C
@@ -112,28 +112,28 @@ samples = record { dimension = 1; values = n0 ∷ n2 ∷ n4 ∷ []; points = n0 
 abbrev pub bins : List Float → List Float → List ℕ → semivariogram.Areas
 bins distances semivariances counts = record { distances = distances; semivariances = semivariances; counts = counts }
 
--- a fit is accepted with this figure, variance, coefficient and verdict; the other areas are not looked at
+-- a fit is accepted with this figure, variance, multiplier and verdict; the other areas are not looked at
 abbrev pub answer : ℕ → List Float → List Float → List Float → List ℕ → Outcome Areas
-answer number figures variances coefficients verdicts = outcome number (record {
+answer number figures variances multipliers verdicts = outcome number (record {
   work = [];
   predicted = figures;
   variance = variances;
   verdicts = verdicts;
   weights = [];
-  coefficients = coefficients;
+  multipliers = multipliers;
 })
 
 abbrev pub seen : Outcome Areas → Outcome Areas
-seen e = answer (e .number) (e .areas .predicted) (e .areas .variance) (e .areas .coefficients) (e .areas .verdicts)
+seen e = answer (e .number) (e .areas .predicted) (e .areas .variance) (e .areas .multipliers) (e .areas .verdicts)
 
 abbrev pub Answer : Outcome Areas → Float → Float → Float → ℕ → Type 0
-Answer e figure variance coefficient verdict = seen e ≡ answer 0 (figure ∷ []) (variance ∷ []) (coefficient ∷ []) (verdict ∷ [])
+Answer e figure variance multiplier verdict = seen e ≡ answer 0 (figure ∷ []) (variance ∷ []) (multiplier ∷ []) (verdict ∷ [])
 
 -- ---- the soundings
 pub record Soundings : Type 0 where
-  -- "A: (0,0) value 5, node (1,0): 5, variance 2, coefficient 1, verdict 0."
+  -- "A: (0,0) value 5, node (1,0): 5, variance 2, multiplier 1, verdict 0."
   pub A : Answer (oneWell plain) n5 n2 n1 0
-  -- "B: (0,0) 2 and (2,0) 6, node (1,0): 4, 1.5, coefficient 0.5, 0. Ordinary interpolation: 4, 1.5."
+  -- "B: (0,0) 2 and (2,0) 6, node (1,0): 4, 1.5, multiplier 0.5, 0. Ordinary interpolation: 4, 1.5."
   pub B : Answer (twoWells n2 n6 n0) n4 n1½ n½ 0
   pub B-accepted : interpolated base query queryAreas .number ≡ 0
   pub B-figure : interpolated base query queryAreas .areas .figures ≡ n4 ∷ []

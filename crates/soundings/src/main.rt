@@ -41,7 +41,7 @@ struct Answer {
     number: u64,
     figure: f64,
     variance: f64,
-    coefficient: f64,
+    multiplier: f64,
     verdict: u8,
 }
 
@@ -84,7 +84,7 @@ fn fit(
     let mut variance = [0.0; 1];
     let mut verdicts = [1u8; 1];
     let mut weights = [0.0; 2];
-    let mut coefficients = [0.0; 1];
+    let mut multipliers = [0.0; 1];
     let ended = kriging::universal_kriging_fit(
         values,
         coords,
@@ -99,34 +99,34 @@ fn fit(
         &mut variance,
         &mut verdicts,
         &mut weights,
-        &mut coefficients,
+        &mut multipliers,
     );
     Answer {
         number: number_of(ended),
         figure: predicted[0],
         variance: variance[0],
-        coefficient: coefficients[0],
+        multiplier: multipliers[0],
         verdict: verdicts[0],
     }
 }
 
-// A fit's figure, variance, coefficient and verdict, and that it is accepted.
+// A fit's figure, variance, multiplier and verdict, and that it is accepted.
 fn show_fit(
     t: Tally,
     a: Answer,
     figure: f64,
     variance: f64,
-    coefficient: f64,
+    multiplier: f64,
     verdict: u64,
 ) -> Tally {
     let accepted = show_number(t, b"  number", a.number, 0);
     let figured = show(accepted, b"  figure", a.figure, figure);
     let varied = show(figured, b"  variance", a.variance, variance);
-    let fitted = show(varied, b"  coefficient", a.coefficient, coefficient);
+    let fitted = show(varied, b"  multiplier", a.multiplier, multiplier);
     show_number(fitted, b"  verdict", a.verdict as u64, verdict)
 }
 
-// "A: (0,0) value 5, node (1,0): 5, variance 2, coefficient 1, verdict 0."
+// "A: (0,0) value 5, node (1,0): 5, variance 2, multiplier 1, verdict 0."
 fn sounding_a(t: Tally) -> Tally {
     io::write_all(STDOUT_FILENO, b"A\n");
     show_fit(
@@ -174,7 +174,7 @@ fn show_interpolation(t: Tally) -> Tally {
     show(figured, b"  interpolation: variance", variances[0], 1.5)
 }
 
-// "B: (0,0) 2 and (2,0) 6, node (1,0): 4, 1.5, coefficient 0.5, 0. Ordinary interpolation: 4, 1.5."
+// "B: (0,0) 2 and (2,0) 6, node (1,0): 4, 1.5, multiplier 0.5, 0. Ordinary interpolation: 4, 1.5."
 fn sounding_b(t: Tally) -> Tally {
     io::write_all(STDOUT_FILENO, b"B\n");
     show_interpolation(show_fit(t, two_wells(2.0, 6.0, 0.0), 4.0, 1.5, 0.5, 0))

@@ -19,7 +19,7 @@ use Rattle.survey_map.specs.Areas.{ownLists, ownAreas}
 -- "A refusal prints only `refused N`"
 abbrev pub fitText : ℕ → Survey → Areas → List ℕ
 fitText zero s a =
-    listing (take (nodeCount s) (a .predicted)) (take (nodeCount s) (a .variance)) (take (nodeCount s) (a .verdicts)) (take (columns s) (a .coefficients))
+    listing (take (nodeCount s) (a .predicted)) (take (nodeCount s) (a .variance)) (take (nodeCount s) (a .verdicts)) (take (columns s) (a .multipliers))
 fitText (suc k) s a = refusedText (suc k)
 
 -- of a survey

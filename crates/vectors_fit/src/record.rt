@@ -20,7 +20,7 @@ pub struct Areas {
     pub variance: usize,
     pub verdicts: usize,
     pub weights: usize,
-    pub coefficients: usize,
+    pub multipliers: usize,
 }
 
 // A record but for what its lists hold.
@@ -94,7 +94,7 @@ pub(crate) fn next_areas() -> Areas {
         variance,
         verdicts,
         weights,
-        coefficients: next_size(),
+        multipliers: next_size(),
     }
 }
 

@@ -20,7 +20,7 @@ struct Record {
     variance: Vec<u64>,
     verdicts: Vec<u8>,
     weights: Vec<u64>,
-    coefficients: Vec<u64>,
+    multipliers: Vec<u64>,
 }
 
 fn next(words: &mut Words) -> Record {
@@ -50,14 +50,14 @@ fn next(words: &mut Words) -> Record {
         variance: words.words(written[2]),
         verdicts: words.bytes(written[3]),
         weights: words.words(written[4]),
-        coefficients: words.words(written[5]),
+        multipliers: words.words(written[5]),
     }
 }
 
 /// The exported call: its number, what it writes, and what it does not.
 fn exported_agrees(r: &Record) -> bool {
     let [nugget, sill, range, regularization, tolerance] = r.options;
-    let [mut work, mut predicted, mut variance, mut weights, mut coefficients] = [0, 1, 2, 4, 5].map(|area| marked(r.lent[area]));
+    let [mut work, mut predicted, mut variance, mut weights, mut multipliers] = [0, 1, 2, 4, 5].map(|area| marked(r.lent[area]));
     let mut verdicts = vec![MARK_BYTE; r.lent[3]];
     let number = calls::fit(
         &r.values,
@@ -77,7 +77,7 @@ fn exported_agrees(r: &Record) -> bool {
         &mut variance,
         &mut verdicts,
         &mut weights,
-        &mut coefficients,
+        &mut multipliers,
     );
     number == r.number
         && holds(&work, &r.work, r.written[0])
@@ -86,7 +86,7 @@ fn exported_agrees(r: &Record) -> bool {
         && verdicts.starts_with(&r.verdicts)
         && verdicts[r.written[3]..].iter().all(|&verdict| verdict == MARK_BYTE)
         && holds(&weights, &r.weights, r.written[4])
-        && holds(&coefficients, &r.coefficients, r.written[5])
+        && holds(&multipliers, &r.multipliers, r.written[5])
 }
 
 /// The bases of a record's codes with their columns, if they can be written so: every code is one, and the externals are as many as they should be.
@@ -117,7 +117,7 @@ fn safe_agrees(r: &Record, drift_bases: Vec<DriftBasis>) -> bool {
             r.number == 0
                 && same(&fit.predicted, &r.predicted)
                 && same(&fit.variance, &r.variance)
-                && same(&fit.drift_coefficients, &r.coefficients)
+                && same(&fit.multipliers, &r.multipliers)
                 && same(&fit.weights, &r.weights)
                 && fit.verdicts == r.verdicts
         }

@@ -22,7 +22,7 @@ use Rattle.fit.specs.Drift.{DriftIn, drift}
 use Rattle.fit.specs.Assembly.{between, joined, entry, assembled}
 use Rattle.fit.specs.Fit.{answered}
 use Rattle.kriging.proofs.Taken.{few-wells, few-columns, columns-counted, coords-twice, externals-whole, node-externals}
-use Rattle.kriging.proofs.Taken.{work-long, predicted-long, variance-long, verdicts-long, weights-long, coefficients-long}
+use Rattle.kriging.proofs.Taken.{work-long, predicted-long, variance-long, verdicts-long, weights-long, multipliers-long}
 use Rattle.kriging.proofs.Fitting.{drift-laid, matrix-laid, taken-there}
 use Rattle.kriging.proofs.fit_taken.Proof.States.{at-entry, at-table, at-columns, at-laid, at-drift, at-matrix, at-ended, at-done, at-solved, at-nodes}
 use Rattle.kriging.proofs.fit_taken.Proof.States.{survey-of, areas-of}
@@ -157,7 +157,7 @@ krige-nodes-requires c κs =
       variance-long s a t,
       verdicts-long s a t,
       weights-long s a t,
-      subst (λ (p : ℕ). p ≤ length (at-entry d .args .coefficients .now)) (sym (counted d)) (coefficients-long s a t),
+      subst (λ (p : ℕ). p ≤ length (at-entry d .args .multipliers .now)) (sym (counted d)) (multipliers-long s a t),
       at-table f .fraction-table .ensures,
     )
 

@@ -64,7 +64,7 @@ survey-of c =
 abbrev areas-of : tie.After-fit-refusal → Areas
 areas-of c =
     let a = at-entry c .args in
-    areasOf (a .work .now) (a .predicted .now) (a .variance .now) (a .verdicts .now) (a .weights .now) (a .drift-coefficients .now)
+    areasOf (a .work .now) (a .predicted .now) (a .variance .now) (a .verdicts .now) (a .weights .now) (a .multipliers .now)
 
 -- what the judgement says: the number of the refusal, with the limits of the base
 judgement : (c : tie.After-fit-refusal) → judged (c .fit-refusal .result) ≡ refusal base (survey-of c) (areas-of c)

@@ -26,18 +26,18 @@ abbrev at-entry : tie.After-listing-fits → tie.Start
 at-entry c = at-lists (at-known c)
 
 abbrev text-of : tie.Start → List ℕ
-text-of c = listing (c .args .predicted .now) (c .args .variance .now) (c .args .verdicts .now) (c .args .coefficients .now)
+text-of c = listing (c .args .predicted .now) (c .args .variance .now) (c .args .verdicts .now) (c .args .multipliers .now)
 
 -- a verdict is a byte
 no-longer : (c : tie.After-slice-known) → let a = at-lists c .args in
-    length (a .verdicts .now) ≤ 100 → length (a .coefficients .now) ≤ 12 → length (text-of (at-lists c)) ≤ longest
+    length (a .verdicts .now) ≤ 100 → length (a .multipliers .now) ≤ 12 → length (text-of (at-lists c)) ≤ longest
 no-longer c =
     let a = at-lists c .args in
-    longest-listing (a .predicted .now) (a .variance .now) (a .verdicts .now) (a .coefficients .now)
+    longest-listing (a .predicted .now) (a .variance .now) (a .verdicts .now) (a .multipliers .now)
     (λ i. c .before .before .shared-slice-known3 .given i .fits)
 
 judged : (c : tie.After-listing-fits) → c .listing-fits .result ≡ leb (length (text-of (at-entry c))) (length (at-entry c .args .text .now))
-judged c = c .listing-fits .ensures _ _ (at-entry c .args .coefficients .now) refl
+judged c = c .listing-fits .ensures _ _ (at-entry c .args .multipliers .now) refl
 
 -- past the test there is room: for the listing, and so for its first text and its first two
 fits : (c : tie.Else3) → length (text-of (at-entry (c .before))) ≤ length (at-entry (c .before) .args .text .now)
@@ -49,23 +49,23 @@ count-of c = countLine (length (c .args .verdicts .now))
 abbrev nodes-of : tie.Start → List ℕ
 nodes-of c = lines (length (c .args .verdicts .now)) (nodeAt (c .args .predicted .now) (c .args .variance .now) (c .args .verdicts .now))
 
-abbrev coefficients-of : tie.Start → List ℕ
-coefficients-of c = lines (length (c .args .coefficients .now)) (coefAt (c .args .coefficients .now))
+abbrev multipliers-of : tie.Start → List ℕ
+multipliers-of c = lines (length (c .args .multipliers .now)) (coefAt (c .args .multipliers .now))
 
 abbrev RoomFor : tie.Start → List ℕ → Type 0
 RoomFor c text = Room 0 text (c .args .text .now)
 
-for-all : (c : tie.Else3) → let s = at-entry (c .before) in RoomFor s (count-of s ++ nodes-of s ++ coefficients-of s)
+for-all : (c : tie.Else3) → let s = at-entry (c .before) in RoomFor s (count-of s ++ nodes-of s ++ multipliers-of s)
 unfolding listing
 for-all c = omega (arith, fits c)
 
 for-two : (c : tie.Else3) → let s = at-entry (c .before) in RoomFor s (count-of s ++ nodes-of s)
-for-two c = let s = at-entry (c .before) in room-first 0 (count-of s ++ nodes-of s) (coefficients-of s) (s .args .text .now) (for-all c)
+for-two c = let s = at-entry (c .before) in room-first 0 (count-of s ++ nodes-of s) (multipliers-of s) (s .args .text .now) (for-all c)
 
 abbrev at-count : tie.After-put-nodes-arg → tie.After-put-count
 at-count c = c .before .before .before
 
-abbrev at-nodes : tie.After-put-coefficients-arg → tie.After-put-nodes
+abbrev at-nodes : tie.After-put-multipliers-arg → tie.After-put-nodes
 at-nodes c = c .before .before .before
 
 abbrev at-test : tie.After-put-count → tie.Else3
@@ -86,7 +86,7 @@ returns c = (figures-uneven _ _ _ _ _ (c .if1 .taken), no-longer (c .before))
 returns-2 : tie.Need-returns-2
 returns-2 c = (variances-uneven _ _ _ _ _ (c .if2 .taken) (c .before .if1 .left), no-longer (c .before .before))
 
--- if !room::listing_fits(verdicts, coefficients.len(), text.len()) {
+-- if !room::listing_fits(verdicts, multipliers.len(), text.len()) {
 listing-fits-requires : tie.Need-listing-fits-requires
 listing-fits-requires c κs = search needs
 
@@ -110,12 +110,12 @@ put-nodes-requires c κs =
     let even = test .before .before in
     (even .before .if1 .left, even .if2 .left, room-then (nodes-of s) (for-two test) (counted .put-count .ensures))
 
--- Printed::Done(put::put_coefficients(coefficients, text, listed))
-put-coefficients-requires : tie.Need-put-coefficients-requires
-put-coefficients-requires c κs =
+-- Printed::Done(put::put_multipliers(multipliers, text, listed))
+put-multipliers-requires : tie.Need-put-multipliers-requires
+put-multipliers-requires c κs =
     let listed = at-nodes c in
     let test = by-nodes listed in
-    room-then (coefficients-of (at-entry (test .before))) (for-all test) (put-two listed)
+    room-then (multipliers-of (at-entry (test .before))) (for-all test) (put-two listed)
 
 -- pub fn write_listing(
 same-length : tie.Need-same-length
@@ -129,7 +129,7 @@ returns-4 c =
     let test = by-nodes listed in
     let even = test .before .before in
     let s = at-entry (test .before) in
-    let done = put-whole (text-of s) (s .args .text .now) (fits test) (put-then (put-two listed) (called .put-coefficients .ensures)) in
+    let done = put-whole (text-of s) (s .args .text .now) (fits test) (put-then (put-two listed) (called .put-multipliers .ensures)) in
     (done ∙ sym (even-listed _ _ _ _ _ (even .before .if1 .left) (even .if2 .left)), no-longer (at-known (test .before)))
 
 pub write-listing-spec : {M : Type 1} → statement M
@@ -142,6 +142,6 @@ write-listing-spec =
     returns-3
     put-count-requires
     put-nodes-requires
-    put-coefficients-requires
+    put-multipliers-requires
     same-length
     returns-4)

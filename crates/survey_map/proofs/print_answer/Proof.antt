@@ -27,17 +27,17 @@ at-columns c = let d = c .before .before in d .before .before
 counted : (c : tie.After-drift-columns) → c .drift-columns .result ≡ columnSum (at-entry c .args .bases .now)
 counted c = let few = at-entry c .pre .4 in c .drift-columns .ensures ∙ held-exact (at-entry c .args .bases .now) (omega arith)
 
-columns-taken : (c : tie.After-drift-columns) → let p = c .drift-columns .result in length (take p (at-entry c .args .coefficients .now)) ≡ p
+columns-taken : (c : tie.After-drift-columns) → let p = c .drift-columns .result in length (take p (at-entry c .args .multipliers .now)) ≡ p
 columns-taken c =
     let long = at-entry c .pre .5 in
     let p = counted c in
-    length-take-le (c .drift-columns .result) (at-entry c .args .coefficients .now) (omega arith)
+    length-take-le (c .drift-columns .result) (at-entry c .args .multipliers .now) (omega arith)
 
 -- the listing of p columns
 abbrev text-of : tie.Start → ℕ → List ℕ
 text-of c p =
     let a = c .args in
-    listing (take (a .m) (a .predicted .now)) (take (a .m) (a .variance .now)) (take (a .m) (a .verdicts .now)) (take p (a .coefficients .now))
+    listing (take (a .m) (a .predicted .now)) (take (a .m) (a .variance .now)) (take (a .m) (a .verdicts .now)) (take p (a .multipliers .now))
 
 -- let p = drift_columns(bases);
 drift-columns-requires : tie.Need-drift-columns-requires
@@ -55,7 +55,7 @@ slice-aggregate-write-listing-2 c = sym (length-take-le _ _ (at-entry (c .before
 slice-aggregate-write-listing-3 : tie.Need-slice-aggregate-write-listing-3
 slice-aggregate-write-listing-3 c = sym (length-take-le _ _ (at-entry (c .before .before .before) .pre .3))
 
--- &coefficients[..p],
+-- &multipliers[..p],
 slice-aggregate-write-listing-4 : tie.Need-slice-aggregate-write-listing-4
 slice-aggregate-write-listing-4 c = sym (columns-taken (at-columns c))
 
@@ -77,7 +77,7 @@ returns c =
     let variances = length-take-le (a .m) (a .variance .now) (s .pre .2) in
     let verdicts = length-take-le (a .m) (a .verdicts .now) (s .pre .3) in
     let few-nodes : length (take (a .m) (a .verdicts .now)) ≤ 100 = omega (arith, s .pre .0) in
-    let few-columns : length (take (d .drift-columns .result) (a .coefficients .now)) ≤ 12 = omega (arith, columns-taken d, counted d, s .pre .4) in
+    let few-columns : length (take (d .drift-columns .result) (a .multipliers .now)) ≤ 12 = omega (arith, columns-taken d, counted d, s .pre .4) in
     same-text (a .text .now) (ap (text-of s) (counted d)) (
       listed-text _ _ _ _ _ (figures ∙ sym verdicts) (variances ∙ sym verdicts) (w .write-listing .ensures .0),
       w .write-listing .ensures .1 few-nodes few-columns,

@@ -28,7 +28,7 @@ at-entry c =
     let earlier = later .before .before .before in
     at-lists (earlier .before)
 
-abbrev at-fit : tie.After-coefficients2 → tie.After-universal-kriging-fit
+abbrev at-fit : tie.After-multipliers2 → tie.After-universal-kriging-fit
 at-fit c = let d = c .before .before .before in d .before .before .before
 
 abbrev at-done : tie.After-print-answer-arg → tie.After-enum-told
@@ -82,7 +82,7 @@ slice-aggregate-universal-kriging-fit-4 c = search needs
 slice-aggregate-universal-kriging-fit-5 : tie.Need-slice-aggregate-universal-kriging-fit-5
 slice-aggregate-universal-kriging-fit-5 c = search needs
 
--- &mut coefficients,
+-- &mut multipliers,
 slice-aggregate-universal-kriging-fit-6 : tie.Need-slice-aggregate-universal-kriging-fit-6
 slice-aggregate-universal-kriging-fit-6 c = search needs
 
@@ -106,7 +106,7 @@ slice-aggregate-print-answer-2 c = search needs
 slice-aggregate-print-answer-3 : tie.Need-slice-aggregate-print-answer-3
 slice-aggregate-print-answer-3 c = search needs
 
--- &coefficients,
+-- &multipliers,
 slice-aggregate-print-answer-4 : tie.Need-slice-aggregate-print-answer-4
 slice-aggregate-print-answer-4 c = search needs
 

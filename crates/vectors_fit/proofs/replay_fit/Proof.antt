@@ -25,7 +25,7 @@ slice-aggregate-mark-all-4 c = search needs
 slice-aggregate-mark-all-5 : tie.Need-slice-aggregate-mark-all-5
 slice-aggregate-mark-all-5 c = search needs
 
--- &mut coefficients,
+-- &mut multipliers,
 slice-aggregate-mark-all-6 : tie.Need-slice-aggregate-mark-all-6
 slice-aggregate-mark-all-6 c = search needs
 
@@ -53,7 +53,7 @@ least-requires-4 c κs = search needs
 least-requires-5 : tie.Need-least-requires-5
 least-requires-5 c κs = search needs
 
--- let f = least(lent.coefficients, COLUMNS);
+-- let f = least(lent.multipliers, COLUMNS);
 least-requires-6 : tie.Need-least-requires-6
 least-requires-6 c κs = search needs
 
@@ -92,9 +92,9 @@ array-borrow-prefix-weights c = search needs
 slice-aggregate-replay-lent-5 : tie.Need-slice-aggregate-replay-lent-5
 slice-aggregate-replay-lent-5 c = sym (length-take-le _ _ (search needs))
 
--- &mut coefficients[..f],
-array-borrow-prefix-coefficients : tie.Need-array-borrow-prefix-coefficients
-array-borrow-prefix-coefficients c = search needs
+-- &mut multipliers[..f],
+array-borrow-prefix-multipliers : tie.Need-array-borrow-prefix-multipliers
+array-borrow-prefix-multipliers c = search needs
 
 slice-aggregate-replay-lent-6 : tie.Need-slice-aggregate-replay-lent-6
 slice-aggregate-replay-lent-6 c = sym (length-take-le _ _ (search needs))
@@ -137,7 +137,7 @@ replay-fit-spec =
     slice-aggregate-replay-lent-4
     array-borrow-prefix-weights
     slice-aggregate-replay-lent-5
-    array-borrow-prefix-coefficients
+    array-borrow-prefix-multipliers
     slice-aggregate-replay-lent-6
     replay-lent-requires
     same-length

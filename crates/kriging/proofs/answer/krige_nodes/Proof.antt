@@ -29,7 +29,7 @@ external-columns-requires c κs = search needs
 drift-finite-requires : tie.Need-drift-finite-requires Inv-loop μ-loop
 drift-finite-requires c κs = search needs
 
--- store_zeros(coefficients, p);
+-- store_zeros(multipliers, p);
 store-zeros-requires : tie.Need-store-zeros-requires Inv-loop μ-loop
 store-zeros-requires c κs = at-columns (c .before .before) .pre .9
 
@@ -134,7 +134,7 @@ mul-store c =
 store-requires : tie.Need-store-requires Inv-loop μ-loop
 store-requires c κs = let krige = at-storing c in omega (arith, weights-inside krige, z-first krige)
 
--- store(&z[n..size], coefficients, 0);
+-- store(&z[n..size], multipliers, 0);
 mul-store-2 : tie.Need-mul-store-2 Inv-loop μ-loop
 mul-store-2 c = let l = loop-of (at-node (c .before .before)) in omega (arith, at-entry l .pre .2)
 
@@ -208,7 +208,7 @@ returns c =
     let l = c .before in
     λ external hF.
     let s = survey-of l external in
-    all-nodes s _ (nodeOf s (at-entry l .args .work .now)) (at-entry l .pre .1) (l .loop .q) _ (at-entry l .args .coefficients .now)
+    all-nodes s _ (nodeOf s (at-entry l .args .work .now)) (at-entry l .pre .1) (l .loop .q) _ (at-entry l .args .multipliers .now)
     (omega (arith, l .loop .inv .1)) (at-zeros l .store-zeros .ensures) (l .loop .inv .11 external hF)
 
 pub krige-nodes-spec : {M : Type 1} → statement M

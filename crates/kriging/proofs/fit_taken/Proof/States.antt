@@ -79,4 +79,4 @@ survey-of c =
 abbrev pub areas-of : tie.After-drift-columns → Areas
 areas-of c =
     let a = at-entry c .args in
-    areasOf (a .work .now) (a .predicted .now) (a .variance .now) (a .verdicts .now) (a .weights .now) (a .coefficients .now)
+    areasOf (a .work .now) (a .predicted .now) (a .variance .now) (a .verdicts .now) (a .weights .now) (a .multipliers .now)

@@ -29,7 +29,7 @@ survey c =
 abbrev areas : tie.Start → Areas
 areas c =
     let a = c .args in
-    areasOf (a .work .now) (a .predicted .now) (a .variance .now) (a .verdicts .now) (a .weights .now) (a .coefficients .now)
+    areasOf (a .work .now) (a .predicted .now) (a .variance .now) (a .verdicts .now) (a .weights .now) (a .multipliers .now)
 
 abbrev whole : tie.Start → ℕ
 whole c = refusal (c .args .limits) (survey c) (areas c)
@@ -135,7 +135,7 @@ short-for c p =
     ltb (length (a .predicted)) (nodeCount s)
     || (ltb (length (a .variance)) (nodeCount s)
     || (ltb (length (a .verdicts)) (nodeCount s)
-    || (ltb (length (a .weights)) (wells s * nodeCount s) || ltb (length (a .coefficients)) p)))
+    || (ltb (length (a .weights)) (wells s * nodeCount s) || ltb (length (a .multipliers)) p)))
 
 answer-is : (c : tie.After-short-answer) → let s = at-work (c .before) in c .short-answer .result ≡ shortAnswer (survey s) (areas s)
 answer-is c = c .short-answer .ensures ∙ ap (short-for (at-work (c .before))) (exactly (c .before .before .before))

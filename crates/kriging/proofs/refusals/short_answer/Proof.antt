@@ -11,7 +11,7 @@ use Rattle.kriging.proofs.refusals.short_answer.Tie as tie
 
 -- What is left to look at, area after area.
 abbrev weights-left : tie.Start → Bool
-weights-left c = let a = c .args in ltb (a .weights) (a .n * a .m) || ltb (a .coefficients) (a .p)
+weights-left c = let a = c .args in ltb (a .weights) (a .n * a .m) || ltb (a .multipliers) (a .p)
 
 abbrev verdicts-left : tie.Start → Bool
 verdicts-left c = ltb (c .args .verdicts) (c .args .m) || weights-left c
@@ -50,7 +50,7 @@ below-product-requires c κs = search needs
 returns-4 : tie.Need-returns-4
 returns-4 c = let h = c .before in sym (past-3 (h .before) ∙ one _ (sym (h .below-product .ensures) ∙ c .if4 .taken))
 
--- coefficients < p
+-- multipliers < p
 returns-5 : tie.Need-returns-5
 returns-5 c = let h = c .before in sym (past-3 (h .before) ∙ other _ (sym (h .below-product .ensures) ∙ c .if4 .left))
 

@@ -48,7 +48,7 @@ at-fit c = let d = half-back c .before .before .before in d .before .before .bef
 abbrev lent : tie.Start → Areas
 lent c =
     let a = c .args in
-    areasOf (a .work .now) (a .predicted .now) (a .variance .now) (a .verdicts .now) (a .weights .now) (a .coefficients .now)
+    areasOf (a .work .now) (a .predicted .now) (a .variance .now) (a .verdicts .now) (a .weights .now) (a .multipliers .now)
 
 -- how the call ends where the code is none, and the fit with a variogram
 abbrev away : tie.Start → Outcome Areas

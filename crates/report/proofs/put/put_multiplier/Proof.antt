@@ -1,12 +1,12 @@
--- `report::put::put_coefficient` meets its contract: three texts, each past the one before. Assumes nothing.
+-- `report::put::put_multiplier` meets its contract: three texts, each past the one before. Assumes nothing.
 use mathlib.Core.List.{_++_}
 use Rattle.report.specs.Numerals.{ascii, bitsText}
 use Rattle.report.specs.Listing.{spaced}
 use Rattle.area.specs.Placed.{Room, Put}
 use Rattle.area.proofs.Placed.{put-then, room-first, room-then}
 use borrow.Author.Needs.{needs}
-use Rattle.report.proofs.put.put_coefficient.Statement.{statement}
-use Rattle.report.proofs.put.put_coefficient.Tie as tie
+use Rattle.report.proofs.put.put_multiplier.Statement.{statement}
+use Rattle.report.proofs.put.put_multiplier.Tie as tie
 
 abbrev at-entry : tie.After-put-bytes → tie.Start
 at-entry c = c .before .before .before .before
@@ -42,15 +42,15 @@ put-bits-requires c κs =
 put-byte-requires : tie.Need-put-byte-requires
 put-byte-requires c κs = let number = at-bits c in room-then (ascii "\n") (at-entry (at-word (number .before)) .pre) (put-two number)
 
--- fn put_coefficient(x: f64, text: &mut [u8], at: usize) -> usize
+-- fn put_multiplier(x: f64, text: &mut [u8], at: usize) -> usize
 same-length : tie.Need-same-length
 same-length c = search needs
 
 returns : tie.Need-returns
 returns c = let called = c .before .before in put-then (put-two (at-bits (called .before))) (called .put-byte .ensures)
 
-pub put-coefficient-spec : {M : Type 1} → statement M
-put-coefficient-spec =
+pub put-multiplier-spec : {M : Type 1} → statement M
+put-multiplier-spec =
     tie.close
     (tie.spec
     slice-aggregate-put-bytes
