@@ -3,11 +3,11 @@ import math
 from unittest.mock import patch
 
 from tools.generators.calls import Fit
-from tools.patterns import value
-from tools.reading import audit, case_text, fit
+from tools.patterns import bits, value
+from tools.reading import audit, case_text, fit, wrong_trends
 from tools.reading.floats import clamped, running_sum
 from tools.reading.outcomes import of_fit
-from tools.reading.survey import EXTERNAL, LINEAR, QUADRATIC, Survey
+from tools.reading.survey import CONSTANT, EXTERNAL, LINEAR, QUADRATIC, Survey
 from tools.reading.variogram import SPHERICAL, Variogram
 
 WELLS = [1.0, 2.0, 4.0, 6.0, 4.0, 2.0]
@@ -41,6 +41,11 @@ AUDITS = {
         255,
     ),
 }
+# the paper's two soundings with a trend, and what it says that it is
+SOUNDING_A = Survey([5.0], [0.0, 0.0], [CONSTANT], [], [1.0, 0.0], [], Variogram(SPHERICAL, 0.0, 1.0, 1.0), 0.0, 0.0)
+SOUNDING_B = SOUNDING_A._replace(values=[2.0, 6.0], coords=[0.0, 0.0, 2.0, 0.0])
+TRENDS = {"A": (SOUNDING_A, 0x4014_0000_0000_0000), "B": (SOUNDING_B, 0x4010_0000_0000_0000)}
+MINUS_ZERO = ONE_WELL._replace(values=[-0.0])
 FAR_WELL = Survey(
     values=[5.0, 4.0, 7.0, 4.0, 3.0, 7.0],
     coords=[2.0**512, 1.0, 2.0, 5.0, 3.0, 2.0, 2.0, 2.0, 2.0, 4.0, 3.0, 3.0],
@@ -136,6 +141,20 @@ def wrong_answers(survey):
     }
 
 
+def wrong_trend(survey, name):
+    return {name: changed(survey, fit, "trend_of", wrong_trends.BY_NAME[name])}
+
+
+def trends_told(survey):
+    """Those that a fit can tell whose products are not all minus zero."""
+    right = of_fit(survey)
+    told = {"the multipliers as the trend": {**right, "trend": right["multipliers"]}, "zeros as the trend": {**right, "trend": [0.0] * survey.p}}
+    for name in wrong_trends.BY_NAME:
+        if name != wrong_trends.FROM_FIRST:
+            told.update(wrong_trend(survey, name))
+    return told
+
+
 def call(survey):
     return Fit(*survey[:6], tuple(survey.variogram), survey.r).words()
 
@@ -156,13 +175,15 @@ def print_externals():
     case_text.title("fit 1: two external columns, three wells, two nodes (n = 3, m = 2, p = k = 2, s = 5)")
     outcome = print_case(EXTERNALS)
     assert outcome["verdicts"] == [0, 2]
-    case_text.wrong(outcome, {**wrong_placings(EXTERNALS), **wrong_answers(EXTERNALS)})
+    case_text.wrong(outcome, {**wrong_placings(EXTERNALS), **wrong_answers(EXTERNALS), **trends_told(EXTERNALS)})
 
 
 def print_no_nodes():
     case_text.title("fit 2: the same wells, no node (m = 0)")
     outcome = print_case(NO_NODES)
-    case_text.wrong(outcome, {f"multipliers {x}": {**outcome, "multipliers": [x, x]} for x in (math.nan, -0.0)})
+    assert outcome["trend"] == of_fit(EXTERNALS)["trend"]
+    multipliers = {f"multipliers {x}": {**outcome, "multipliers": [x, x]} for x in (math.nan, -0.0)}
+    case_text.wrong(outcome, {**multipliers, **trends_told(NO_NODES)})
 
 
 def swapped_drift(codes, x, y, externals):
@@ -178,7 +199,17 @@ def print_surface():
         "1, y, x for wells and nodes": changed(SURFACE, fit, "drift_row", swapped_drift),
         "multipliers from the first p entries of z": changed(SURFACE, fit, "multipliers_of", lambda z, p: z[:p]),
     }
-    case_text.wrong(outcome, wrong)
+    case_text.wrong(outcome, {**wrong, **trends_told(SURFACE)})
+
+
+def print_trends():
+    for name, (survey, trend) in TRENDS.items():
+        case_text.title(f"trend: sounding {name}")
+        assert list(map(bits, print_case(survey)["trend"])) == [trend]
+    case_text.title("trend: a value of minus zero, and a sum from 0")
+    outcome = print_case(MINUS_ZERO)
+    assert list(map(bits, outcome["trend"])) == [0]
+    case_text.wrong(outcome, wrong_trend(MINUS_ZERO, wrong_trends.FROM_FIRST))
 
 
 def print_audits():
@@ -195,4 +226,5 @@ def print_all():
     print_externals()
     print_no_nodes()
     print_surface()
+    print_trends()
     print_audits()

@@ -1,6 +1,7 @@
 // What is compared of a fit: how it ended and what each area holds, past what is written too.
 use crate::counts::FIGURES;
 use crate::counts::MULTIPLIERS;
+use crate::counts::TRENDS;
 use crate::counts::VARIANCES;
 use crate::counts::VERDICTS;
 use crate::counts::WEIGHT;
@@ -31,6 +32,7 @@ pub(crate) fn mark_all(
     verdicts: &mut [u8],
     weights: &mut [f64],
     multipliers: &mut [f64],
+    trend: &mut [f64],
 ) {
     mark(work);
     mark(predicted);
@@ -38,6 +40,7 @@ pub(crate) fn mark_all(
     mark_bytes(verdicts);
     mark(weights);
     mark(multipliers);
+    mark(trend);
 }
 
 fn wide(b: u8) -> u64 {
@@ -82,18 +85,18 @@ fn compare_nodes(
     compare_next_verdicts(verdicts, words, written.verdicts, counts);
 }
 
-// The weights and the multipliers.
-fn compare_weights(
+// What stands at a column: its multiplier and its trend.
+fn compare_columns(
     written: Areas,
-    weights: &[f64],
     multipliers: &[f64],
+    trend: &[f64],
     words: &mut [u64],
     counts: &mut [u64],
 ) {
-    let n = written.weights;
     let p = written.multipliers;
-    compare_next(weights, words, n, n, WEIGHT, counts);
+    let again = written.trend;
     compare_next(multipliers, words, p, p, MULTIPLIERS, counts);
+    compare_next(trend, words, again, again, TRENDS, counts);
 }
 
 // Compares how a fit ended and what it left: the number comes in, then how much is written of each area, how much of the work area is told, and the areas.
@@ -105,6 +108,7 @@ pub(crate) fn compare_all(
     verdicts: &[u8],
     weights: &[f64],
     multipliers: &[f64],
+    trend: &[f64],
     words: &mut [u64],
     counts: &mut [u64],
 ) {
@@ -113,5 +117,7 @@ pub(crate) fn compare_all(
     let told = next_size();
     compare_next(work, words, told, written.work, WORK_AREA, counts);
     compare_nodes(written, predicted, variance, verdicts, words, counts);
-    compare_weights(written, weights, multipliers, words, counts);
+    let n = written.weights;
+    compare_next(weights, words, n, n, WEIGHT, counts);
+    compare_columns(written, multipliers, trend, words, counts);
 }

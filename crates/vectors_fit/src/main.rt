@@ -1,4 +1,4 @@
-// Replays fits: figures, variances and multipliers of the original Rust; weights, verdicts, work areas and refusals of another reading of the paper.
+// Replays fits: figures, variances and multipliers of the original Rust; trends, weights, verdicts, work areas and refusals of another reading of the papers.
 // Standard input has a record for each, as tools/generators/fit.py wrote them.
 // Writes a line for each record that comes out otherwise; then how the fits ended, by number, and of each part how many numbers were compared and how
 // many differ; and last how many records were compared and how many differ.
@@ -46,6 +46,7 @@ fn answer(
     verdicts: &mut [u8],
     weights: &mut [f64],
     multipliers: &mut [f64],
+    trend: &mut [f64],
 ) -> Fit {
     let lists = head.lists;
     let bases = least(lists.codes, codes.len());
@@ -64,6 +65,7 @@ fn answer(
         verdicts,
         weights,
         multipliers,
+        trend,
     )
 }
 
@@ -86,6 +88,7 @@ fn replay_lent(
     verdicts: &mut [u8],
     weights: &mut [f64],
     multipliers: &mut [f64],
+    trend: &mut [f64],
     counts: &mut [u64],
 ) {
     let number = number_of(answer(
@@ -98,6 +101,7 @@ fn replay_lent(
         verdicts,
         weights,
         multipliers,
+        trend,
     ));
     let mut words = [0u64; WORK];
     compare_all(
@@ -108,6 +112,7 @@ fn replay_lent(
         verdicts,
         weights,
         multipliers,
+        trend,
         &mut words,
         counts,
     );
@@ -122,6 +127,7 @@ fn replay_fit(head: Head, numbers: &[f64], codes: &[u8], counts: &mut [u64]) {
     let mut verdicts = [0u8; NODES];
     let mut weights = [0.0; WEIGHTS];
     let mut multipliers = [0.0; COLUMNS];
+    let mut trend = [0.0; COLUMNS];
     mark_all(
         &mut work,
         &mut predicted,
@@ -129,6 +135,7 @@ fn replay_fit(head: Head, numbers: &[f64], codes: &[u8], counts: &mut [u64]) {
         &mut verdicts,
         &mut weights,
         &mut multipliers,
+        &mut trend,
     );
     let a = least(lent.work, WORK);
     let b = least(lent.predicted, NODES);
@@ -136,6 +143,7 @@ fn replay_fit(head: Head, numbers: &[f64], codes: &[u8], counts: &mut [u64]) {
     let d = least(lent.verdicts, NODES);
     let e = least(lent.weights, WEIGHTS);
     let f = least(lent.multipliers, COLUMNS);
+    let g = least(lent.trend, COLUMNS);
     replay_lent(
         head,
         numbers,
@@ -146,6 +154,7 @@ fn replay_fit(head: Head, numbers: &[f64], codes: &[u8], counts: &mut [u64]) {
         &mut verdicts[..d],
         &mut weights[..e],
         &mut multipliers[..f],
+        &mut trend[..g],
         counts,
     );
 }

@@ -29,6 +29,10 @@ slice-aggregate-mark-all-5 c = search needs
 slice-aggregate-mark-all-6 : tie.Need-slice-aggregate-mark-all-6
 slice-aggregate-mark-all-6 c = search needs
 
+-- &mut trend,
+slice-aggregate-mark-all-7 : tie.Need-slice-aggregate-mark-all-7
+slice-aggregate-mark-all-7 c = search needs
+
 -- mark_all(
 mark-all-requires : tie.Need-mark-all-requires
 mark-all-requires c κs = search needs
@@ -56,6 +60,10 @@ least-requires-5 c κs = search needs
 -- let f = least(lent.multipliers, COLUMNS);
 least-requires-6 : tie.Need-least-requires-6
 least-requires-6 c κs = search needs
+
+-- let g = least(lent.trend, COLUMNS);
+least-requires-7 : tie.Need-least-requires-7
+least-requires-7 c κs = search needs
 
 -- &mut work[..a],
 array-borrow-prefix-work : tie.Need-array-borrow-prefix-work
@@ -99,6 +107,13 @@ array-borrow-prefix-multipliers c = search needs
 slice-aggregate-replay-lent-6 : tie.Need-slice-aggregate-replay-lent-6
 slice-aggregate-replay-lent-6 c = sym (length-take-le _ _ (search needs))
 
+-- &mut trend[..g],
+array-borrow-prefix-trend : tie.Need-array-borrow-prefix-trend
+array-borrow-prefix-trend c = search needs
+
+slice-aggregate-replay-lent-7 : tie.Need-slice-aggregate-replay-lent-7
+slice-aggregate-replay-lent-7 c = sym (length-take-le _ _ (search needs))
+
 -- replay_lent(
 replay-lent-requires : tie.Need-replay-lent-requires
 replay-lent-requires c κs = search needs
@@ -120,6 +135,7 @@ replay-fit-spec =
     slice-aggregate-mark-all-4
     slice-aggregate-mark-all-5
     slice-aggregate-mark-all-6
+    slice-aggregate-mark-all-7
     mark-all-requires
     least-requires
     least-requires-2
@@ -127,6 +143,7 @@ replay-fit-spec =
     least-requires-4
     least-requires-5
     least-requires-6
+    least-requires-7
     array-borrow-prefix-work
     slice-aggregate-replay-lent
     array-borrow-prefix-predicted
@@ -139,6 +156,8 @@ replay-fit-spec =
     slice-aggregate-replay-lent-5
     array-borrow-prefix-multipliers
     slice-aggregate-replay-lent-6
+    array-borrow-prefix-trend
+    slice-aggregate-replay-lent-7
     replay-lent-requires
     same-length
     returns)
