@@ -34,7 +34,8 @@ answer-told s a =
     (either (below (length (a .predicted)) (nodeCount s))
     (either (below (length (a .variance)) (nodeCount s))
     (either (below (length (a .verdicts)) (nodeCount s))
-    (either (below (length (a .weights)) (wells s * nodeCount s)) (below (length (a .multipliers)) (columns s))))))
+    (either (below (length (a .weights)) (wells s * nodeCount s))
+    (either (below (length (a .multipliers)) (columns s)) (below (length (a .trend)) (columns s)))))))
     no-more
 
 at-least : {m n : ℕ} → ¬ (n < m) → m ≤ n
@@ -71,6 +72,7 @@ module _ (limits : Limits) (s : Survey) (a : Areas) where
         verdicts = kept-same _ _;
         weights = kept-same _ _;
         multipliers = kept-same _ _;
+        trend = kept-same _ _;
       })
       (λ i h. record {
         work = kept-work (fitCall limits s a) i h;
@@ -79,6 +81,7 @@ module _ (limits : Limits) (s : Survey) (a : Areas) where
         verdicts = kept-same _ _;
         weights = kept-same _ _;
         multipliers = kept-same _ _;
+        trend = kept-same _ _;
       })
       (record {
         work = kept-work (fitCall limits s a) (size s) (omega arith);
@@ -87,6 +90,7 @@ module _ (limits : Limits) (s : Survey) (a : Areas) where
         verdicts = kept-start (nodeCount s) _ (a .verdicts);
         weights = kept-start (wells s * nodeCount s) _ (a .weights);
         multipliers = kept-start (columns s) _ (a .multipliers);
+        trend = kept-start (columns s) _ (a .trend);
       })
 
 -- "n > 48, p > 12 or m > 100", in the base
@@ -133,4 +137,7 @@ module _ (limits : Limits) (s : Survey) (a : Areas) (accepted : fitted limits s 
   weights-long = at-least (λ l. none 18 (inr (inr (inr (inl l)))))
 
   pub multipliers-long : columns s ≤ length (a .multipliers)
-  multipliers-long = at-least (λ l. none 18 (inr (inr (inr (inr l)))))
+  multipliers-long = at-least (λ l. none 18 (inr (inr (inr (inr (inl l))))))
+
+  pub trend-long : columns s ≤ length (a .trend)
+  trend-long = at-least (λ l. none 18 (inr (inr (inr (inr (inr l))))))

@@ -1,5 +1,5 @@
 -- What a node gets, in the terms of the kriging system: z is the inverse times the system's right-hand side, the figure is Σ λ_i value_i, the variance
--- Σ_i λ_i γ(x_i, x_0) + Σ_l μ_l f_l(x_0), clamped, and the multipliers are the μ of the last node. Read off the areas of every accepted fit. Assumes nothing.
+-- Σ_i λ_i γ(x_i, x_0) + Σ_l μ_l f_l(x_0), clamped, and the multipliers are the μ of the last node; and the trend, from the same inverse. Read off the areas of every accepted fit. Assumes nothing.
 use Prim.Native.Nat.{ℕ, _+_, _-_}
 use native.Mathlib.Omega.{arith}
 use mathlib.Core.Path.{_≡_, ap, _∙_}
@@ -17,10 +17,11 @@ use Rattle.survey.specs.declared.Limits.{Limits}
 use Rattle.survey.specs.Survey.{Survey, wells, nodeCount, columns, size, valueAt}
 use Rattle.fit.specs.Areas.{Areas}
 use Rattle.fit.specs.Node.{zOf, figureOf, varianceOf, rightHand, solutionOf, nodeWith, nodeOf}
+use Rattle.fit.specs.Slopes.{trendOf}
 use Rattle.fit.specs.Fit.{multiplier, worked, fitted}
 use Rattle.fit.specs.System.{Place, nodePlace, Index, Well, Drift, Within, rightOf, varianceSum, rowOf, unknownOf, Kriged}
 use Rattle.fit.proofs.System.{row-below, right-is, variance-is}
-use Rattle.fit.proofs.Exit.{work-at, figure-at, variance-at, weight-at, multiplier-at}
+use Rattle.fit.proofs.Exit.{work-at, figure-at, variance-at, weight-at, multiplier-at, trend-at}
 
 module _ (s : Survey) (work : List Float) (q : ℕ) where
   -- "z = inverse times b, summed from 0 by rising column", b the right-hand side of the system
@@ -53,6 +54,7 @@ module _ (s : Survey) (work : List Float) (q : ℕ) where
 
 -- THE SYSTEM, in every accepted fit: what the areas hold at exit is its answer, node by node
 pub kriged : (limits : Limits) (s : Survey) (a : Areas) → fitted limits s a .number ≡ 0 → Kriged s (fitted limits s a .areas)
+unfolding trendOf
 kriged limits s a e =
     let w : fitted limits s a .areas .work ≡ worked s a = work-at limits s a e in
     record {
@@ -64,6 +66,7 @@ kriged limits s a e =
           (multiplier-at limits s a e j nan m
           ∙ ap (λ (b : Bool). cond b zeroFloat (getD (nodeOf s (worked s a) (nodeCount s - 1) .z) (wells s + j) nan)) (ne-eqb (nodeCount s) 0 (omega arith))
           ∙ unknown-is s (worked s a) (nodeCount s - 1) (Drift j) m);
+      trend = λ j m. rw w (trend-at limits s a e j nan m);
       no-nodes = λ j z m.
           multiplier-at limits s a e j nan m
           ∙ ap (λ (b : Bool). cond b zeroFloat (getD (nodeOf s (worked s a) (nodeCount s - 1) .z) (wells s + j) nan)) (eq-eqb (nodeCount s) 0 z);

@@ -132,7 +132,11 @@ pub record Kriged (s : Survey) (e : Areas) : Type 0 where
       → getD (e .predicted) q nan ≡ runningSum (wells s) (λ i. mul binary64 (unknownOf s (e .work) q (Well i)) (valueAt s i))
   -- "minus zero, anything below zero and NaN become +0"
   pub variance : (q : ℕ) → q < nodeCount s → getD (e .variance) q nan ≡ notBelowZero (varianceSum s (nodePlace s q) (unknownOf s (e .work) q))
-  -- the multipliers are the μ of the last node
+  -- "In Chilès and Delfiner those p numbers are Lagrange multipliers": the μ of the last node
   pub multiplier : (j : ℕ) → 0 < nodeCount s → j < columns s → getD (e .multipliers) j nan ≡ unknownOf s (e .work) (nodeCount s - 1) (Drift j)
+  -- the trend: row n + j of the same inverse that gives every λ and μ, times the values; nodes or none
+  pub trend : (j : ℕ) → j < columns s
+      → getD (e .trend) j nan
+      ≡ runningSum (wells s) (λ i. mul binary64 (inverseAt (size s) (e .work) (rowOf s (Drift j)) (rowOf s (Well i))) (valueAt s i))
   -- "zeros if m = 0"
   pub no-nodes : (j : ℕ) → nodeCount s ≡ 0 → j < columns s → getD (e .multipliers) j nan ≡ zeroFloat

@@ -11,3 +11,4 @@ pub record Untouched (s : Survey) (a b : Areas) : Type 0 where
   pub verdicts : Kept (nodeCount s) (a .verdicts) (b .verdicts)
   pub weights : Kept (wells s * nodeCount s) (a .weights) (b .weights)
   pub multipliers : Kept (columns s) (a .multipliers) (b .multipliers)
+  pub trend : Kept (columns s) (a .trend) (b .trend)

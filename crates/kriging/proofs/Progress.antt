@@ -19,7 +19,7 @@ use Rattle.ieee.specs.Floats.{zeroFloat}
 use Rattle.survey.specs.Survey.{Survey, wells, nodeCount, columns, size}
 use Rattle.fit.specs.Areas.{Areas, areasOf}
 use Rattle.fit.specs.Node.{Node, nodeOf}
-use Rattle.fit.specs.Fit.{multiplier, answered}
+use Rattle.fit.specs.Fit.{multiplier, nodesAnswered}
 
 -- a row of so many of a list's numbers lies inside
 pub row-inside : (w q m len : ℕ) → q < m → w * m ≤ len → q * w + w ≤ len
@@ -42,6 +42,7 @@ pub record Progress (s : Survey) (a : Areas) (node : ℕ → Node) (q : ℕ) (e 
   pub verdicts : e .verdicts ≡ written 0 q (λ r. node r .verdict) (a .verdicts)
   pub weights : e .weights ≡ filled (wells s) q (λ r c. getD (node r .z) c nan) (a .weights)
   pub multipliers : e .multipliers ≡ written 0 (columns s) (lastOf s node q) (a .multipliers)
+  pub trend : e .trend ≡ a .trend
 
 module _ (s : Survey) (a : Areas) (node : ℕ → Node) where
   -- before the first node, where the multipliers are zeros
@@ -56,6 +57,7 @@ module _ (s : Survey) (a : Areas) (node : ℕ → Node) where
         ∙ sym (written-over 0 p (λ j. zeroFloat) (λ j. zeroFloat) cs)
         ∙ ap (λ (xs : List Float). written 0 p (λ j. zeroFloat) xs) (sym h)
         ∙ ap (λ (k : ℕ). written 0 k (λ j. zeroFloat) (a .multipliers)) (sym e);
+    trend = refl;
   }
 
   -- one node more: its figure, variance and verdict stored, the first places of its z to the weights, the next ones to the multipliers
@@ -66,7 +68,7 @@ module _ (s : Survey) (a : Areas) (node : ℕ → Node) where
       ≡ written 0 (length (take (wells s + p - wells s) (drop (wells s) z))) (λ j. getD (take (wells s + p - wells s) (drop (wells s) z)) j nan)
       (e .multipliers)
       → Progress s a node q e
-      → Progress s a node (q + 1) (areasOf (e .work) (set (e .predicted) q figure) (set (e .variance) q variance) (set (e .verdicts) q verdict) ws cs)
+      → Progress s a node (q + 1) (areasOf (e .work) (set (e .predicted) q figure) (set (e .variance) q variance) (set (e .verdicts) q verdict) ws cs (e .trend))
   one-more {p} ep q e z ws cs figure variance verdict long hz hf hv hd hw hc h =
       let n = wells s in
       let at : (i : ℕ) → i < size s → getD z i nan ≡ getD (node q .z) i nan =
@@ -90,12 +92,12 @@ module _ (s : Survey) (a : Areas) (node : ℕ → Node) where
             ∙ last
             ∙ ap (λ (xs : List Float). written 0 (columns s) (lastOf s node (q + 1)) xs) (h .multipliers)
             ∙ written-over 0 (columns s) (lastOf s node q) (lastOf s node (q + 1)) (a .multipliers);
+        trend = h .trend;
       }
 
   -- and all of them: what was in the multipliers' places before the zeros does not count
   pub all-nodes : {p : ℕ} → columns s ≡ p → (q : ℕ) (e : Areas) (cs : List Float) → q ≡ nodeCount s → a .multipliers ≡ written 0 p (λ j. zeroFloat) cs
-      → Progress s a node q e → e ≡ answered s (areasOf (a .work) (a .predicted) (a .variance) (a .verdicts) (a .weights) cs) (e .work) node
-  unfolding answered
+      → Progress s a node q e → e ≡ nodesAnswered s (areasOf (a .work) (a .predicted) (a .variance) (a .verdicts) (a .weights) cs (a .trend)) (e .work) node
   all-nodes {p} ep q e cs m z h i = record {
     work = e .work;
     predicted = (h .predicted ∙ ap (λ (k : ℕ). written 0 k (λ r. node r .figure) (a .predicted)) m) i;
@@ -112,4 +114,5 @@ module _ (s : Survey) (a : Areas) (node : ℕ → Node) where
         ∙ written-over 0 (columns s) (λ j. zeroFloat) (lastOf s node q) cs
         ∙ ap (λ (k : ℕ). written 0 (columns s) (lastOf s node k) cs) m)
         i;
+    trend = h .trend i;
   }

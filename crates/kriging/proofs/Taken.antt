@@ -71,4 +71,7 @@ module _ (s : Survey) (a : Areas) (taken : refusal base s a ≡ 0) where
   weights-long = at-least (λ l. none 18 (inr (inr (inr (inl l)))))
 
   pub multipliers-long : columns s ≤ length (a .multipliers)
-  multipliers-long = at-least (λ l. none 18 (inr (inr (inr (inr l)))))
+  multipliers-long = at-least (λ l. none 18 (inr (inr (inr (inr (inl l))))))
+
+  pub trend-long : columns s ≤ length (a .trend)
+  trend-long = at-least (λ l. none 18 (inr (inr (inr (inr (inr l))))))

@@ -20,10 +20,10 @@ Inv-loop values coords bases options table nodes node-external tolerance drift p
     × (finite-drift ≡ driftFinite n p (entryIn drift p))
     × (length predicted ≡ length predicted₀) × (length variance ≡ length variance₀) × (length verdicts ≡ length verdicts₀)
     × (length weights ≡ length weights₀) × (length multipliers ≡ length multipliers₀)
-    × ((external : List Float) → let s = surveyOf values coords bases external nodes node-external options tolerance in
+    × ((external trend : List Float) → let s = surveyOf values coords bases external nodes node-external options tolerance in
     DriftIn s drift
-    → Progress s (areasOf work predicted₀ variance₀ verdicts₀ weights₀ multipliers₀) (nodeOf s work) q
-    (areasOf work predicted variance verdicts weights multipliers))
+    → Progress s (areasOf work predicted₀ variance₀ verdicts₀ weights₀ multipliers₀ trend) (nodeOf s work) q
+    (areasOf work predicted variance verdicts weights multipliers trend))
 
 abbrev pub μ-loop : tie.MeasureT-loop
 μ-loop values coords bases options table nodes node-external tolerance drift p work predicted₀ variance₀ verdicts₀ weights₀ multipliers₀
