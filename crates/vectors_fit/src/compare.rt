@@ -85,16 +85,19 @@ fn compare_nodes(
     compare_next_verdicts(verdicts, words, written.verdicts, counts);
 }
 
-// What stands at a column: its multiplier and its trend.
-fn compare_columns(
+// The weights, the multipliers and the trend.
+fn compare_weights(
     written: Areas,
+    weights: &[f64],
     multipliers: &[f64],
     trend: &[f64],
     words: &mut [u64],
     counts: &mut [u64],
 ) {
+    let n = written.weights;
     let p = written.multipliers;
     let again = written.trend;
+    compare_next(weights, words, n, n, WEIGHT, counts);
     compare_next(multipliers, words, p, p, MULTIPLIERS, counts);
     compare_next(trend, words, again, again, TRENDS, counts);
 }
@@ -117,7 +120,5 @@ pub(crate) fn compare_all(
     let told = next_size();
     compare_next(work, words, told, written.work, WORK_AREA, counts);
     compare_nodes(written, predicted, variance, verdicts, words, counts);
-    let n = written.weights;
-    compare_next(weights, words, n, n, WEIGHT, counts);
-    compare_columns(written, multipliers, trend, words, counts);
+    compare_weights(written, weights, multipliers, trend, words, counts);
 }
