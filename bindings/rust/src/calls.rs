@@ -19,6 +19,7 @@ mod exported {
             verdicts: *mut u8, verdicts_count: usize,
             weights: *mut f64, weights_count: usize,
             multipliers: *mut f64, multipliers_count: usize,
+            trend: *mut f64, trend_count: usize,
         ) -> u8;
 
         pub fn nakwemol_interpolate(
@@ -87,6 +88,7 @@ pub fn fit(
     verdicts: &mut [u8],
     weights: &mut [f64],
     multipliers: &mut [f64],
+    trend: &mut [f64],
 ) -> u8 {
     #[rustfmt::skip]
     let number = unsafe {
@@ -104,6 +106,7 @@ pub fn fit(
             verdicts.as_mut_ptr(), verdicts.len(),
             weights.as_mut_ptr(), weights.len(),
             multipliers.as_mut_ptr(), multipliers.len(),
+            trend.as_mut_ptr(), trend.len(),
         )
     };
     number

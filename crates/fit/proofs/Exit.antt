@@ -1,4 +1,5 @@
--- An accepted fit's areas place by place: the finished elimination, and at node q its figure, variance, verdict and weights; the multipliers and the trend. Assumes nothing.
+-- An accepted fit's areas place by place: the finished elimination, and at node q its figure, variance, verdict and weights; the multipliers and the trend.
+-- Assumes nothing.
 use Prim.Native.Nat.{ℕ, _+_, _*_, _<_}
 use native.Mathlib.Omega.{arith}
 use mathlib.Core.Path.{_≡_, ap, ap₂, _∙_}

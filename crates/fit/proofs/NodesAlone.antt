@@ -1,5 +1,5 @@
--- Node by node, at exit: two accepted fits of surveys that differ at most in their nodes, in whatever areas, have the same figure, variance, verdict and weights wherever two nodes are alike;
--- and the same trend, whatever their nodes. Assumes nothing.
+-- Node by node, at exit: two accepted fits of surveys that differ at most in their nodes, in whatever areas, have the same figure, variance, verdict and
+-- weights wherever two nodes are alike; and the same trend, whatever their nodes. Assumes nothing.
 use Prim.Native.Nat.{ℕ, _+_, _*_, _<_, _≤_}
 use native.Mathlib.Omega.{arith}
 use mathlib.Core.Path.{_≡_, refl, ap, ap₂, sym, _∙_, subst}
@@ -34,7 +34,9 @@ node-agree : (s : Survey) (xs ys : List Float) (q : ℕ) → Agree (size s * (2 
 unfolding nodeOf nodeWith solutionOf
 node-agree s xs ys q h = rw (z-agree (size s) xs ys (rightHand s q) h)
 
-module _ (limits limits′ : Limits) (s t : Survey) (same : SameWells s t) (a b : Areas) (accepted : fitted limits s a .number ≡ 0) (accepted′ : fitted limits′ t b .number ≡ 0) where
+module _
+    (limits limits′ : Limits) (s t : Survey) (same : SameWells s t) (a b : Areas)
+    (accepted : fitted limits s a .number ≡ 0) (accepted′ : fitted limits′ t b .number ≡ 0) where
   -- what the work area held before, and what lies past the matrix, does not count
   worked-agree : Agree (size s * (2 * size s)) (worked s a) (worked t b)
   worked-agree =
@@ -54,7 +56,8 @@ module _ (limits limits′ : Limits) (s t : Survey) (same : SameWells s t) (a b 
   answer-alone q r hq hr h =
       record {
         figure = figure-at limits s a accepted q nan hq ∙ ap (λ (n : Node). n .figure) (nodes-agree q r h) ∙ sym (figure-at limits′ t b accepted′ r nan hr);
-        variance = variance-at limits s a accepted q nan hq ∙ ap (λ (n : Node). n .variance) (nodes-agree q r h) ∙ sym (variance-at limits′ t b accepted′ r nan hr);
+        variance =
+            variance-at limits s a accepted q nan hq ∙ ap (λ (n : Node). n .variance) (nodes-agree q r h) ∙ sym (variance-at limits′ t b accepted′ r nan hr);
         verdict = verdict-at limits s a accepted q 0 hq ∙ ap (λ (n : Node). n .verdict) (nodes-agree q r h) ∙ sym (verdict-at limits′ t b accepted′ r 0 hr);
         weight = λ i hi.
             weight-at limits s a accepted q i nan hq hi
@@ -79,4 +82,5 @@ module _ (limits limits′ : Limits) (s t : Survey) (same : SameWells s t) (a b 
 pub answer-again : (limits : Limits) (s : Survey) (a : Areas) → fitted limits s a .number ≡ 0 → (q r : ℕ) → q < nodeCount s → r < nodeCount s → SameNode s s q r
     → SameAnswer s s q r (fitted limits s a .areas) (fitted limits s a .areas)
 answer-again limits s a accepted q r hq hr h =
-    answer-alone limits limits s s (record { values = refl; coords = refl; bases = refl; external = refl; options = refl; tolerance = refl }) a a accepted accepted q r hq hr h
+    let itself : SameWells s s = record { values = refl; coords = refl; bases = refl; external = refl; options = refl; tolerance = refl } in
+    answer-alone limits limits s s itself a a accepted accepted q r hq hr h

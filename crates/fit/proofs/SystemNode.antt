@@ -1,5 +1,6 @@
 -- What a node gets, in the terms of the kriging system: z is the inverse times the system's right-hand side, the figure is Σ λ_i value_i, the variance
--- Σ_i λ_i γ(x_i, x_0) + Σ_l μ_l f_l(x_0), clamped, and the multipliers are the μ of the last node; and the trend, from the same inverse. Read off the areas of every accepted fit. Assumes nothing.
+-- Σ_i λ_i γ(x_i, x_0) + Σ_l μ_l f_l(x_0), clamped, and the multipliers are the μ of the last node; and the trend, from the same inverse. Read off the areas
+-- of every accepted fit. Assumes nothing.
 use Prim.Native.Nat.{ℕ, _+_, _-_}
 use native.Mathlib.Omega.{arith}
 use mathlib.Core.Path.{_≡_, ap, _∙_}
@@ -41,7 +42,8 @@ module _ (s : Survey) (work : List Float) (q : ℕ) where
   same-variance : (node : Place) (f g : Index → Float) → ((u : Index) → Within s u → f u ≡ g u) → varianceSum s node f ≡ varianceSum s node g
   unfolding varianceSum
   same-variance node f g h =
-      ap (λ (x : Float). addEach x (columns s) (λ l. mul binary64 (f (Drift l)) (rightOf s node (Drift l)))) (same-sum (wells s) _ _ (λ i b. ap (λ (x : Float). mul binary64 x (rightOf s node (Well i))) (h (Well i) b)))
+      ap (λ (x : Float). addEach x (columns s) (λ l. mul binary64 (f (Drift l)) (rightOf s node (Drift l))))
+      (same-sum (wells s) _ _ (λ i b. ap (λ (x : Float). mul binary64 x (rightOf s node (Well i))) (h (Well i) b)))
       ∙ same-added _ (columns s) _ _ (λ l b. ap (λ (x : Float). mul binary64 x (rightOf s node (Drift l))) (h (Drift l) b))
 
   -- "Variance: Σ z·b over all s entries", clamped

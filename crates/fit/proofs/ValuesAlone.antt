@@ -24,7 +24,9 @@ use Rattle.fit.proofs.Exit.{multiplier-at}
 use Rattle.fit.proofs.NodesAlone.{z-agree}
 use Rattle.fit.proofs.Values.{assembly-without-values, solution-without-values}
 
-module _ (limits limits′ : Limits) (s t : Survey) (same : SameButValues s t) (a b : Areas) (accepted : fitted limits s a .number ≡ 0) (accepted′ : fitted limits′ t b .number ≡ 0) where
+module _
+    (limits limits′ : Limits) (s t : Survey) (same : SameButValues s t) (a b : Areas)
+    (accepted : fitted limits s a .number ≡ 0) (accepted′ : fitted limits′ t b .number ≡ 0) where
   columns-same : columns s ≡ columns t
   columns-same = ap columnSum (same .bases)
 

@@ -1,4 +1,5 @@
--- The universal kriging equations in terms of the variogram, block by block: Chilès and Delfiner, Geostatistics, chapter 3, kriging with an unknown mean. With wells x_i, a node x_0 and drift functions f_l,
+-- The universal kriging equations in terms of the variogram, block by block: Chilès and Delfiner, Geostatistics, chapter 3, kriging with an unknown mean.
+-- With wells x_i, a node x_0 and drift functions f_l,
 --     Σ_j γ(x_i, x_j) λ_j + Σ_l μ_l f_l(x_i) = γ(x_i, x_0) for each well i,
 --     Σ_j λ_j f_l(x_j) = f_l(x_0) for each l,
 --     and the variance is Σ_i λ_i γ(x_i, x_0) + Σ_l μ_l f_l(x_0).

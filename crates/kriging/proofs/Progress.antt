@@ -68,7 +68,8 @@ module _ (s : Survey) (a : Areas) (node : ℕ → Node) where
       ≡ written 0 (length (take (wells s + p - wells s) (drop (wells s) z))) (λ j. getD (take (wells s + p - wells s) (drop (wells s) z)) j nan)
       (e .multipliers)
       → Progress s a node q e
-      → Progress s a node (q + 1) (areasOf (e .work) (set (e .predicted) q figure) (set (e .variance) q variance) (set (e .verdicts) q verdict) ws cs (e .trend))
+      → Progress s a node (q + 1)
+      (areasOf (e .work) (set (e .predicted) q figure) (set (e .variance) q variance) (set (e .verdicts) q verdict) ws cs (e .trend))
   one-more {p} ep q e z ws cs figure variance verdict long hz hf hv hd hw hc h =
       let n = wells s in
       let at : (i : ℕ) → i < size s → getD z i nan ≡ getD (node q .z) i nan =

@@ -35,7 +35,8 @@ fn store_zeros(area: &mut [f64], count: usize)
     }
 }
 
-// Every node; what the trend holds does not count. The multipliers are the last node's: each node's are stored over those of the one before, and the first one's over zeros.
+// Every node; what the trend holds does not count. The multipliers are the last node's: each node's are stored over those of the one before, and the first
+// one's over zeros.
 pub(crate) fn krige_nodes(
     values: &[f64],
     coords: &[f64],

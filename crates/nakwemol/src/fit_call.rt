@@ -46,12 +46,13 @@ pub extern "C" fn nakwemol_fit(
     verdicts: &mut [u8],
     weights: &mut [f64],
     multipliers: &mut [f64],
+    trend: &mut [f64],
 ) -> u8
     ensures { λ r.
         let a = areasOf (now (work .entry)) (now (predicted .entry)) (now (variance .entry)) (now (verdicts .entry))
-        (now (weights .entry)) (now (multipliers .entry)) in
+        (now (weights .entry)) (now (multipliers .entry)) (now (trend .entry)) in
         ⌜ outcome r (areasOf (now (work .exit)) (now (predicted .exit)) (now (variance .exit)) (now (verdicts .exit))
-        (now (weights .exit)) (now (multipliers .exit)))
+        (now (weights .exit)) (now (multipliers .exit)) (now (trend .exit)))
         ≡ byModel (modelOf model) (outcome unknownCode a)
         (λ m. fitted base (surveyOf (now (values .entry)) (now (coords .entry)) (now (bases .entry)) (now (external .entry))
         (now (nodes .entry)) (now («node_external» .entry)) (optionsOf m nugget sill range regularization) tolerance) a) ⌝ }
@@ -79,6 +80,7 @@ pub extern "C" fn nakwemol_fit(
         verdicts,
         weights,
         multipliers,
+        trend,
     );
     fit_number(fit)
 }

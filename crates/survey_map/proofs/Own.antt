@@ -87,3 +87,7 @@ own-weights = length-replicate mostWeights zeroFloat
 pub own-multipliers : length (ownAreas .multipliers) ≡ mostColumns
 unfolding ownAreas
 own-multipliers = length-replicate mostColumns zeroFloat
+
+pub own-trend : length (ownAreas .trend) ≡ mostColumns
+unfolding ownAreas
+own-trend = length-replicate mostColumns zeroFloat

@@ -54,17 +54,18 @@ fn print_answer(
     variance: &[f64],
     verdicts: &[u8],
     multipliers: &[f64],
+    trend: &[f64],
     text: &mut [u8],
 ) -> Printed
     requires { ⌜ (m ≤ 100) × (m ≤ length (now predicted)) × (m ≤ length (now variance)) × (m ≤ length (now verdicts))
-        × (columnSum (now bases) ≤ 12) × (columnSum (now bases) ≤ length (now multipliers)) ⌝ }
+        × (columnSum (now bases) ≤ 12) × (columnSum (now bases) ≤ length (now multipliers)) × (columnSum (now bases) ≤ length (now trend)) ⌝ }
     ensures equation { λ r. ⌜ outcomeOf r (now (text .exit)) ≡ printed
         (listing (take m (now (predicted .entry))) (take m (now (variance .entry))) (take m (now (verdicts .entry)))
-        (take (columnSum (now (bases .entry))) (now (multipliers .entry))))
+        (take (columnSum (now (bases .entry))) (now (multipliers .entry))) (take (columnSum (now (bases .entry))) (now (trend .entry))))
         (now (text .entry)) ⌝ }
     ensures longest { λ _. ⌜ length
         (listing (take m (now (predicted .entry))) (take m (now (variance .entry))) (take m (now (verdicts .entry)))
-        (take (columnSum (now (bases .entry))) (now (multipliers .entry))))
+        (take (columnSum (now (bases .entry))) (now (multipliers .entry))) (take (columnSum (now (bases .entry))) (now (trend .entry))))
         ≤ longest ⌝ }
 {
     let p = drift_columns(bases);
@@ -73,6 +74,7 @@ fn print_answer(
         &variance[..m],
         &verdicts[..m],
         &multipliers[..p],
+        &trend[..p],
         text,
     )
 }
@@ -104,6 +106,7 @@ pub fn print_fit(
     let mut verdicts = [0u8; NODES];
     let mut weights = [0.0; WEIGHTS];
     let mut multipliers = [0.0; COLUMNS];
+    let mut trend = [0.0; COLUMNS];
     let fit = universal_kriging_fit(
         values,
         coords,
@@ -119,6 +122,7 @@ pub fn print_fit(
         &mut verdicts,
         &mut weights,
         &mut multipliers,
+        &mut trend,
     );
     match fit {
         Fit::Done => print_answer(
@@ -128,6 +132,7 @@ pub fn print_fit(
             &variance,
             &verdicts,
             &multipliers,
+            &trend,
             text,
         ),
         Fit::Refused(refusal) => write_refusal(refusal, text),

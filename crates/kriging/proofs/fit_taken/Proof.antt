@@ -26,8 +26,8 @@ use Rattle.fit.specs.Fit.{nodesAnswered, answered}
 use Rattle.kriging.proofs.Taken.{few-wells, few-columns, columns-counted, coords-twice, externals-whole, node-externals}
 use Rattle.kriging.proofs.Taken.{work-long, predicted-long, variance-long, verdicts-long, weights-long, multipliers-long, trend-long}
 use Rattle.kriging.proofs.Fitting.{drift-laid, matrix-laid, trend-is, taken-there}
-use Rattle.kriging.proofs.fit_taken.Proof.States.{at-entry, at-table, at-columns, at-laid, at-drift, at-matrix, at-ended, at-trend, at-done, at-solved, at-nodes}
-use Rattle.kriging.proofs.fit_taken.Proof.States.{survey-of, areas-of}
+use Rattle.kriging.proofs.fit_taken.Proof.States.{at-entry, at-table, at-columns, at-laid, at-drift, at-matrix, at-ended}
+use Rattle.kriging.proofs.fit_taken.Proof.States.{at-trend, at-done, at-solved, at-nodes, survey-of, areas-of}
 use Rattle.kriging.proofs.fit_taken.Statement.{statement}
 use Rattle.kriging.proofs.fit_taken.Tie as tie
 mod States

@@ -53,7 +53,10 @@ below-product-requires c κs = search needs
 returns-4 : tie.Need-returns-4
 returns-4 c = let h = c .before in sym (past-3 (h .before) ∙ one _ (sym (h .below-product .ensures) ∙ c .if4 .taken))
 
-past-4 : (c : tie.Else4) → let start = c .before .before .before .before .before in whole start ≡ multipliers-left start
+abbrev at-entry : tie.Else4 → tie.Start
+at-entry c = c .before .before .before .before .before
+
+past-4 : (c : tie.Else4) → whole (at-entry c) ≡ multipliers-left (at-entry c)
 past-4 c = let h = c .before in past-3 (h .before) ∙ other _ (sym (h .below-product .ensures) ∙ c .if4 .left)
 
 -- if multipliers < p
@@ -62,7 +65,7 @@ returns-5 c = sym (past-4 (c .before) ∙ one _ (lt-ltb _ _ (c .if5 .taken)))
 
 -- trend < p
 returns-6 : tie.Need-returns-6
-returns-6 c = let a = c .before .before .before .before .before .before .args in sym (past-4 (c .before) ∙ other _ (le-ltb (a .multipliers) (a .p) (c .if5 .left)))
+returns-6 c = let a = at-entry (c .before) .args in sym (past-4 (c .before) ∙ other _ (le-ltb (a .multipliers) (a .p) (c .if5 .left)))
 
 pub short-answer-spec : {M : Type 1} → statement M
 short-answer-spec = tie.close (tie.spec returns returns-2 returns-3 below-product-requires returns-4 returns-5 returns-6)
