@@ -134,7 +134,7 @@ def spared(m, made, sheet):
         return []
     half = max(abs(m.grid.dx), abs(m.grid.dy)) / 2 * made.ground.unit / 2 * sheet.scale
     failed = [at for at, good in enumerate(made.good) if not good]
-    return [square(*sheet.place(made.ground.x(m.nodes.x[at]), made.ground.y(m.nodes.y[at])), half) for at in failed[::1 + len(failed) // 300]]
+    return [square(*sheet.place(made.ground.x(m.nodes.x[at]), made.ground.y(m.nodes.y[at])), half) for at in failed[::1 + len(failed) // 200]]
 
 
 def arrow_texts(m, slope):
