@@ -60,7 +60,7 @@ def followed(draw):
 
 
 def far_plains(draw):
-    """The same plain in coordinates of seven figures: its slopes, for the level at an origin so far away is lost."""
+    """The same plain in coordinates of seven figures: its slopes, for the level at an origin so far away has fewer digits."""
     for model in MODELS:
         survey = following(placed(draw, model, 12, 1, [2], FAR), TILT)
         yield Case(survey, longer(survey, draw), known=Known([None, *TILT[1:]], TO_THE_LAST_DIGIT))

@@ -1,7 +1,11 @@
 """What the stored fits have to have among them of the trend: the generator stops where one is missing."""
 from tools.generators.fit_case import enough
+from tools.generators.fit_covered import NUMBERS
+from tools.generators.fit_trends import MEASURED, TO_THE_LAST_DIGIT
 from tools.generators.replay import kind_of
 from tools.patterns import bits
+from tools.reading.elimination import beside_identity, eliminate
+from tools.reading.fit import assembled
 from tools.reading.wrong_trends import BY_NAME
 
 
@@ -28,12 +32,19 @@ def covered_sentences(answered):
         assert any(list(map(bits, trend(ended))) != list(map(bits, ended.areas.multipliers[:ended.case.survey.p])) for ended in ended_so)
 
 
+def stops(survey):
+    """Whether the steps would stop at a pivot."""
+    return eliminate(beside_identity(assembled(survey)), skip_zero=True) is not None
+
+
 def covered_lengths(all_ended):
-    """Areas just as long as they have to be, and longer; too short by one number, and nothing else, with nodes and without; one in every refusal."""
+    """Areas just as long as they have to be, and longer; too short by one number, and nothing else, with nodes and without, and where the steps would
+    stop; too short beside every earlier number but 3, without columns; and one that is lent in every refusal."""
     assert {ended.case.lent.trend - ended.case.survey.p for ended in all_ended if ended.number == 0} >= {0, 1, 2, 3}
     surveys = [ended.case.survey for ended in all_ended if ended.number == 18 and ended.case.lent == alone(ended.case.survey)]
-    assert {(s.p, s.m > 0) for s in surveys} >= {(p, nodes) for p in (1, 2, 3, 6, 12) for nodes in (False, True)}
-    assert {ended.number for ended in all_ended} == {ended.number for ended in all_ended if ended.case.lent.trend}
+    assert {(s.p, s.m > 0) for s in surveys} >= {(p, nodes) for p in (1, 2, 3, 6, 12) for nodes in (False, True)} and any(map(stops, surveys))
+    assert {ended.number for ended in all_ended if ended.case.lent.trend < ended.case.survey.p} == NUMBERS - {0, 3, 19}
+    assert {ended.number for ended in all_ended if ended.case.lent.trend} == NUMBERS
 
 
 def alone(survey):
@@ -42,8 +53,11 @@ def alone(survey):
 
 
 def covered_known(answered):
-    """Trends of which something is known: of every model, with no, one and two external columns, with nodes and without."""
-    surveys = [ended.case.survey for ended in answered if ended.case.known]
+    """Trends of which something is known: to the bit, to the last digit and as measured; of every model, with no, one and two external columns, with nodes
+    and without; in coordinates of seven figures."""
+    known = [ended.case for ended in answered if ended.case.known]
+    surveys = [case.survey for case in known]
+    assert {case.known.within for case in known} == {0.0, TO_THE_LAST_DIGIT, *MEASURED.values()} and any(min(s.coords) > 1e6 for s in surveys)
     assert {(s.variogram.model, s.k, s.m > 0) for s in surveys} == {(model, k, nodes) for model in (1, 2, 3, 4) for k in (0, 1, 2) for nodes in (False, True)}
 
 
