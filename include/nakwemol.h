@@ -92,7 +92,9 @@ enum nakwemol_basis {            /* columns at (x, y)                  */
  *   variance       m         variances, 0 or above
  *   verdicts       m         a byte each
  *   weights        n m       every well of node 1, then of node 2
- *   coefficients   p         the trend's, of the last node; zeros where m = 0
+ *   multipliers    p         the Lagrange multipliers of the last node; zeros where m = 0. They are not the trend
+ *   trend          p         the estimate of the trend's coefficients, column by column: those of x and y are slopes, in units of value over coordinate.
+ *                            It does not depend on the nodes, and is filled where m = 0 too
  *
  * Numbers, in this order: 100, then 1 to 12, 17, 18, 19.
  */
@@ -109,7 +111,8 @@ uint8_t nakwemol_fit(
     double *variance, size_t variance_count,
     uint8_t *verdicts, size_t verdicts_count,
     double *weights, size_t weights_count,
-    double *coefficients, size_t coefficients_count);
+    double *multipliers, size_t multipliers_count,
+    double *trend, size_t trend_count);
 
 /* Kriging interpolation over d = 1, 2 or 3 axes: section 10.
  *

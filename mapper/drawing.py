@@ -1,13 +1,16 @@
-"""One size of the map as SVG: frame, wells, labels, scale and north around the shared ground."""
+"""One size of the map as SVG: frame, wells, labels, the trend's arrow, scale and north around the shared ground."""
 from dataclasses import dataclass
 from html import escape
 
+from mapper.arrow import Room, placed
 from mapper.frame import field_grid
 from mapper.ground import dot_radius
 from mapper.labels import Box, line_labels, short_name, square, text_width, well_labels
 from mapper.scales import alike, decimals, fixed, length_words, round_step, ticks
+from mapper.slope import arrow_words, drawn_slope, is_doubted
 
 FONT = 12.0
+STRONG = 14.0  # of what is written beside an arrow
 RADIUS = 3.6  # of a well
 NARROW = 420  # a map less broad has no room for many levels
 
@@ -119,15 +122,66 @@ def dots(m, ground, sheet):
     return [square(*sheet.place(ground.x(x), ground.y(y)), half) for x, y in zip(m.nodes.x, m.nodes.y)]
 
 
-def wells(m, ground, sheet):
-    """Wells and their labels as SVG, the boxes they take, and whether some are marked by their number."""
-    places = [sheet.place(ground.x(w.x), ground.y(w.y)) for w in m.wells]
+def well_places(m, ground, sheet):
+    return [sheet.place(ground.x(w.x), ground.y(w.y)) for w in m.wells]
+
+
+def spared(m, made, sheet):
+    """Boxes that the arrow leaves free where it can: the dots of a list, and in a grid the cells of nodes that failed, so that it hides no failure."""
+    if not field_grid(m):
+        return dots(m, made.ground, sheet)
+    if made.large:
+        return []
+    half = max(abs(m.grid.dx), abs(m.grid.dy)) / 2 * made.ground.unit / 2 * sheet.scale
+    failed = [at for at, good in enumerate(made.good) if not good]
+    return [square(*sheet.place(made.ground.x(m.nodes.x[at]), made.ground.y(m.nodes.y[at])), half) for at in failed[::1 + len(failed) // 200]]
+
+
+def arrow_texts(m, slope):
+    """What may stand beside the arrow, the most wanted first, each a list of lines. With an external column the slope is only what that leaves over, and
+    must not be taken for the whole."""
+    if not m.external:
+        return [[arrow_words(slope)]]
+    return [[arrow_words(slope), more] for more in ('apart from ' + short_name(m.external), 'in part')]
+
+
+def arrow_with(lines, turn, room):
+    """The arrow beside which these lines have room, None where there is none."""
+    width = max(text_width(lines[0], STRONG), *(text_width(line, FONT) for line in lines)) + 2
+    return placed(turn, width, STRONG * 1.15 + FONT * 1.15 * (len(lines) - 1), room)
+
+
+def trend_arrow(m, made, sheet):
+    """The arrow down the trend as SVG, and the boxes that it takes; nothing where there is no slope to draw, or no room for it."""
+    slope = drawn_slope(m)
+    if slope is None:
+        return '', []
+    room = Room(sheet.frame, well_places(m, made.ground, sheet), RADIUS + 2, spared(m, made, sheet))
+    for lines in arrow_texts(m, slope):
+        arrow = arrow_with(lines, slope.turn, room)
+        if arrow:
+            return arrow_marks(arrow, lines, is_doubted(m)), arrow.boxes()
+    return '', []
+
+
+def arrow_marks(arrow, lines, doubted):
+    """An arrow, hollow where it is doubted, and its label as SVG."""
+    x, y = (arrow.label.left + arrow.label.right) / 2, arrow.label.top + STRONG * 0.85
+    sign = '<path d="%s" class="trend%s" transform="translate(%.1f %.1f) rotate(%.1f)"/>' % (
+        arrow.path(), ' doubted' if doubted else '', arrow.x, arrow.y, arrow.turn)
+    label = text(x, y, lines[0], ' class="halo strong" text-anchor="middle"')
+    return sign + label + ''.join(haloed(x, y + FONT * 1.15 * k, line, ' text-anchor="middle"') for k, line in enumerate(lines[1:], 1))
+
+
+def wells(m, ground, sheet, kept):
+    """Wells and their labels as SVG, the boxes they take, those kept for the arrow included, and whether some are marked by their number."""
+    places = well_places(m, ground, sheet)
     levels = alike([w.level for w in m.wells], 6)
     texts = [well_texts(k, w, level) for k, (w, level) in enumerate(zip(m.wells, levels), 1)]
-    placed = lambda some: well_labels(places, some, FONT, RADIUS + 1, sheet.frame, dots(m, ground, sheet))
-    labels, taken = placed(texts)
+    around = lambda some: well_labels(places, some, FONT, RADIUS + 1, sheet.frame, dots(m, ground, sheet), kept)
+    labels, taken = around(texts)
     if sheet.width < NARROW and any(one is None or one.text != words[0] for one, words in zip(labels, texts)):
-        labels, taken = placed([words[1:] for words in texts])  # crowded and narrow: names alone, their levels are in the table
+        labels, taken = around([words[1:] for words in texts])  # crowded and narrow: names alone, their levels are in the table
     parts = ['<circle cx="%.1f" cy="%.1f" r="%.1f" class="well"/>' % (x, y, RADIUS) for x, y in places]
     parts += [haloed(one.x, one.y, one.text) for one in labels if one]
     numbered = any(one is None or one.text == words[-1] for one, words in zip(labels, texts))
@@ -165,7 +219,8 @@ def drawing(m, made, size, drawn, words):
     ground = made.ground
     sheet = Sheet(ground, size)
     f = sheet.frame
-    well_marks, taken, numbered = wells(m, ground, sheet)
+    arrow, kept = trend_arrow(m, made, sheet)
+    well_marks, taken, numbered = wells(m, ground, sheet, kept)
     labels = contour_labels(made.contours, made.level_classes, sheet, taken)
     return ''.join((
         '<svg xmlns="http://www.w3.org/2000/svg" class="map %s" viewBox="0 0 %.1f %.1f" style="max-width:%dpx" '
@@ -177,7 +232,7 @@ def drawing(m, made, size, drawn, words):
         '<g transform="translate(%.1f %.1f) scale(%.5f)" clip-path="url(#clip-%s)">%s</g>'
         % (sheet.left, sheet.top, sheet.scale, size.name, ground_layers(made, size)),
         '<rect x="%.1f" y="%.1f" width="%.1f" height="%.1f" class="frame"/>' % (f.left, f.top, sheet.width, sheet.height),
-        frame_numbers(ground, sheet), '<g class="of-level">%s</g>' % labels, well_marks,
+        frame_numbers(ground, sheet), '<g class="of-level">%s%s</g>' % (labels, arrow), well_marks,
         scale_bar(ground, sheet), north_arrow(sheet),
         fitted(sheet.left, f.bottom + FONT * 5.3, 'Drawn: ' + drawn, f.right - f.left),
         '<circle r="6" class="mark" visibility="hidden"/></svg>')), numbered

@@ -92,13 +92,13 @@ def square(x, y, half):
     return Box(x - half, y - half, x + half, y + half)
 
 
-def well_labels(places, texts, size, radius, frame, better=()) -> Tuple[List[Optional[Label]], List[Box]]:
-    """A label or None for each well, and every box that is taken now, the wells' own included.
+def well_labels(places, texts, size, radius, frame, better=(), kept=()) -> Tuple[List[Optional[Label]], List[Box]]:
+    """A label or None for each well, and every box that is taken now, the wells' own and those `kept` for others included.
 
     `texts` has for each well what may be written, the most wanted first. All wells try their first text before any tries its second. A label
     keeps away from other wells, so that it is not taken for theirs, and from the boxes `better` left free, if it can.
     """
-    taken = [square(x, y, radius) for x, y in places]
+    taken = [square(x, y, radius) for x, y in places] + list(kept)
     wide = [square(x, y, radius + size * 0.5) for x, y in places]
     labels = [None] * len(places)
     for attempt in range(max(map(len, texts), default=0)):

@@ -10,6 +10,7 @@ from mapper.options import options
 from mapper.page import page
 from mapper.sheet_folder import write_sheets
 from mapper.sheets import Sheets
+from mapper.slope import trend_sentence
 from mapper.stop import Stop
 
 
@@ -69,7 +70,9 @@ def kept_surveys(found, made, m):
 
 
 def finish(m, html, lines, more=()):
-    """Writes the page and the table, and says so in one line."""
+    """Writes the page and the table; says what the trend is, and in the last line what was written."""
     write_all([*more, (html, [page(m).encode()]), (lines, table(m))])
-    run = m.runs[m.drawn]
+    run, trend = m.runs[m.drawn], trend_sentence(m)
+    if trend:
+        tell(trend)
     tell(f'{run.passed:,} of {len(m.nodes):,} nodes passed, {run.failed:,} did not: {html} and {lines}')

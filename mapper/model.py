@@ -74,6 +74,7 @@ class Run:
     origin: Tuple[float, float]
     verdicts: Dict[int, int]
     refused: int = 0  # the number by which the whole run was turned away; it has no verdicts then
+    estimate: Tuple[float, ...] = ()  # of the trend, a number for each column in coordinates from that origin; no audit covers it
 
     @property
     def passed(self):

@@ -11,6 +11,7 @@ from mapper.hover import script_data
 from mapper.paper import map_height, shrinking, well_form
 from mapper.scales import count, counted, plain
 from mapper.scene import definitions, scene
+from mapper.slope import drawn_slope, is_doubted, trend_sentence, way_words
 from mapper.tables import number_list, origin_words, run_table, verdict_table, well_list, well_table
 from mapper.thinning import MOST_NODES
 
@@ -40,7 +41,9 @@ def told(sentence):
 
 
 def notes(m):
-    return '<ul class="notes">%s</ul>' % ''.join(map(told, m.notes)) if m.notes else ''
+    """The trend first, which is an answer; then what was moved, fitted or left out."""
+    sentences = [sentence for sentence in (trend_sentence(m), *m.notes) if sentence]
+    return '<ul class="notes">%s</ul>' % ''.join(map(told, sentences)) if sentences else ''
 
 
 def subtitle(m):
@@ -58,6 +61,7 @@ def patch(colour):
     return swatch('<rect x="0.5" y="0.5" width="25" height="15" fill="%s" stroke="#555"/>' % hexadecimal(colour))
 
 
+ARROW = '<path d="M2 7.2L14 6V2.5L24 8L14 13.5V10L2 8.8Z" class="trend%s"/>'
 HATCHED = ('<path d="M0.5 0.5h25v15h-25z" fill="#fff" stroke="#555"/><path d="M1 8L8 1M1 15L15 1M9 15L23 1M17 15L25 7" stroke="#6b6b6b" '
            'stroke-width="2"/>')
 
@@ -67,6 +71,8 @@ def legend(kind, heading, classes, shown, m, lined=False):
     items = [patch(classes.colours[k]) + escape(classes.words(k)) for k in reversed(range(len(classes.colours)))] if shown else []
     if kind == 'level' and lined:
         items.append(swatch('<path d="M1 12C8 12 14 4 25 4" class="contour"/>') + 'contour line, every %s' % escape(plain(classes.step)))
+    if kind == 'level' and drawn_slope(m):
+        items.append(swatch(ARROW % (' doubted' if is_doubted(m) else '')) + ('trend, to be doubted' if is_doubted(m) else 'fall of the trend'))
     if m.runs[m.drawn].failed:
         items.append(swatch(HATCHED) + 'did not pass: no level')
     items.append(swatch('<circle cx="13" cy="8" r="3.6" class="well"/>') + 'well')
@@ -87,9 +93,10 @@ def thin_words(m):
 
 def picture_words(m):
     """The map for those who cannot see it."""
-    run = m.runs[m.drawn]
-    return 'Map of the water table, north up, %s. %s of %s have a level. Drawn: %s.' % (
-        subtitle(m), count(run.passed), counted(len(m.nodes), 'node'), origin_words(run))
+    run, slope = m.runs[m.drawn], drawn_slope(m)
+    arrow = ' An arrow points the way the trend falls: %s.' % way_words(m, slope) if slope else ''
+    return 'Map of the water table, north up, %s. %s of %s have a level.%s Drawn: %s.' % (
+        subtitle(m), count(run.passed), counted(len(m.nodes), 'node'), arrow, origin_words(run))
 
 
 def figure(m, made):

@@ -1,6 +1,7 @@
 """How high the map may be on paper, so that everything else still finds room on the one sheet."""
 import math
 
+from mapper.slope import trend_sentence
 from mapper.verdicts import verdict_advice, verdict_words
 
 SHEET = 274.0                # mm of A4 between the margins
@@ -34,7 +35,7 @@ def well_lines(m, form):
 
 def room(m, form):
     """What is left for the map, in mm, where wells are printed in this form."""
-    head = 20 + LINE * sum(lines(note, 120) for note in m.notes)
+    head = 20 + LINE * sum(lines(note, 120) for note in (trend_sentence(m), *m.notes) if note)
     rest = 5 + LINE * (verdict_lines(m) + sum(lines(s, 120) for s in m.refused) + well_lines(m, form))
     return SHEET - head - NUMBERS - rest
 

@@ -7,6 +7,7 @@ from concurrent.futures import ThreadPoolExecutor
 from mapper.listing import Damaged, parsed
 from mapper.model import Run
 from mapper.stop import Stop
+from mapper.survey_file import packed
 
 AHEAD = 4  # sheets under way for each process, so that memory stays bounded however many there are
 
@@ -59,12 +60,22 @@ def fill(sheets, sheet, listing):
     """Puts a sheet's answers into the nodes' places."""
     first, end = sheets.span(sheet)
     nodes = sheets.nodes
-    levels, variances, verdicts = parsed(listing, end - first)
-    for i, (level, variance) in enumerate(zip(levels, variances), first):
+    found = parsed(listing, end - first)
+    sheets.estimate = same_trend(sheets, found.trend)
+    for i, (level, variance) in enumerate(zip(found.levels, found.variances), first):
         nodes.level[i], nodes.variance[i] = level, variance
-    nodes.verdict[first:end] = verdicts
+    nodes.verdict[first:end] = found.verdicts
+
+
+def same_trend(sheets, trend):
+    """The trend that a sheet has. It does not depend on the nodes, so that all sheets have it alike, by its bits: a NaN is no number that equals another."""
+    if len(trend) != sheets.columns:
+        raise Damaged('its trend has %d columns, and that of the survey %d' % (len(trend), sheets.columns))
+    if sheets.estimate and packed(trend) != packed(sheets.estimate):
+        raise Damaged('its trend is not that of the sheets before it, and one of them is of other wells or of another program')
+    return trend
 
 
 def tally(sheets):
     """The run that the nodes have been through."""
-    return Run(sheets.origin, dict(sorted(Counter(sheets.nodes.verdict).items())))
+    return Run(sheets.origin, dict(sorted(Counter(sheets.nodes.verdict).items())), estimate=sheets.estimate)

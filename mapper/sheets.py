@@ -1,17 +1,19 @@
 """The map's survey files: the same wells in each, and at most 100 nodes."""
-from mapper.survey_file import EXTERNAL, NODES, codes, head, packed, trailer
+from mapper.survey_file import EXTERNAL, NODES, codes, columns, head, packed, trailer
 
 
 class Sheets:
     """The survey files of all the nodes, with the origin moved by `origin`; each is made when it is asked for, so that none is kept.
 
-    `survey` says what is asked of the wells (mapper/survey.py). A node's answer depends on the node alone, so that sheets change nothing in it.
+    `survey` says what is asked of the wells (mapper/survey.py). A node's answer depends on the node alone, so that sheets change nothing in it; the
+    trend's estimate depends on no node, and is kept here once a sheet has come with it.
     """
 
     def __init__(self, survey, nodes, outside, origin):
         self.survey, self.nodes, self.outside, self.origin = survey, nodes, outside, origin
         self.count, self.model = len(survey.wells), survey.variogram.model
-        self.codes = codes(survey.trend, survey.external)
+        self.codes, self.columns = codes(survey.trend, survey.external), len(columns(survey.trend, survey.external))
+        self.estimate = ()
         self.begins = head(survey.variogram, survey.regularization, survey.tolerance) + self.wells(survey)
 
     def wells(self, survey):

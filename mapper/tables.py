@@ -5,6 +5,7 @@ from html import escape
 from mapper.chart import model_words
 from mapper.frame import ends, field_grid
 from mapper.scales import alike, count, counted, length_words, plain
+from mapper.slope import in_short
 from mapper.verdicts import verdict_advice, verdict_words
 
 
@@ -128,7 +129,7 @@ def numbers(m, made):
         ('Passed the audit', '%s of %s' % (count(run.passed), count(run.passed + run.failed))),
         ('Levels at nodes', level_range(levels)),
         ('Standard deviation', level_range(deviations)),
-        ('Trend', m.trend),
+        ('Trend', in_short(m)),
         ('External column', m.external or 'none'),
         ('Model', model_words(m.variogram).rstrip('.')),
         ('Regularization', plain(m.regularization)),

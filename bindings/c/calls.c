@@ -24,12 +24,12 @@ static const double values[] = {2, 6}, coords[] = {0, 0, 2, 0}, nodes[] = {1, 0}
 static const uint8_t bases[] = {NAKWEMOL_BASIS_CONSTANT};
 
 /* Each area has one place more than it needs. */
-static double work[19], predicted[2], variance[2], weights[3], coefficients[2];
+static double work[19], predicted[2], variance[2], weights[3], multipliers[2], trend[2];
 static uint8_t verdicts[2];
 
 static void clear(void) {
     for (int i = 0; i < 19; i++) work[i] = -1;
-    for (int i = 0; i < 2; i++) predicted[i] = variance[i] = coefficients[i] = -1;
+    for (int i = 0; i < 2; i++) predicted[i] = variance[i] = multipliers[i] = trend[i] = -1;
     for (int i = 0; i < 3; i++) weights[i] = -1;
     verdicts[0] = verdicts[1] = 99;
 }
@@ -37,7 +37,7 @@ static void clear(void) {
 static uint8_t fit_range(uint8_t model, double range, size_t lent) {
     clear();
     return nakwemol_fit(values, 2, coords, 4, bases, 1, none, 0, nodes, 2, none, 0, model, 0, 1, range, 0, 0,
-                        work, 19, predicted, lent, variance, 2, verdicts, 2, weights, 3, coefficients, 2);
+                        work, 19, predicted, lent, variance, 2, verdicts, 2, weights, 3, multipliers, 2, trend, 2);
 }
 
 static uint8_t fit(uint8_t model, size_t lent) {
@@ -77,16 +77,67 @@ static void fits(void) {
     same("verdict", verdicts[0], 0);
     same("weight 1", weights[0], 0.5);
     same("weight 2", weights[1], 0.5);
-    same("coefficient", coefficients[0], 0.5);
+    same("multiplier", multipliers[0], 0.5);
     same("past the figure", predicted[1], -1);
     same("past the variance", variance[1], -1);
     same("past the verdict", verdicts[1], 99);
     same("past the weights", weights[2], -1);
-    same("past the coefficient", coefficients[1], -1);
+    same("past the multiplier", multipliers[1], -1);
     same("past the work", work[18], -1);
     same("an area too short", fit(NAKWEMOL_SPHERICAL, 0), NAKWEMOL_ANSWER_AREA);
     same("a code that is none", fit(5, 0), NAKWEMOL_UNKNOWN_CODE);
     same("what a refusal leaves", predicted[0], -1);
+}
+
+/* The first n of these levels at the first wells and the first m nodes, with so many places for the trend. */
+static uint8_t fit_levels(const double *levels, size_t n, size_t m, size_t lent) {
+    clear();
+    return nakwemol_fit(levels, n, coords, 2 * n, bases, 1, none, 0, nodes, 2 * m, none, 0, NAKWEMOL_SPHERICAL, 0, 1, 1, 0, 0,
+                        work, 19, predicted, 2, variance, 2, verdicts, 2, weights, 3, multipliers, 2, trend, lent);
+}
+
+static void trends(void) {
+    const double level[] = {5};
+    same("one well", fit_levels(level, 1, 1, 2), NAKWEMOL_OK);
+    same("its multiplier", multipliers[0], 1);
+    same("its trend", trend[0], 5);
+    same("two wells", fit_levels(values, 2, 1, 1), NAKWEMOL_OK);
+    same("their multiplier", multipliers[0], 0.5);
+    same("their trend", trend[0], 4);
+    same("past the trend", trend[1], -1);
+    same("no node", fit_levels(values, 2, 0, 2), NAKWEMOL_OK);
+    same("the multiplier of no node", multipliers[0], 0);
+    same("the trend without a node", trend[0], 4);
+    same("past the trend without a node", trend[1], -1);
+    same("no place for the trend", fit_levels(values, 2, 1, 0), NAKWEMOL_ANSWER_AREA);
+    same("what it leaves of the figure", predicted[0], -1);
+    same("what it leaves of the multiplier", multipliers[0], -1);
+    same("what it leaves of the trend", trend[0], -1);
+    same("no place for the figure", fit(NAKWEMOL_SPHERICAL, 0), NAKWEMOL_ANSWER_AREA);
+    same("the trend that it leaves", trend[0], -1);
+    same("a code that is none", fit(5, 2), NAKWEMOL_UNKNOWN_CODE);
+    same("the trend that it leaves", trend[0], -1);
+}
+
+/* Three wells on the plain 2 + 3 x - y, and the node at the first of them: the multipliers are zeros there, and the trend is the plain. */
+static uint8_t fit_plain(double multiplier[3], double slope[3], size_t lent) {
+    const double levels[] = {2, 5, 1}, wells[] = {0, 0, 1, 0, 0, 1};
+    const uint8_t linear[] = {NAKWEMOL_BASIS_LINEAR};
+    double area[72], figure, estimate, shares[3];
+    uint8_t verdict;
+    for (int j = 0; j < 3; j++) multiplier[j] = slope[j] = -9;
+    return nakwemol_fit(levels, 3, wells, 6, linear, 1, none, 0, wells, 2, none, 0, NAKWEMOL_SPHERICAL, 0, 1, 1, 0, 0,
+                        area, 72, &figure, 1, &estimate, 1, &verdict, 1, shares, 3, multiplier, 3, slope, lent);
+}
+
+static void slopes(void) {
+    const double plain[] = {2, 3, -1};
+    double multiplier[3], slope[3];
+    same("a plain", fit_plain(multiplier, slope, 3), NAKWEMOL_OK);
+    for (int j = 0; j < 3; j++) near("a multiplier of the plain", multiplier[j], 0);
+    for (int j = 0; j < 3; j++) near("a slope of the plain", slope[j], plain[j]);
+    same("a plain, with a place too few", fit_plain(multiplier, slope, 2), NAKWEMOL_ANSWER_AREA);
+    for (int j = 0; j < 3; j++) same("what it leaves of the slopes", slope[j], -9);
 }
 
 static void interpolations(void) {
@@ -137,6 +188,8 @@ static void files(void) {
 
 int main(void) {
     fits();
+    trends();
+    slopes();
     models();
     interpolations();
     semivariograms();

@@ -12,11 +12,17 @@ from mapper.model import Bin, Grid, Map, Nodes, Run, Variogram, Well
 from mapper.words import refusal
 
 EAST, NORTH = 3425000.0, 5812000.0
+SLOPES = 0.0019, -0.0011  # of the plane: the level falls to the north-west
 
 
 def level_at(x, y):
     u, v = (x - EAST) / 1000, (y - NORTH) / 1000
     return 46 + 1.9 * u - 1.1 * v + 0.8 * math.sin(2.2 * u) * math.cos(1.7 * v)
+
+
+def plane(origin=(0.0, 0.0), *more):
+    """The plane as the trend's estimate, in coordinates from an origin."""
+    return (46 - SLOPES[0] * (EAST - origin[0]) - SLOPES[1] * (NORTH - origin[1]), *SLOPES, *more)
 
 
 def made_wells(count, width=2000.0, height=1500.0, seed=7):
@@ -57,7 +63,8 @@ def made_map(xs, ys, grid, wells, failed, names=None, **more):
     made = dict(
         title='Lower meadows', wells=wells, nodes=Nodes(array('d', xs), array('d', ys), level, variance, verdict, names), grid=grid,
         variogram=Variogram('spherical', 0.02, 1.9, 1450.0, True), bins=bins, trend='linear', external=None,
-        regularization=1e-10, tolerance=1e-6, columns=['1', 'x', 'y'], runs=[Run((0.0, 0.0), counts(verdict))], drawn=0, notes=[])
+        regularization=1e-10, tolerance=1e-6, columns=['1', 'x', 'y'], runs=[Run((0.0, 0.0), counts(verdict), estimate=plane())], drawn=0,
+        notes=[])
     made.update(more)
     return Map(**made)
 
@@ -82,7 +89,7 @@ def some_failed(x, y):
 def two_runs(**more):
     """A map that was run again with the origin moved."""
     m = grid_map(failed=some_failed, **more)
-    m.runs = [Run((0.0, 0.0), {2: 700, 3: 500}), Run((EAST, NORTH), m.runs[0].verdicts)]
+    m.runs = [Run((0.0, 0.0), {2: 700, 3: 500}, estimate=(1e9, -7.0, 3.0)), Run((EAST, NORTH), m.runs[0].verdicts, estimate=plane((EAST, NORTH)))]
     m.drawn = 1
     m.notes = ['With coordinates as entered no node passed; the origin was moved to (3425000, 5812000) and all nodes were run again.',
                'The spherical model was fitted to 12 bins.',
@@ -126,6 +133,7 @@ def crowded(**more):
     m = grid_map(60, 50, failed=some_failed, **more)
     m.wells, m.title, m.external, m.columns = wells, 'Röst & Co <Lower meadows> 2024', 'surface "DEM"', ['1', 'x', 'y', 'surface "DEM"']
     m.notes = two_runs().notes
+    m.runs[0].estimate = plane((0.0, 0.0), 0.42)
     m.runs.append(m.runs[0])
     m.refused = ['Line 51: the coordinates are those of line 12, and two wells at one place cannot both be used.']
     return m

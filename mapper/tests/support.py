@@ -19,6 +19,7 @@ import nakwemol  # the proved calls, once their folder is known
 
 FOUR = 'name,x,y,level\nA,0,0,10\nB,100,0,11\nC,0,100,12.5\nD,90,80,12\n'
 NUMBERS = ('--nugget', '0', '--sill', '1', '--range', '150')
+ENDING = 'coef 0000000000000000\ntrend 4026000000000000\n'  # of a listing with a constant trend: a level of 11
 
 
 def bits(pattern):

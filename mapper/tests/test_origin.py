@@ -5,7 +5,7 @@ import unittest
 from mapper.model import Well
 from mapper.numbers import shown
 from mapper.origin import corner
-from mapper.tests.support import SAMPLES, Folder, bits, nakwemol
+from mapper.tests.support import ENDING, SAMPLES, Folder, bits, nakwemol
 from tools.reading.survey import Survey
 from tools.reading.survey_file import body, trailer
 from tools.reading.variogram import Variogram
@@ -87,7 +87,7 @@ class WhichIsDrawn(Folder):
     """A program that answers by the first well's x: 0 where the origin is moved."""
 
     def drawn(self, entered, moved, *more):
-        answers = [f'printf "nodes 2\\n1 4010000000000000 0000000000000000 {a}\\n2 4010000000000000 0000000000000000 {b}\\ncoef 0000000000000000\\n"'
+        answers = [f'printf "nodes 2\\n1 4010000000000000 0000000000000000 {a}\\n2 4010000000000000 0000000000000000 {b}\\n{ENDING}"'
                    if a is not None else f'echo refused {b}' for a, b in (entered, moved)]
         first = "first=$(od -An -v -tx8 -j56 -N8 | tr -d ' \\n')"  # 5 numbers and 2 levels before it
         self.program(f'{first}\nif [ "$first" != 0000000000000000 ]; then {answers[0]}; else {answers[1]}; fi')

@@ -1,8 +1,10 @@
 """Colours: neighbouring classes stay apart for people who do not see red, green or blue as others do, and in grey print."""
+import re
 import unittest
 
 from mapper.classes import classes
 from mapper.colours import DEVIATIONS, LEVELS, class_colours, lightness, line_colour, linear
+from mapper.page import beside
 
 # What is seen instead of light (red, green, blue): Machado, Oliveira and Fernandes 2009, whole loss of one kind of cones.
 SEEN = {
@@ -66,6 +68,17 @@ class Colours(unittest.TestCase):
             for colour in class_colours(palette, 11):
                 line = tuple(int(line_colour(colour)[k:k + 2], 16) for k in (1, 3, 5))
                 self.assertGreater(abs(lightness(line) - lightness(colour)), 38)
+
+    def test_the_trend_s_arrow_is_seen_on_every_ground(self):
+        """By its hue to all eyes; in grey print by its white edge, and hollow by its white inside."""
+        fill, edge = re.search(r'\.trend { fill: #(\w{6}); stroke: #(\w{3});', beside('style.css')).groups()
+        arrow = tuple(bytes.fromhex(fill))
+        self.assertEqual(edge, 'fff')
+        self.assertGreater(100 - lightness(arrow), 50)
+        for count in range(1, 12):
+            for colour in class_colours(LEVELS, count):
+                for eyes in SEEN:
+                    self.assertGreater(apart(arrow, colour, eyes), 40, (eyes, colour))
 
     def test_never_more_classes_than_colours_that_are_apart(self):
         for k in range(1, 3000):

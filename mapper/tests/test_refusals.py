@@ -1,7 +1,7 @@
 """What ends without a map: a sentence that says what to do, status 1, and no file."""
 from unittest import mock
 
-from mapper.tests.support import FOUR, NUMBERS, SAMPLES, Folder
+from mapper.tests.support import ENDING, FOUR, NUMBERS, SAMPLES, Folder
 from mapper.words import REFUSALS
 
 
@@ -35,7 +35,7 @@ class ByTheProgram(Folder):
     def test_a_late_sheet(self):
         """Nothing is written when only the last of 30 sheets is refused: 25 nodes, where the others have 100."""
         self.program('size=$(wc -c); if [ "$size" -lt 1000 ]; then echo refused 11; else echo nodes 100; i=1; '
-                     'while [ $i -le 100 ]; do echo $i 4010000000000000 0000000000000000 0; i=$((i+1)); done; echo coef 0000000000000000; fi')
+                     'while [ $i -le 100 ]; do echo $i 4010000000000000 0000000000000000 0; i=$((i+1)); done; printf "' + ENDING + '"; fi')
         self.assertIn('Refused (11)', self.refused(self.file(FOUR), *NUMBERS, '--grid', '45x45'))
 
 
@@ -80,6 +80,20 @@ class Otherwise(Folder):
     def test_program_that_prints_no_listing(self):
         self.program('cat > /dev/null; echo hello')
         self.assertIn('printed no listing for sheet 1', self.refused(self.file(FOUR), *NUMBERS))
+
+    def test_program_of_before_the_trend_lines(self):
+        listing = 'nodes 9\n' + ''.join(f'{i + 1} 4010000000000000 0000000000000000 0\n' for i in range(9)) + 'coef 0000000000000000\n'
+        self.program(f'cat > /dev/null; printf "{listing}"')
+        said = self.refused(self.file(FOUR), *NUMBERS, '--grid', '3x3')
+        self.assertIn('printed no listing for sheet 1: its coef lines (1) and trend lines (0) are not as many. Remove it, and it is built anew.', said)
+
+    def test_program_whose_trend_goes_by_the_sheet(self):
+        """Two sheets, of 100 nodes and of 21, with another level each."""
+        self.program('size=$(wc -c); if [ "$size" -lt 1000 ]; then m=21; t=4; else m=100; t=5; fi; echo nodes $m; i=1; '
+                     'while [ $i -le $m ]; do echo $i 4010000000000000 0000000000000000 0; i=$((i+1)); done; '
+                     'echo coef 0000000000000000; echo trend 401${t}000000000000')
+        said = self.refused(self.file(FOUR), *NUMBERS, '--grid', '11x11')
+        self.assertIn('printed no listing for sheet 2: its trend is not that of the sheets before it', said)
 
     def test_program_that_is_none(self):
         self.program('')

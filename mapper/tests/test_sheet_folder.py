@@ -106,6 +106,18 @@ class SheetFolder(Folder):
         (folder / '000003.listing').write_bytes((folder / '000001.listing').read_bytes())
         self.assertIn('000003.listing is not whole: it does not have 25 nodes', self.refused('--collect', folder))
 
+    def test_listing_with_another_trend(self):
+        folder, _ = self.sheets(*GRID)
+        self.run_all(folder)
+        listing = (folder / '000003.listing').read_text()
+        (folder / '000003.listing').write_text(re.sub('trend [0-9a-f]{16}', 'trend 4010000000000000', listing))
+        self.assertIn('000003.listing is not whole: its trend is not that of the sheets before it', self.refused('--collect', folder))
+
+    def test_the_trend_is_told(self):
+        folder, _ = self.sheets(*GRID)
+        self.run_all(folder)
+        self.assertIn('The trend is a level of ', self.made('--collect', folder))
+
     def test_refused_listing(self):
         folder, _ = self.sheets(*GRID)
         self.run_all(folder)

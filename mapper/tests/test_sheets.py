@@ -1,4 +1,5 @@
 """The survey's bytes, held to the proved reader and to samples/, whose bytes and listings another reading made."""
+import math
 from array import array
 from unittest import mock
 
@@ -6,7 +7,7 @@ from mapper.built import program
 from mapper.listing import Damaged, parsed
 from mapper.model import Variogram, Well
 from mapper.nodes import unanswered
-from mapper.runs import answer, run
+from mapper.runs import answer, fill, run, tally
 from mapper.sheets import Sheets
 from mapper.stop import Refused
 from mapper.survey import Survey
@@ -70,23 +71,34 @@ class Bounded(Folder):
                 made.append(sheet)
                 most.append(len(made) - len(taken))
                 return b''
-        listing = b'nodes 100\n' + b''.join(b'%d 4010000000000000 3ff8000000000000 0\n' % (i + 1) for i in range(100)) + b'coef 3fe0000000000000\n'
+        nodes_of = b''.join(b'%d 4010000000000000 3ff8000000000000 0\n' % (i + 1) for i in range(100))
+        listing = b'nodes 100\n' + nodes_of + 3 * b'coef 3fe0000000000000\n' + 3 * b'trend 3fe0000000000000\n'
         with mock.patch('mapper.runs.answer', lambda program, survey: listing):
             found = run('none', Counted(read('plain')[1], nodes, array('d'), (0.0, 0.0)), 2, taken.append)
         self.assertEqual((found.verdicts, len(made), sum(taken)), ({0: 30000}, 300, 30000))
         self.assertLessEqual(max(most), 8)
-        self.assertEqual((set(nodes.level), set(nodes.variance)), ({4.0}, {1.5}))
+        self.assertEqual((set(nodes.level), set(nodes.variance), found.estimate), ({4.0}, {1.5}, (0.5, 0.5, 0.5)))
+
+
+ONE = b'nodes 1\n1 4010000000000000 3ff8000000000000 0\n'
+B = ONE + b'coef 3fe0000000000000\ntrend 4010000000000000\n'  # the scope's case B, whose trend is a level of 4
 
 
 class Listings(Folder):
     def test_what_the_reference_shows(self):
-        self.assertEqual(parsed(b'nodes 1\n1 4010000000000000 3ff8000000000000 0\ncoef 3fe0000000000000\n', 1), ((4.0,), (1.5,), b'\0'))
+        self.assertEqual(parsed(B, 1), ((4.0,), (1.5,), b'\0', (4.0,)))
 
     def test_a_sample(self):
-        levels, variances, verdicts = parsed((SAMPLES / 'plain.listing').read_bytes(), 25)
+        levels, variances, verdicts, trend = parsed((SAMPLES / 'plain.listing').read_bytes(), 25)
         self.assertEqual((levels[1], variances[1]), (bits('4047ad1b9da6fb2f'), bits('3fd1c3668bfd78d9')))
-        self.assertEqual(verdicts, bytes(25))
-        self.assertEqual(set(parsed((SAMPLES / 'seven_figures.listing').read_bytes(), 25)[2]), {1})
+        self.assertEqual((verdicts, len(trend)), (bytes(25), 3))
+        self.assertEqual(set(parsed((SAMPLES / 'seven_figures.listing').read_bytes(), 25).verdicts), {1})
+
+    def test_trend_in_the_order_of_the_columns(self):
+        coefs, trend = 3 * b'coef 3fe0000000000000\n', b'trend 4048000000000000\ntrend bf50624dd2f1a9fc\ntrend 7ff8000000000000\n'
+        found = parsed(ONE + coefs + trend, 1).trend
+        self.assertEqual(found[:2], (48.0, -0.001))
+        self.assertTrue(math.isnan(found[2]))
 
     def test_program_prints_what_is_stored(self):
         for name in ('plain', 'valley', 'seven_figures', 'singular'):
@@ -108,3 +120,54 @@ class Listings(Folder):
                 parsed(listing, 25)
         with self.assertRaises(Damaged):
             parsed(whole, 24)
+
+    def test_damaged_after_the_nodes(self):
+        coef, trend = b'coef 3fe0000000000000\n', b'trend 4010000000000000\n'
+        for ending in (trend, trend + coef, coef + trend + coef + trend, coef + trend + b'\n', coef + trend + b'more\n', coef + b'more\n' + trend,
+                       coef + b'trend 401000000000000\n', coef + b'trend 40100000000000000\n', coef + b'trend 401000000000000G\n',
+                       coef + b'trend 4010000000000000 0\n', coef + b'Trend 4010000000000000\n', b'coef 3fe\n' + trend):
+            self.says(ONE + ending, 'it does not end with the multipliers and the trend')
+        for ending, counts in ((coef, (1, 0)), (coef + trend + trend, (1, 2)), (2 * coef + trend, (2, 1))):
+            self.says(ONE + ending, 'its coef lines (%d) and trend lines (%d) are not as many' % counts)
+
+    def says(self, listing, words):
+        with self.assertRaises(Damaged) as damaged:
+            parsed(listing, 1)
+        self.assertEqual(str(damaged.exception), words, listing)
+
+
+class OneTrend(Folder):
+    """Sheets of one node each, of two wells with a constant trend."""
+
+    def sheets(self):
+        two = Survey([Well('A', 0, 0, 2), Well('B', 2, 0, 6)], 'constant', None, Variogram('spherical', 0, 1, 1, False), 0.0, 0.0)
+        sheets = Sheets(two, unanswered(array('d', [1, 1]), array('d', [0, 0])), array('d'), (0.0, 0.0))
+        sheets.span = lambda sheet: (sheet, sheet + 1)
+        return sheets
+
+    def filled(self, *trends):
+        """The run of sheets with these patterns as their trend."""
+        sheets = self.sheets()
+        for sheet, trend in enumerate(trends):
+            fill(sheets, sheet, B.replace(b'trend 4010000000000000\n', trend))
+        return tally(sheets)
+
+    def test_the_same(self):
+        self.assertEqual(self.filled(*2 * [b'trend 4010000000000000\n']).estimate, (4.0,))
+
+    def test_a_nan_is_the_same_as_itself(self):
+        self.assertTrue(math.isnan(self.filled(*2 * [b'trend 7ff8000000000000\n']).estimate[0]))
+
+    def test_another(self):
+        for other in (b'trend 4010000000000001\n', b'trend 7ff8000000000000\n'):
+            with self.assertRaises(Damaged) as damaged:
+                self.filled(b'trend 4010000000000000\n', other)
+            self.assertIn('its trend is not that of the sheets before it', str(damaged.exception))
+        with self.assertRaises(Damaged):
+            self.filled(b'trend 0000000000000000\n', b'trend 8000000000000000\n')
+
+    def test_of_another_survey(self):
+        linear = ONE + 3 * b'coef 3fe0000000000000\n' + 3 * b'trend 3fe0000000000000\n'
+        with self.assertRaises(Damaged) as damaged:
+            fill(self.sheets(), 0, linear)
+        self.assertEqual(str(damaged.exception), 'its trend has 3 columns, and that of the survey 1')

@@ -91,5 +91,15 @@ class Samples(Folder):
         said = self.made(SAMPLES / 'valley.csv', '--trend', 'quadratic', '--out', self.folder)
         self.assertIn('as entered 0 of 768 nodes pass; with the origin moved to (4512300, 5403200) 768 do', said)
 
+    def test_plain_falls_to_the_south_east(self):
+        """It was made to: 1.2 m a kilometre to the east and 0.9 m to the south, the hypotenuse of which is 1.5."""
+        said = self.made(SAMPLES / 'plain.csv', '--trend', 'linear', '--out', self.folder)
+        self.assertIn('\nThe water table falls 1.5 m a kilometre to the south-east: ', said)
+
+    def test_valley_follows_the_ground(self):
+        """It was made to: 0.4 of the ground's height, and of the 2.5 m a kilometre that the water falls to the east the ground's 3 m take off 1.2."""
+        said = self.made(SAMPLES / 'valley.csv', '--trend', 'linear', '--external', 'ground', '--nodes', SAMPLES / 'valley_nodes.csv', '--out', self.folder)
+        self.assertIn('\nThe level rises 0.40 m for each metre of ground; apart from that the water table falls 1.3 m a kilometre to the east: ', said)
+
     def test_plain_passes_as_entered(self):
         self.assertNotIn('moved', self.made(SAMPLES / 'plain.csv', '--out', self.folder))

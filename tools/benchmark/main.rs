@@ -60,7 +60,7 @@ fn check_fit(survey: &Survey) {
     }
     same_bits(&what, &port.predicted, &original.predicted);
     same_bits(&what, &port.variance, &original.variance);
-    same_bits(&what, &port.coefficients, &original.drift_coefficients);
+    same_bits(&what, &port.multipliers, &original.drift_coefficients);
     if port.verdicts.iter().any(|verdict| *verdict != 0) {
         stop(&format!("{what}: a node misses its audit"));
     }

@@ -14,13 +14,14 @@ pub struct Fit {
     pub variance: Vec<f64>,
     pub verdicts: Vec<u8>,
     pub weights: Vec<f64>,
-    pub coefficients: Vec<f64>,
+    pub multipliers: Vec<f64>,
+    trend: Vec<f64>,
 }
 
 impl Fit {
     pub fn of(survey: Survey) -> Fit {
         let (n, p, m) = (survey.n(), survey.p(), survey.m());
-        let coefficients = if survey.kind == Kind::Refused { 0 } else { p };
+        let trend = if survey.kind == Kind::Refused { 0 } else { p };
         Fit {
             survey,
             work: vec![0.0; 2 * (n + p) * (n + p)],
@@ -28,7 +29,8 @@ impl Fit {
             variance: vec![0.0; m],
             verdicts: vec![0; m],
             weights: vec![0.0; n * m],
-            coefficients: vec![0.0; coefficients],
+            multipliers: vec![0.0; p],
+            trend: vec![0.0; trend],
         }
     }
 
@@ -52,7 +54,8 @@ impl Fit {
             &mut self.variance,
             &mut self.verdicts,
             &mut self.weights,
-            &mut self.coefficients,
+            &mut self.multipliers,
+            &mut self.trend,
         )
     }
 

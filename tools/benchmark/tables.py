@@ -122,6 +122,7 @@ class Parts:
         return self.kind("refused", self.m, "port")[0]
 
     def elimination(self, side):
+        """A fit without nodes, less one that stops at its first step. The port's has the trend with it, p sums of n products."""
         return self.kind("whole", 0, side)[0] - self.kind("stopped", 0, side)[0]
 
     def assembly(self, side):

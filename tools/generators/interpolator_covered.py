@@ -2,6 +2,7 @@
 import math
 
 from tools.generators.interpolator_case import SHAPES
+from tools.generators.replay import kind_of
 from tools.patterns import bits
 from tools.reading.elimination import beside_identity, eliminate, inverse
 from tools.reading.fit import solved
@@ -17,17 +18,6 @@ def stop(ended):
     """Where the steps stop: the first, the last or one on the way."""
     step = eliminate(beside_identity(assembled(ended.case.query)), skip_zero=False)
     return "first" if step == 0 else "last" if step == ended.case.query.s - 1 else "middle"
-
-
-def kind_of(x):
-    """Which of the things that a number may be."""
-    if x != x:
-        return "nan"
-    if math.isinf(x):
-        return "infinite"
-    if x == 0.0:
-        return "minus zero" if bits(x) else "zero"
-    return "subnormal" if abs(x) < 2.0**-1022 else "negative" if x < 0.0 else "positive"
 
 
 def raw_variances(ended):

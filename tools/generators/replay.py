@@ -1,4 +1,5 @@
-"""What the generators of whole calls share: the marks of the lent areas, what a refusal is held to, and what a program writes."""
+"""What the generators of whole calls share: the marks of the lent areas, what a refusal is held to, what a number may be, and what a program writes."""
+import math
 from collections import Counter
 
 from tools.patterns import bits, value
@@ -27,6 +28,17 @@ def hold_refusal(number, answer, call):
     """Stops where the original refuses a call otherwise: by another kind, if it has the refusal and its types let the call be put to it."""
     kinds = [f"error {kind}" for kind in KINDS.get(number, ())]
     assert not kinds or answer in [*kinds, "shape"], (number, answer, call)
+
+
+def kind_of(x):
+    """Which of the things that a number may be."""
+    if x != x:
+        return "nan"
+    if math.isinf(x):
+        return "infinite"
+    if x == 0.0:
+        return "minus zero" if bits(x) else "zero"
+    return "subnormal" if abs(x) < 2.0**-1022 else "negative" if x < 0.0 else "positive"
 
 
 def written_lines(numbers, parts):

@@ -3,11 +3,11 @@ import math
 from unittest.mock import patch
 
 from tools.generators.calls import Fit
-from tools.patterns import value
-from tools.reading import audit, case_text, fit
+from tools.patterns import bits, value
+from tools.reading import audit, case_text, fit, wrong_trends
 from tools.reading.floats import clamped, running_sum
 from tools.reading.outcomes import of_fit
-from tools.reading.survey import EXTERNAL, LINEAR, QUADRATIC, Survey
+from tools.reading.survey import CONSTANT, EXTERNAL, LINEAR, QUADRATIC, Survey
 from tools.reading.variogram import SPHERICAL, Variogram
 
 WELLS = [1.0, 2.0, 4.0, 6.0, 4.0, 2.0]
@@ -41,6 +41,11 @@ AUDITS = {
         255,
     ),
 }
+# the paper's two soundings with a trend, and what it says that it is
+SOUNDING_A = Survey([5.0], [0.0, 0.0], [CONSTANT], [], [1.0, 0.0], [], Variogram(SPHERICAL, 0.0, 1.0, 1.0), 0.0, 0.0)
+SOUNDING_B = SOUNDING_A._replace(values=[2.0, 6.0], coords=[0.0, 0.0, 2.0, 0.0])
+TRENDS = {"A": (SOUNDING_A, 0x4014_0000_0000_0000), "B": (SOUNDING_B, 0x4010_0000_0000_0000)}
+MINUS_ZERO = ONE_WELL._replace(values=[-0.0])
 FAR_WELL = Survey(
     values=[5.0, 4.0, 7.0, 4.0, 3.0, 7.0],
     coords=[2.0**512, 1.0, 2.0, 5.0, 3.0, 2.0, 2.0, 2.0, 2.0, 4.0, 3.0, 3.0],
@@ -96,10 +101,10 @@ def over_weights_alone(survey):
     return {**outcome, "variances": [clamped(running_sum(part)) for part in parts]}
 
 
-def first_node_coefficients(survey):
-    """The coefficients as the first node alone leaves them."""
+def first_node_multipliers(survey):
+    """The multipliers as the first node alone leaves them."""
     alone = survey._replace(nodes=survey.nodes[:2], node_external=survey.node_external[:survey.k])
-    return {**of_fit(survey), "coefficients": of_fit(alone)["coefficients"]}
+    return {**of_fit(survey), "multipliers": of_fit(alone)["multipliers"]}
 
 
 def copied(outcome, name):
@@ -124,8 +129,8 @@ def wrong_placings(survey):
 def wrong_answers(survey):
     right = of_fit(survey)
     return {
-        "coefficients from the first p entries of z": changed(survey, fit, "coefficients_of", lambda z, p: z[:p]),
-        "coefficients from the first node": first_node_coefficients(survey),
+        "multipliers from the first p entries of z": changed(survey, fit, "multipliers_of", lambda z, p: z[:p]),
+        "multipliers from the first node": first_node_multipliers(survey),
         "weights written well after well": {**right, "weights": transposed(right["weights"], survey.m)},
         "node 1's figure for every node": copied(right, "figures"),
         "node 1's verdict for every node": copied(right, "verdicts"),
@@ -134,6 +139,20 @@ def wrong_answers(survey):
         "audit with < for ≤": changed(survey, audit, "met", strictly_met),
         "r left off the diagonal": of_fit(survey._replace(r=0.0)),
     }
+
+
+def wrong_trend(survey, name):
+    return {name: changed(survey, fit, "trend_of", wrong_trends.BY_NAME[name])}
+
+
+def trends_told(survey):
+    """Those that a fit can tell whose products are not all minus zero."""
+    right = of_fit(survey)
+    told = {"the multipliers as the trend": {**right, "trend": right["multipliers"]}, "zeros as the trend": {**right, "trend": [0.0] * survey.p}}
+    for name in wrong_trends.BY_NAME:
+        if name != wrong_trends.FROM_FIRST:
+            told.update(wrong_trend(survey, name))
+    return told
 
 
 def call(survey):
@@ -147,7 +166,7 @@ def print_case(survey, small=True):
     case_text.fields("expected", {name: items for name, items in outcome.items() if small or name != "work"})
     if small:
         case_text.on_the_way(fit.assembled(survey), [fit.right_hand_side(survey, q) for q in range(survey.m)])
-    answer = case_text.ok(survey.m, outcome["figures"], outcome["variances"]) + case_text.ok(f" {survey.p}", outcome["coefficients"])[3:]
+    answer = case_text.ok(survey.m, outcome["figures"], outcome["variances"]) + case_text.ok(f" {survey.p}", outcome["multipliers"])[3:]
     case_text.agrees(call(survey), answer)
     return outcome
 
@@ -156,13 +175,15 @@ def print_externals():
     case_text.title("fit 1: two external columns, three wells, two nodes (n = 3, m = 2, p = k = 2, s = 5)")
     outcome = print_case(EXTERNALS)
     assert outcome["verdicts"] == [0, 2]
-    case_text.wrong(outcome, {**wrong_placings(EXTERNALS), **wrong_answers(EXTERNALS)})
+    case_text.wrong(outcome, {**wrong_placings(EXTERNALS), **wrong_answers(EXTERNALS), **trends_told(EXTERNALS)})
 
 
 def print_no_nodes():
     case_text.title("fit 2: the same wells, no node (m = 0)")
     outcome = print_case(NO_NODES)
-    case_text.wrong(outcome, {f"coefficients {x}": {**outcome, "coefficients": [x, x]} for x in (math.nan, -0.0)})
+    assert outcome["trend"] == of_fit(EXTERNALS)["trend"]
+    multipliers = {f"multipliers {x}": {**outcome, "multipliers": [x, x]} for x in (math.nan, -0.0)}
+    case_text.wrong(outcome, {**multipliers, **trends_told(NO_NODES)})
 
 
 def swapped_drift(codes, x, y, externals):
@@ -176,9 +197,19 @@ def print_surface():
         "node axes exchanged": changed_survey(SURFACE, node=node_yx),
         "well axes exchanged": changed_survey(SURFACE, well=well_yx),
         "1, y, x for wells and nodes": changed(SURFACE, fit, "drift_row", swapped_drift),
-        "coefficients from the first p entries of z": changed(SURFACE, fit, "coefficients_of", lambda z, p: z[:p]),
+        "multipliers from the first p entries of z": changed(SURFACE, fit, "multipliers_of", lambda z, p: z[:p]),
     }
-    case_text.wrong(outcome, wrong)
+    case_text.wrong(outcome, {**wrong, **trends_told(SURFACE)})
+
+
+def print_trends():
+    for name, (survey, trend) in TRENDS.items():
+        case_text.title(f"trend: sounding {name}")
+        assert list(map(bits, print_case(survey)["trend"])) == [trend]
+    case_text.title("trend: a value of minus zero, and a sum from 0")
+    outcome = print_case(MINUS_ZERO)
+    assert list(map(bits, outcome["trend"])) == [0]
+    case_text.wrong(outcome, wrong_trend(MINUS_ZERO, wrong_trends.FROM_FIRST))
 
 
 def print_audits():
@@ -195,4 +226,5 @@ def print_all():
     print_externals()
     print_no_nodes()
     print_surface()
+    print_trends()
     print_audits()

@@ -1,12 +1,12 @@
 #!/usr/bin/env python3
-"""Holds the reading of paper 01 to the original: random calls of the fit, the interpolator and the semivariogram, bit for bit.
+"""Holds the reading of the papers to the original: random calls of the fit, the interpolator and the semivariogram, bit for bit.
 
-Usage: tools/reading/compare.py KRIGING.RS [COUNT [SEED]]     COUNT fits (20,000), and a quarter as many of each of the other two
+Usage: tools/reading/compare.py KRIGING.RS [COUNT [SEED]]     COUNT fits (20,000), and a quarter as many of each of the other two, and of trends
 
-A call is compared where the original answers it: figures, variances, coefficients, distances, semivariances, and the kinds of the refusals that
+A call is compared where the original answers it: figures, variances, multipliers, distances, semivariances, and the kinds of the refusals that
 it has. Where paper 01 adds a refusal nothing is compared, and the call is counted beside; these are tried at their edges (edges.py). Each
-reading is also held to what paper 01 says of areas, and its verdicts to sums of fractions. Prints what was compared and, of what differs, the
-shortest call.
+reading is also held to what paper 01 says of areas, and its verdicts to sums of fractions. The original has no trend: of more fits the trend is held
+to the inverse that the original makes of the same matrix. Prints what was compared and, of what differs, the shortest call.
 """
 import pathlib
 import sys
@@ -22,6 +22,7 @@ from tools.patterns import bits, word
 from tools.reading import edges, fit, interpolator, semivariogram
 from tools.reading.fractions_audit import verdict_by_fractions
 from tools.reading.lent import area, fit_lengths, query_lengths, untouched
+from tools.reading.original import asked_inverse, trend_by_inverse
 from tools.reading.refusals import KINDS
 from tools.reading.survey import Survey
 from tools.reading.variogram import Variogram
@@ -46,20 +47,26 @@ def held(areas, lengths, number):
     assert all(untouched(lent, length) for lent, length in zip(areas, lengths, strict=True)), (number, lengths)
 
 
-def read_fit(draw, call):
-    """What the original has to answer to a fit."""
+def fitted(draw, call):
+    """A fit by the reading: the survey, the areas that it leaves and its number."""
     survey = Survey(*call[:6], Variogram(*call.variogram), call.r, draw.choice(TOLERANCES))
     lengths = fit_lengths(survey)
     areas = fit.Areas(*(area(length, draw.randrange(3)) for length in lengths))
     number = fit.fit(survey, areas)
     held(areas, lengths, number)
+    return survey, areas, number
+
+
+def read_fit(draw, call):
+    """What the original has to answer to a fit."""
+    survey, areas, number = fitted(draw, call)
     if number:
         return number, expected(number, "")
     n, m, p = survey.n, survey.m, survey.p
     if n * p * m < 40:
         for q in range(m):
             assert areas.verdicts[q] == verdict_by_fractions(survey, areas, q)
-    return 0, expected(0, f"ok {m}" + patterns(areas.figures[:m]) + patterns(areas.variances[:m]) + f" {p}" + patterns(areas.coefficients[:p]))
+    return 0, expected(0, f"ok {m}" + patterns(areas.figures[:m]) + patterns(areas.variances[:m]) + f" {p}" + patterns(areas.multipliers[:p]))
 
 
 def read_interpolate(draw, call):
@@ -124,6 +131,27 @@ def compare(name, draw, count, drawn, read):
     return len(differing)
 
 
+def trends(draw, count):
+    """Of some fits, those that the reading answers: each survey with its trend."""
+    for survey, areas, number in (fitted(draw, draw_fit(draw)) for _ in range(count)):
+        if number == 0:
+            yield survey, areas.trend[:survey.p]
+
+
+def compare_trends(draw, count):
+    """Compares the trends of `count` fits with those by the original's inverse; answers how many differ."""
+    compared, differing = 0, []
+    for begin in range(0, count, BATCH):
+        read = list(trends(draw, min(BATCH, count - begin)))
+        calls = [asked_inverse(survey) for survey, _ in read]
+        compared += len(read)
+        differing += [survey for (survey, trend), inverse in zip(read, ask(calls)) if patterns(trend) != patterns(trend_by_inverse(survey, inverse))]
+    print(f"trends: {compared} compared, {len(differing)} differ")
+    for survey in sorted(differing, key=lambda survey: survey.s)[:1]:
+        print(f"  {survey}")
+    return len(differing)
+
+
 def main():
     build(sys.argv[1])
     count = int(sys.argv[2]) if len(sys.argv) > 2 else 20000
@@ -132,6 +160,7 @@ def main():
     different = compare("fits", draw, count, draw_fit, read_fit)
     different += compare("interpolations", draw, count // 4, draw_interpolate, read_interpolate)
     different += compare("semivariograms", draw, count // 4, draw_calculate, read_calculate)
+    different += compare_trends(draw, count // 4)
     return 1 if different else 0
 
 

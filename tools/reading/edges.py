@@ -187,7 +187,7 @@ def check():
     query = interpolator.Query(1, 2, spread(4), spread(8), spread(4), MODEL)
     samples = semivariogram.Samples(2, spread(4), spread(8), 5)
     total = accepted() + reader_edges()
-    total += counted(FIT_ORDER, FIT_EDITS, {17: [5], 18: [0, 1, 2, 3, 4]}, survey(), fit_number)
+    total += counted(FIT_ORDER, FIT_EDITS, {17: [6], 18: [0, 1, 2, 3, 4, 5]}, survey(), fit_number)
     total += counted(QUERY_ORDER, QUERY_EDITS, {17: [2], 18: [0, 1]}, query, query_number)
     total += counted(SAMPLES_ORDER, SAMPLES_EDITS, {18: [0, 1, 2]}, samples, samples_number)
     total += counted(WRITER_ORDER, WRITER_EDITS, {18: [0]}, survey(), writer_number)

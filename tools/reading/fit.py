@@ -1,4 +1,4 @@
-"""Paper 01, "One fit, followed through"."""
+"""Paper 01, "One fit, followed through", and paper 02, "Trend slopes on the report"."""
 from typing import NamedTuple
 
 from tools.reading import refusals
@@ -16,7 +16,8 @@ class Areas(NamedTuple):
     variances: list
     verdicts: list
     weights: list
-    coefficients: list
+    multipliers: list
+    trend: list
     work: list
 
 
@@ -36,7 +37,7 @@ def tests(survey, areas):
     yield 11, refusals.some_not_finite(survey.judged())
     yield 12, survey.variogram.without_range()
     yield 17, len(areas.work) < 2 * s * s
-    lengths = [(areas.figures, m), (areas.variances, m), (areas.verdicts, m), (areas.weights, n * m), (areas.coefficients, p)]
+    lengths = [(areas.figures, m), (areas.variances, m), (areas.verdicts, m), (areas.weights, n * m), (areas.multipliers, p), (areas.trend, p)]
     yield 18, refusals.too_short(lengths)
 
 
@@ -95,9 +96,15 @@ def weighted(weights, values):
     return running_sum(w * v for w, v in zip(weights, values, strict=True))
 
 
-def coefficients_of(z, p):
+def multipliers_of(z, p):
     """"the last p entries of the last node's z"."""
     return z[len(z) - p:]
+
+
+def trend_of(matrix_inverse, values, p):
+    """"for column j, the sum from 0 over the wells, in order, of inverse entry (n + j, i) times value i, j and i counted from 1"."""
+    n = len(values)
+    return [running_sum(matrix_inverse[n + j - 1][i - 1] * values[i - 1] for i in range(1, n + 1)) for j in range(1, p + 1)]
 
 
 def put(area, start, numbers):
@@ -113,7 +120,7 @@ def answer_node(survey, q, columns, matrix_inverse, areas):
     areas.variances[q] = clamped(running_sum(x * y for x, y in zip(z, b, strict=True)))
     areas.verdicts[q] = verdict(weights, columns, node_drift(survey, q), survey.values, figure, survey.t)
     put(areas.weights, q * survey.n, weights)
-    put(areas.coefficients, 0, coefficients_of(z, survey.p))
+    put(areas.multipliers, 0, multipliers_of(z, survey.p))
 
 
 def fit(survey, areas):
@@ -126,8 +133,9 @@ def fit(survey, areas):
     put(areas.work, 0, [x for row in rows for x in row])
     if stopped is not None:
         return 19
-    put(areas.coefficients, 0, [0.0] * survey.p)
+    put(areas.multipliers, 0, [0.0] * survey.p)
     columns, matrix_inverse = drift(survey), inverse(rows)
+    put(areas.trend, 0, trend_of(matrix_inverse, survey.values, survey.p))
     for q in range(survey.m):
         answer_node(survey, q, columns, matrix_inverse, areas)
     return 0

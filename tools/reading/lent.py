@@ -12,9 +12,9 @@ def untouched(area_after, length):
 
 
 def fit_lengths(survey):
-    """Figures, variances, verdicts, weights, coefficients, work."""
+    """Figures, variances, verdicts, weights, multipliers, trend, work."""
     n, m, p, s = survey.n, survey.m, survey.p, survey.s
-    return [m, m, m, n * m, p, 2 * s * s]
+    return [m, m, m, n * m, p, p, 2 * s * s]
 
 
 def query_lengths(query):

@@ -1,4 +1,4 @@
-"""Paper 01, "Program `wellmap` reads one from standard input": what it prints."""
+"""Paper 01, "Program `wellmap` reads one from standard input", and the lines that paper 02 adds: what it prints."""
 from tools.patterns import bits, word
 from tools.reading.fit import Areas, fit
 from tools.reading.refusals import MOST_COLUMNS, MOST_NODES, MOST_WELLS
@@ -9,8 +9,9 @@ SIZE = MOST_WELLS + MOST_COLUMNS
 
 def own_areas():
     """Areas that serve every survey that is not refused before."""
-    nodes = [0.0] * MOST_NODES
-    return Areas([*nodes], [*nodes], [0] * MOST_NODES, [0.0] * (MOST_WELLS * MOST_NODES), [0.0] * MOST_COLUMNS, [0.0] * (2 * SIZE * SIZE))
+    nodes, columns = [0.0] * MOST_NODES, [0.0] * MOST_COLUMNS
+    weights, work = [0.0] * (MOST_WELLS * MOST_NODES), [0.0] * (2 * SIZE * SIZE)
+    return Areas([*nodes], [*nodes], [0] * MOST_NODES, weights, [*columns], [*columns], work)
 
 
 def shown(x):
@@ -18,8 +19,14 @@ def shown(x):
     return word(bits(x))
 
 
+def column_lines(name, numbers):
+    """A line a column."""
+    return [f"{name} {shown(x)}" for x in numbers]
+
+
 def lines(data):
-    """"node count; node number from 1, figure bits, variance bits, verdict; one coef line a column"; "A refusal prints only `refused N`"."""
+    """"node count; node number from 1, figure bits, variance bits, verdict; one coef line a column"; "`trend` lines after the coef lines";
+    "A refusal prints only `refused N`"."""
     if malformed(data):
         return ["refused 16"]
     survey, areas = parsed(data), own_areas()
@@ -27,7 +34,8 @@ def lines(data):
     if number:
         return [f"refused {number}"]
     nodes = [f"{q + 1} {shown(areas.figures[q])} {shown(areas.variances[q])} {areas.verdicts[q]}" for q in range(survey.m)]
-    return [f"nodes {survey.m}", *nodes, *(f"coef {shown(x)}" for x in areas.coefficients[:survey.p])]
+    p = survey.p
+    return [f"nodes {survey.m}", *nodes, *column_lines("coef", areas.multipliers[:p]), *column_lines("trend", areas.trend[:p])]
 
 
 def printed(data):

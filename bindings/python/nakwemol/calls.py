@@ -17,7 +17,7 @@ LISTS = [*NUMBERS, *NUMBERS, *BYTES, *NUMBERS, *NUMBERS, *NUMBERS]
 VARIOGRAM = [c_uint8, c_double, c_double, c_double]
 
 PARAMETERS = {
-    "nakwemol_fit": [*LISTS, *VARIOGRAM, c_double, c_double, *NUMBERS, *NUMBERS, *NUMBERS, *BYTES, *NUMBERS, *NUMBERS],
+    "nakwemol_fit": [*LISTS, *VARIOGRAM, c_double, c_double, *NUMBERS, *NUMBERS, *NUMBERS, *BYTES, *NUMBERS, *NUMBERS, *NUMBERS],
     "nakwemol_interpolate": [*NUMBERS, *NUMBERS, *NUMBERS, c_size_t, c_uint8, *VARIOGRAM, *NUMBERS, *NUMBERS, *NUMBERS],
     "nakwemol_semivariogram": [*NUMBERS, *NUMBERS, c_size_t, c_size_t, *NUMBERS, *NUMBERS, *COUNTS, POINTER(c_size_t)],
     "nakwemol_read": [*BYTES, *LISTS, POINTER(c_size_t * 3), POINTER(c_double * 5), POINTER(c_uint8)],

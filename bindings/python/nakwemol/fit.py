@@ -34,12 +34,17 @@ class UniversalKrigingOptions(NamedTuple):
 
 
 class UniversalKrigingResult(NamedTuple):
-    """For n wells, m nodes and p columns: m figures, m variances, the p coefficients of the last node, n·m weights, node after node, and m verdicts: 0
-    where the node passed its audit, 1 to p + 1 the first row missed, 255 where something is not finite."""
+    """For n wells, m nodes and p columns: m figures, m variances, the p multipliers, the p numbers of the trend, n·m weights, node after node, and m
+    verdicts: 0 where the node passed its audit, 1 to p + 1 the first row missed, 255 where something is not finite.
+
+    The multipliers are the Lagrange multipliers of the last node, zeros where there is none. The original calls them its drift coefficients, but they
+    are no slopes: those are in `trend`, the estimate of the trend's coefficients, in the order of the columns. Those of x and y are slopes, in units of
+    value over coordinate. It does not depend on the nodes, and is there without any."""
 
     predicted: list
     variance: list
-    drift_coefficients: list
+    multipliers: list
+    trend: list
     weights: list
     verdicts: list
 
@@ -68,7 +73,7 @@ def universal_kriging_fit(coords, values, options, query_points, query_external_
     k = codes.count(EXTERNAL_CODE)
     node_external = flat(query_external_drift, k, "query_external_drift") if k and query_external_drift is not None else []
     n, p, m = min(len(values), WELLS), min(sum(COLUMNS_OF.get(code, 0) for code in codes), COLUMNS), min(len(nodes) // 2, NODES)
-    work, predicted, variance, weights, coefficients = map(calls.area, (2 * (n + p) ** 2, m, m, n * m, p))
+    work, predicted, variance, weights, multipliers, trend = map(calls.area, (2 * (n + p) ** 2, m, m, n * m, p, p))
     verdicts = calls.codes([0] * m)
     unless_0(calls.call(
         "nakwemol_fit",
@@ -83,6 +88,7 @@ def universal_kriging_fit(coords, values, options, query_points, query_external_
         variance,
         verdicts,
         weights,
-        coefficients,
+        multipliers,
+        trend,
     ))
-    return UniversalKrigingResult(*map(list, (predicted, variance, coefficients, weights, verdicts)))
+    return UniversalKrigingResult(*map(list, (predicted, variance, multipliers, trend, weights, verdicts)))

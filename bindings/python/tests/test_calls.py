@@ -15,6 +15,7 @@ from nakwemol import (
     UniversalKrigingOptions,
     Variogram,
     VariogramModel,
+    calls,
     read_survey,
     universal_kriging_fit,
     write_survey,
@@ -52,13 +53,42 @@ class Calls(unittest.TestCase):
 
     def test_fit_between_two_wells(self):
         fit = universal_kriging_fit(COORDS, VALUES, CONSTANT, NODE, tolerance=0.0)
-        self.assertEqual(fit, ([4.0], [1.5], [0.5], [0.5, 0.5], [0]))
+        self.assertEqual(fit, ([4.0], [1.5], [0.5], [4.0], [0.5, 0.5], [0]))
+
+    def test_trend_of_one_well_and_without_a_node(self):
+        one = universal_kriging_fit(COORDS[:1], [5], CONSTANT, NODE, tolerance=0.0)
+        self.assertEqual((one.multipliers, one.trend), ([1.0], [5.0]))
+        without = universal_kriging_fit(COORDS, VALUES, CONSTANT, [], tolerance=0.0)
+        self.assertEqual((without.multipliers, without.trend), ([0.0], [4.0]))
+
+    def test_trend_of_a_plain(self):
+        """Three wells on the plain 2 + 3 x - y, and the node at the first of them: the multipliers are zeros there, and the trend is the plain."""
+        linear = CONSTANT._replace(drift_bases=[DriftBasis.LINEAR])
+        fit = universal_kriging_fit([[0, 0], [1, 0], [0, 1]], [2, 5, 1], linear, [[0, 0]], tolerance=1e-9)
+        for found, wanted in ((fit.multipliers, [0, 0, 0]), (fit.trend, [2, 3, -1])):
+            self.assertEqual(len(found), 3)
+            for x, y in zip(found, wanted):
+                self.assertAlmostEqual(x, y, places=14)
+
+    def test_area_of_the_trend(self):
+        """The exported call, which is lent its areas: one that is too short for the trend is 18, and leaves it; past the columns it is untouched."""
+        lists = *map(calls.numbers, ([2, 6], [0, 0, 2, 0])), calls.codes([1]), *map(calls.numbers, ([], [1, 0], []))
+
+        def fit(model, lent):
+            work, predicted, variance, weights, multipliers, trend = (calls.numbers([-1.0] * length) for length in (18, 2, 2, 2, 2, lent))
+            areas = work, predicted, variance, calls.codes([99] * 2), weights, multipliers, trend
+            number = calls.call("nakwemol_fit", *lists, model, 0.0, 1.0, 1.0, 0.0, 0.0, *areas)
+            return number, predicted[0], list(multipliers), list(trend)
+
+        self.assertEqual(fit(1, 2), (0, 4.0, [0.5, -1.0], [4.0, -1.0]))
+        self.assertEqual(fit(1, 0), (18, -1.0, [-1.0] * 2, []))
+        self.assertEqual(fit(5, 2), (100, -1.0, [-1.0] * 2, [-1.0] * 2))
 
     def test_models_by_the_exponential(self):
         """The weights are halves by symmetry, so the variance is 2 g(1) - g(2) / 2, with g the variogram. A range of 0 is refused of Exponential alone."""
         for model, far in ((VariogramModel.EXPONENTIAL, math.exp(-2)), (VariogramModel.GAUSSIAN, math.exp(-4))):
             variogram = Variogram(model, 0.0, 1.0, 1.0)
-            (figure,), (variance,), _, _, _ = universal_kriging_fit(COORDS, VALUES, CONSTANT._replace(variogram=variogram), NODE, tolerance=1e-9)
+            (figure,), (variance,), *_ = universal_kriging_fit(COORDS, VALUES, CONSTANT._replace(variogram=variogram), NODE, tolerance=1e-9)
             self.assertAlmostEqual(figure, 4.0, places=14)
             self.assertAlmostEqual(variance, 2 * (1 - math.exp(-1)) - (1 - far) / 2, places=14)
             interpolated = KrigingInterpolator(KrigingType.ORDINARY, variogram).interpolate(COORDS, VALUES, NODE)

@@ -25,16 +25,16 @@ class Record(NamedTuple):
 
 def next_record(words):
     *lengths, codes = words.take(6)
-    model, options, lent = words.word(), words.numbers(5), words.take(6)
+    model, options, lent = words.word(), words.numbers(5), words.take(7)
     lists = [words.numbers(length) for length in lengths]
-    codes, number, written, told = words.take(codes), words.word(), words.take(6), words.word()
+    codes, number, written, told = words.take(codes), words.word(), words.take(7), words.word()
     areas = [words.take(length) for length in (told, *written[1:])]
     return Record(*lists, codes, model, options, lent, number, written, areas)
 
 
 def exported_agrees(r):
     """The exported call: its number, what it writes, and what it does not."""
-    work, predicted, variance, verdicts, weights, coefficients = (calls.numbers(marked(length)) for length in r.lent)
+    work, predicted, variance, verdicts, weights, multipliers, trend = (calls.numbers(marked(length)) for length in r.lent)
     verdicts = calls.codes([MARK_BYTE] * r.lent[3])
     number = calls.call(
         "nakwemol_fit",
@@ -48,9 +48,10 @@ def exported_agrees(r):
         variance,
         verdicts,
         weights,
-        coefficients,
+        multipliers,
+        trend,
     )
-    areas = zip((work, predicted, variance, weights, coefficients), (0, 1, 2, 4, 5))
+    areas = zip((work, predicted, variance, weights, multipliers, trend), (0, 1, 2, 4, 5, 6))
     judged = r.told[3] + [MARK_BYTE] * (r.lent[3] - r.written[3])
     return number == r.number and list(verdicts) == judged and all(holds(area, r.told[at], r.written[at]) for area, at in areas)
 
@@ -72,7 +73,7 @@ def safe_agrees(r, drift_bases):
         fit = universal_kriging_fit(r.coords, r.values, options, r.nodes, r.node_external, tolerance=tolerance)
     except Refused as refused:
         return refused.number == r.number
-    areas = [patterns(fit.predicted), patterns(fit.variance), fit.verdicts, patterns(fit.weights), patterns(fit.drift_coefficients)]
+    areas = [patterns(fit.predicted), patterns(fit.variance), fit.verdicts, patterns(fit.weights), patterns(fit.multipliers), patterns(fit.trend)]
     return r.number == 0 and areas == r.told[1:]
 
 

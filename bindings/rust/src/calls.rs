@@ -18,7 +18,8 @@ mod exported {
             variance: *mut f64, variance_count: usize,
             verdicts: *mut u8, verdicts_count: usize,
             weights: *mut f64, weights_count: usize,
-            coefficients: *mut f64, coefficients_count: usize,
+            multipliers: *mut f64, multipliers_count: usize,
+            trend: *mut f64, trend_count: usize,
         ) -> u8;
 
         pub fn nakwemol_interpolate(
@@ -86,7 +87,8 @@ pub fn fit(
     variance: &mut [f64],
     verdicts: &mut [u8],
     weights: &mut [f64],
-    coefficients: &mut [f64],
+    multipliers: &mut [f64],
+    trend: &mut [f64],
 ) -> u8 {
     #[rustfmt::skip]
     let number = unsafe {
@@ -103,7 +105,8 @@ pub fn fit(
             variance.as_mut_ptr(), variance.len(),
             verdicts.as_mut_ptr(), verdicts.len(),
             weights.as_mut_ptr(), weights.len(),
-            coefficients.as_mut_ptr(), coefficients.len(),
+            multipliers.as_mut_ptr(), multipliers.len(),
+            trend.as_mut_ptr(), trend.len(),
         )
     };
     number

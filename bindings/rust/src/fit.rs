@@ -56,8 +56,12 @@ pub struct UniversalKrigingResult {
     pub predicted: Vec<f64>,
     /// Its kriging variance, m, 0 or above.
     pub variance: Vec<f64>,
-    /// The trend's coefficients of the last node, p; zeros where there is no node.
-    pub drift_coefficients: Vec<f64>,
+    /// The Lagrange multipliers of the last node, p; zeros where there is no node. The original calls them its drift coefficients, but
+    /// they are no slopes: those are in `trend`.
+    pub multipliers: Vec<f64>,
+    /// The estimate of the trend's coefficients, p, in the order of the columns: those of x and y are slopes, in units of value over coordinate.
+    /// It does not depend on the nodes, and is there without any.
+    pub trend: Vec<f64>,
     /// The weight of each well at each node, n·m, node after node.
     pub weights: Vec<f64>,
     /// The audit's verdict on each node, m: 0 passed, 1 to p + 1 the first row missed, 255 where something is not finite.
@@ -93,7 +97,8 @@ pub fn universal_kriging_fit(
     let mut answer = UniversalKrigingResult {
         predicted: vec![0.0; m],
         variance: vec![0.0; m],
-        drift_coefficients: vec![0.0; p],
+        multipliers: vec![0.0; p],
+        trend: vec![0.0; p],
         weights: vec![0.0; n * m],
         verdicts: vec![0; m],
     };
@@ -116,7 +121,8 @@ pub fn universal_kriging_fit(
         &mut answer.variance,
         &mut answer.verdicts,
         &mut answer.weights,
-        &mut answer.drift_coefficients,
+        &mut answer.multipliers,
+        &mut answer.trend,
     ))?;
     Ok(answer)
 }

@@ -22,9 +22,50 @@ fn fit_between_two_wells() {
     let fit = universal_kriging_fit(&COORDS, &VALUES, &options(vec![DriftBasis::Constant]), &NODE, None, 0.0).unwrap();
     assert_eq!(fit.predicted, [4.0]);
     assert_eq!(fit.variance, [1.5]);
-    assert_eq!(fit.drift_coefficients, [0.5]);
+    assert_eq!(fit.multipliers, [0.5]);
+    assert_eq!(fit.trend, [4.0]);
     assert_eq!(fit.weights, [0.5, 0.5]);
     assert_eq!(fit.verdicts, [0]);
+}
+
+#[test]
+fn trend_of_one_well_and_without_a_node() {
+    let constant = options(vec![DriftBasis::Constant]);
+    let one = universal_kriging_fit(&COORDS[..2], &[5.0], &constant, &NODE, None, 0.0).unwrap();
+    assert_eq!((one.multipliers, one.trend), (vec![1.0], vec![5.0]));
+    let without = universal_kriging_fit(&COORDS, &VALUES, &constant, &[], None, 0.0).unwrap();
+    assert_eq!((without.multipliers, without.trend), (vec![0.0], vec![4.0]));
+}
+
+/// Three wells on the plain 2 + 3 x - y, and the node at the first of them: the multipliers are zeros there, and the trend is the plain.
+#[test]
+fn trend_of_a_plain() {
+    let wells = [0.0, 0.0, 1.0, 0.0, 0.0, 1.0];
+    let fit = universal_kriging_fit(&wells, &[2.0, 5.0, 1.0], &options(vec![DriftBasis::Linear]), &wells[..2], None, 1e-9).unwrap();
+    let near = |xs: &[f64], wanted: [f64; 3]| xs.len() == 3 && xs.iter().zip(wanted).all(|(x, y)| (x - y).abs() < 1e-14);
+    assert!(near(&fit.multipliers, [0.0; 3]), "{:?}", fit.multipliers);
+    assert!(near(&fit.trend, [2.0, 3.0, -1.0]), "{:?}", fit.trend);
+}
+
+/// The exported call, which is lent its areas: an area that is too short for the trend is 18, and leaves it; past the columns it is untouched.
+#[test]
+fn area_of_the_trend() {
+    let fit = |model: u8, trend: &mut [f64]| {
+        let [mut predicted, mut variance, mut multipliers] = [[-1.0; 2]; 3];
+        let (mut work, mut verdicts, mut weights) = ([-1.0; 18], [99; 2], [-1.0; 2]);
+        #[rustfmt::skip]
+        let number = calls::fit(
+            &VALUES, &COORDS, &[1], &[], &NODE, &[], model, 0.0, 1.0, 1.0, 0.0, 0.0,
+            &mut work, &mut predicted, &mut variance, &mut verdicts, &mut weights, &mut multipliers, trend,
+        );
+        (number, predicted[0], multipliers)
+    };
+    let mut trend = [-1.0; 2];
+    assert_eq!(fit(1, &mut trend[..0]), (18, -1.0, [-1.0; 2]));
+    assert_eq!(fit(5, &mut trend), (100, -1.0, [-1.0; 2]));
+    assert_eq!(trend, [-1.0; 2]);
+    assert_eq!(fit(1, &mut trend), (0, 4.0, [0.5, -1.0]));
+    assert_eq!(trend, [4.0, -1.0]);
 }
 
 /// The weights are halves by symmetry, so the variance is 2 g(1) - g(2) / 2, with g the variogram. A range of 0 is refused of Exponential alone.

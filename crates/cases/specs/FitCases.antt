@@ -1,5 +1,6 @@
--- Fits whose answers were worked out outside these definitions: tools/reading/cases.py has another reading of the paper in Python's floats and whole numbers, which
--- prints them, and holds figures, variances and coefficients to the original Rust, run. It also tries wrong readings, each of which changes a number here. Assumes nothing.
+-- Fits whose answers were worked out outside these definitions: tools/reading/cases.py has another reading of the paper in Python's floats and whole
+-- numbers, which prints them, and holds figures, variances and multipliers to the original Rust, run. It also tries wrong readings, each of which changes
+-- a number here. Assumes nothing.
 use Prim.Native.Nat.{ℕ, _*_}
 use mathlib.Core.Path.{_≡_}
 use mathlib.Core.List.{List, [], _∷_, map}
@@ -29,36 +30,41 @@ areasOf s = record {
   variance = replicate (nodeCount s) nan;
   verdicts = replicate (nodeCount s) 7;
   weights = replicate (wells s * nodeCount s) nan;
-  coefficients = replicate (columns s) nan;
+  multipliers = replicate (columns s) nan;
+  trend = replicate (columns s) nan;
 }
 
 abbrev pub answerOf : Survey → Outcome Areas
 answerOf s = fitted base s (areasOf s)
 
--- what is looked at: the number, figures, variances, verdicts, weights and coefficients
-abbrev pub answer : ℕ → List Float → List Float → List ℕ → List Float → List Float → Outcome Areas
-answer number figures variances verdicts weights coefficients = outcome number (record {
+-- what is looked at: the number, figures, variances, verdicts, weights, multipliers and the trend
+abbrev pub answer : ℕ → List Float → List Float → List ℕ → List Float → List Float → List Float → Outcome Areas
+answer number figures variances verdicts weights multipliers trend = outcome number (record {
   work = [];
   predicted = figures;
   variance = variances;
   verdicts = verdicts;
   weights = weights;
-  coefficients = coefficients;
+  multipliers = multipliers;
+  trend = trend;
 })
 
 abbrev pub seen : Outcome Areas → Outcome Areas
-seen o = answer (o .number) (o .areas .predicted) (o .areas .variance) (o .areas .verdicts) (o .areas .weights) (o .areas .coefficients)
+seen o =
+    let a = o .areas in
+    answer (o .number) (a .predicted) (a .variance) (a .verdicts) (a .weights) (a .multipliers) (a .trend)
 
 -- a survey is accepted, and has this answer
-abbrev pub Answers : Survey → List ℕ → List ℕ → List ℕ → List ℕ → List ℕ → Type 0
-Answers s figures variances verdicts weights coefficients =
-    seen (answerOf s) ≡ answer 0 (fs figures) (fs variances) verdicts (fs weights) (fs coefficients)
+abbrev pub Answers : Survey → List ℕ → List ℕ → List ℕ → List ℕ → List ℕ → List ℕ → Type 0
+Answers s figures variances verdicts weights multipliers trend =
+    seen (answerOf s) ≡ answer 0 (fs figures) (fs variances) verdicts (fs weights) (fs multipliers) (fs trend)
 
 -- ---- three wells, at (1, 2), (4, 6), (4, 2), values 2, 5, 3.5; Spherical 0.25, 1.25, 8, r = 0.125, t = 2^-53
 abbrev pub threeWells : List ℕ → List ℕ → List ℕ → List ℕ → Survey
 threeWells bases external nodes nodeExternal = record {
   values = fs (0x4000_0000_0000_0000 ∷ 0x4014_0000_0000_0000 ∷ 0x400c_0000_0000_0000 ∷ []);
-  coords = fs (0x3ff0_0000_0000_0000 ∷ 0x4000_0000_0000_0000 ∷ 0x4010_0000_0000_0000 ∷ 0x4018_0000_0000_0000 ∷ 0x4010_0000_0000_0000 ∷ 0x4000_0000_0000_0000 ∷ []);
+  coords =
+      fs (0x3ff0_0000_0000_0000 ∷ 0x4000_0000_0000_0000 ∷ 0x4010_0000_0000_0000 ∷ 0x4018_0000_0000_0000 ∷ 0x4010_0000_0000_0000 ∷ 0x4000_0000_0000_0000 ∷ []);
   bases = bases;
   external = fs external;
   nodes = fs nodes;
@@ -111,11 +117,12 @@ TwoExternals =
     (0 ∷ 2 ∷ [])
     (0xbfd8_c230_72c1_d7b2 ∷ 0x3fc3_0b87_babc_7e8c ∷ 0x3fe3_5537_c0ad_c958 ∷ 0xbfe2_43c8_071e_2b82 ∷ 0xbfc5_2191_3020_5a93 ∷ 0x3fec_4d53_6460_bcf2 ∷ [])
     (0x3fd9_de48_a26a_9b20 ∷ 0x3fd0_f88f_a6b4_0c9d ∷ [])
+    (0xbfbc_4ebd_1f1f_c490 ∷ 0x3ffb_a053_3217_39b8 ∷ [])
 
--- "zeros if m = 0"
+-- "zeros if m = 0"; the trend "doesn't depend on the nodes, so m = 0 fills it too"
 abbrev pub NoNode : Type 0
 NoNode =
-    Answers noNode [] [] [] [] (0 ∷ 0 ∷ [])
+    Answers noNode [] [] [] [] (0 ∷ 0 ∷ []) (0xbfbc_4ebd_1f1f_c490 ∷ 0x3ffb_a053_3217_39b8 ∷ [])
 
 -- 1, x, y
 abbrev pub LinearDrift : Type 0
@@ -126,34 +133,35 @@ LinearDrift =
     (1 ∷ [])
     (0x3fe8_0000_0000_0006 ∷ 0x3fd8_0000_0000_0000 ∷ 0xbfc0_0000_0000_0000 ∷ [])
     (0x3fc0_c7d1_015f_1844 ∷ 0xbfbe_1781_d024_1668 ∷ 0x3fb3_5ccd_c398_0744 ∷ [])
+    (0x3fe7_ffff_ffff_fffd ∷ 0x3fe0_0000_0000_0002 ∷ 0x3fd8_0000_0000_0000 ∷ [])
 
 -- row 1: 3 times the f64 nearest 1/3 is 1 - 2^-54, so t = 2^-55 meets it exactly and the f64 below misses it
 abbrev pub Row1Missed : Type 0
 Row1Missed =
     Answers (oneExternal 0x3ff0_0000_0000_0000 0x4008_0000_0000_0000 0x3ff0_0000_0000_0000 0x3c7f_ffff_ffff_ffff)
-    (0x3fd5_5555_5555_5555 ∷ []) (0x3fe5_5555_5555_5555 ∷ []) (1 ∷ []) (0x3fd5_5555_5555_5555 ∷ []) (0x3fd5_5555_5555_5555 ∷ [])
+    (0x3fd5_5555_5555_5555 ∷ []) (0x3fe5_5555_5555_5555 ∷ []) (1 ∷ []) (0x3fd5_5555_5555_5555 ∷ []) (0x3fd5_5555_5555_5555 ∷ []) (0x3fd5_5555_5555_5555 ∷ [])
 
 abbrev pub Row1Met : Type 0
 Row1Met =
     Answers (oneExternal 0x3ff0_0000_0000_0000 0x4008_0000_0000_0000 0x3ff0_0000_0000_0000 0x3c80_0000_0000_0000)
-    (0x3fd5_5555_5555_5555 ∷ []) (0x3fe5_5555_5555_5555 ∷ []) (0 ∷ []) (0x3fd5_5555_5555_5555 ∷ []) (0x3fd5_5555_5555_5555 ∷ [])
+    (0x3fd5_5555_5555_5555 ∷ []) (0x3fe5_5555_5555_5555 ∷ []) (0 ∷ []) (0x3fd5_5555_5555_5555 ∷ []) (0x3fd5_5555_5555_5555 ∷ []) (0x3fd5_5555_5555_5555 ∷ [])
 
 -- row p + 1: the figure is the square of 1 + 2^-52, rounded
 abbrev pub FigureMissed : Type 0
 FigureMissed =
     Answers (oneExternal 0x3ff0_0000_0000_0001 0x3ff0_0000_0000_0000 0x3ff0_0000_0000_0001 0)
-    (0x3ff0_0000_0000_0002 ∷ []) (0x4000_0000_0000_0001 ∷ []) (2 ∷ []) (0x3ff0_0000_0000_0001 ∷ []) (0x3ff0_0000_0000_0000 ∷ [])
+    (0x3ff0_0000_0000_0002 ∷ []) (0x4000_0000_0000_0001 ∷ []) (2 ∷ []) (0x3ff0_0000_0000_0001 ∷ []) (0x3ff0_0000_0000_0000 ∷ []) (0x3ff0_0000_0000_0001 ∷ [])
 
 -- 255 by a weight, 2^1023 / 2^-52, and by the figure alone, 4 times 2^1023
 abbrev pub WeightInfinite : Type 0
 WeightInfinite =
     Answers (oneExternal 0x3ff0_0000_0000_0000 0x3cb0_0000_0000_0000 0x7fe0_0000_0000_0000 0)
-    (0x7ff0_0000_0000_0000 ∷ []) (0x7ff0_0000_0000_0000 ∷ []) (255 ∷ []) (0x7ff0_0000_0000_0000 ∷ []) (0x4330_0000_0000_0000 ∷ [])
+    (0x7ff0_0000_0000_0000 ∷ []) (0x7ff0_0000_0000_0000 ∷ []) (255 ∷ []) (0x7ff0_0000_0000_0000 ∷ []) (0x4330_0000_0000_0000 ∷ []) (0x4330_0000_0000_0000 ∷ [])
 
 abbrev pub FigureInfinite : Type 0
 FigureInfinite =
     Answers (oneExternal 0x7fe0_0000_0000_0000 0x3ff0_0000_0000_0000 0x4010_0000_0000_0000 0)
-    (0x7ff0_0000_0000_0000 ∷ []) (0x4020_0000_0000_0000 ∷ []) (255 ∷ []) (0x4010_0000_0000_0000 ∷ []) (0x3ff0_0000_0000_0000 ∷ [])
+    (0x7ff0_0000_0000_0000 ∷ []) (0x4020_0000_0000_0000 ∷ []) (255 ∷ []) (0x4010_0000_0000_0000 ∷ []) (0x3ff0_0000_0000_0000 ∷ []) (0x7fe0_0000_0000_0000 ∷ [])
 
 pub record FitCases : Type 0 where
   pub two-externals : TwoExternals

@@ -30,10 +30,10 @@ oneWell model range = record {
   tolerance = zeroFloat;
 }
 
--- the figure is 5 and it passes; the coefficient is the variogram at 2, and the variance is twice that
+-- the figure and the trend are 5, and it passes; the multiplier is the variogram at 2, and the variance is twice that
 abbrev pub Answers5 : Survey → ℕ → ℕ → Type 0
-Answers5 s variance coefficient =
-    Answers s (0x4014_0000_0000_0000 ∷ []) (variance ∷ []) (0 ∷ []) (0x3ff0_0000_0000_0000 ∷ []) (coefficient ∷ [])
+Answers5 s variance multiplier =
+    Answers s (0x4014_0000_0000_0000 ∷ []) (variance ∷ []) (0 ∷ []) (0x3ff0_0000_0000_0000 ∷ []) (multiplier ∷ []) (0x4014_0000_0000_0000 ∷ [])
 
 -- a fit is refused by 12, and nothing is written
 abbrev pub RefusedBy12 : Survey → Type 0

@@ -34,7 +34,8 @@ answer-told s a =
     (either (below (length (a .predicted)) (nodeCount s))
     (either (below (length (a .variance)) (nodeCount s))
     (either (below (length (a .verdicts)) (nodeCount s))
-    (either (below (length (a .weights)) (wells s * nodeCount s)) (below (length (a .coefficients)) (columns s))))))
+    (either (below (length (a .weights)) (wells s * nodeCount s))
+    (either (below (length (a .multipliers)) (columns s)) (below (length (a .trend)) (columns s)))))))
     no-more
 
 at-least : {m n : ℕ} → ¬ (n < m) → m ≤ n
@@ -70,7 +71,8 @@ module _ (limits : Limits) (s : Survey) (a : Areas) where
         variance = kept-same _ _;
         verdicts = kept-same _ _;
         weights = kept-same _ _;
-        coefficients = kept-same _ _;
+        multipliers = kept-same _ _;
+        trend = kept-same _ _;
       })
       (λ i h. record {
         work = kept-work (fitCall limits s a) i h;
@@ -78,7 +80,8 @@ module _ (limits : Limits) (s : Survey) (a : Areas) where
         variance = kept-same _ _;
         verdicts = kept-same _ _;
         weights = kept-same _ _;
-        coefficients = kept-same _ _;
+        multipliers = kept-same _ _;
+        trend = kept-same _ _;
       })
       (record {
         work = kept-work (fitCall limits s a) (size s) (omega arith);
@@ -86,7 +89,8 @@ module _ (limits : Limits) (s : Survey) (a : Areas) where
         variance = kept-start (nodeCount s) _ (a .variance);
         verdicts = kept-start (nodeCount s) _ (a .verdicts);
         weights = kept-start (wells s * nodeCount s) _ (a .weights);
-        coefficients = kept-start (columns s) _ (a .coefficients);
+        multipliers = kept-start (columns s) _ (a .multipliers);
+        trend = kept-start (columns s) _ (a .trend);
       })
 
 -- "n > 48, p > 12 or m > 100", in the base
@@ -132,5 +136,8 @@ module _ (limits : Limits) (s : Survey) (a : Areas) (accepted : fitted limits s 
   pub weights-long : wells s * nodeCount s ≤ length (a .weights)
   weights-long = at-least (λ l. none 18 (inr (inr (inr (inl l)))))
 
-  pub coefficients-long : columns s ≤ length (a .coefficients)
-  coefficients-long = at-least (λ l. none 18 (inr (inr (inr (inr l)))))
+  pub multipliers-long : columns s ≤ length (a .multipliers)
+  multipliers-long = at-least (λ l. none 18 (inr (inr (inr (inr (inl l))))))
+
+  pub trend-long : columns s ≤ length (a .trend)
+  trend-long = at-least (λ l. none 18 (inr (inr (inr (inr (inr l))))))

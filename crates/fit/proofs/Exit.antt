@@ -1,4 +1,5 @@
--- An accepted fit's areas place by place: the finished elimination, and at node q its figure, variance, verdict and weights; and the coefficients. Assumes nothing.
+-- An accepted fit's areas place by place: the finished elimination, and at node q its figure, variance, verdict and weights; the multipliers and the trend.
+-- Assumes nothing.
 use Prim.Native.Nat.{ℕ, _+_, _*_, _<_}
 use native.Mathlib.Omega.{arith}
 use mathlib.Core.Path.{_≡_, ap, ap₂, _∙_}
@@ -11,8 +12,9 @@ use Rattle.survey.specs.declared.Limits.{Limits}
 use Rattle.survey.specs.Survey.{Survey, wells, nodeCount, columns}
 use Rattle.fit.specs.Areas.{Areas}
 use Rattle.fit.specs.Node.{nodeOf}
-use Rattle.fit.specs.Fit.{coefficient, answered, worked, fitted}
-use Rattle.fit.proofs.Endings.{fit-ends, predicted-long, variance-long, verdicts-long, weights-long, coefficients-long}
+use Rattle.fit.specs.Slopes.{trendOf}
+use Rattle.fit.specs.Fit.{multiplier, answered, worked, fitted}
+use Rattle.fit.proofs.Endings.{fit-ends, predicted-long, variance-long, verdicts-long, weights-long, multipliers-long, trend-long}
 
 inside : (n m q i : ℕ) → q < m → i < n → q * n + i < n * m
 inside n m q i h b = let e = row-end n q m h in omega arith
@@ -47,6 +49,10 @@ module _ (limits : Limits) (s : Survey) (a : Areas) (accepted : fitted limits s 
       ∙ from-start (wells s * nodeCount s) _ (a .weights) (q * wells s + i) d (weights-long limits s a accepted) (inside (wells s) (nodeCount s) q i h b)
       ∙ ap₂ (λ (k j : ℕ). getD (nodeOf s (worked s a) k .z) j nan) (digits-div q b) (digits-mod q b)
 
-  pub coefficient-at : (j : ℕ) (d : Float) → j < columns s → getD (fitted limits s a .areas .coefficients) j d ≡ coefficient s (nodeOf s (worked s a)) j
+  pub multiplier-at : (j : ℕ) (d : Float) → j < columns s → getD (fitted limits s a .areas .multipliers) j d ≡ multiplier s (nodeOf s (worked s a)) j
   unfolding answered
-  coefficient-at j d h = at-exit (λ e. getD (e .coefficients) j d) ∙ from-start (columns s) _ (a .coefficients) j d (coefficients-long limits s a accepted) h
+  multiplier-at j d h = at-exit (λ e. getD (e .multipliers) j d) ∙ from-start (columns s) _ (a .multipliers) j d (multipliers-long limits s a accepted) h
+
+  pub trend-at : (j : ℕ) (d : Float) → j < columns s → getD (fitted limits s a .areas .trend) j d ≡ trendOf s (worked s a) j
+  unfolding answered
+  trend-at j d h = at-exit (λ e. getD (e .trend) j d) ∙ from-start (columns s) _ (a .trend) j d (trend-long limits s a accepted) h

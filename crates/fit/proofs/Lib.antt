@@ -5,6 +5,8 @@ pub mod SystemDrift
 pub mod System
 pub mod SystemNode
 pub mod SystemDiagonal
+pub mod LeastSquares
 pub mod Nodes
 pub mod NodesAlone
 pub mod Values
+pub mod ValuesAlone

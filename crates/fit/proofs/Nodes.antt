@@ -46,7 +46,7 @@ withNodes t nodes nodeExternal = record {
 }
 
 -- a survey that has t's wells is t with its own nodes
-renamed : {s t : Survey} → SameWells s t → s ≡ withNodes t (s .nodes) (s .nodeExternal)
+pub renamed : {s t : Survey} → SameWells s t → s ≡ withNodes t (s .nodes) (s .nodeExternal)
 renamed {s} {t} h = λ i. record {
   values = h .values i;
   coords = h .coords i;

@@ -1,27 +1,32 @@
--- Node by node, at exit: two accepted fits of surveys that differ at most in their nodes, in whatever areas, have the same figure, variance, verdict and weights wherever two nodes are alike. Assumes nothing.
-use Prim.Native.Nat.{ℕ, _*_, _<_, _≤_}
+-- Node by node, at exit: two accepted fits of surveys that differ at most in their nodes, in whatever areas, have the same figure, variance, verdict and
+-- weights wherever two nodes are alike; and the same trend, whatever their nodes. Assumes nothing.
+use Prim.Native.Nat.{ℕ, _+_, _*_, _<_, _≤_}
 use native.Mathlib.Omega.{arith}
 use mathlib.Core.Path.{_≡_, refl, ap, ap₂, sym, _∙_, subst}
 use mathlib.Core.Bool.{true}
 use mathlib.Core.List.{List}
 use lib.ListN.{length, getD}
-use lib.Ieee.{Float, nan}
+use lib.Ieee.{Float, nan, binary64, mul}
 use Rattle.area.proofs.Tables.{same-table}
+use Rattle.area.proofs.Rows.{row-end}
+use Rattle.ieee.proofs.Sums.{same-sum}
 use Rattle.elimination.specs.Elimination.{stepped, Agree}
+use Rattle.elimination.specs.Inverse.{inverseAt}
 use Rattle.elimination.proofs.Agree.{agree-stepped, agree-laid, same-inverse}
 use Rattle.survey.specs.declared.Limits.{Limits}
-use Rattle.survey.specs.Survey.{Survey, nodeCount, size}
+use Rattle.survey.specs.Survey.{Survey, wells, nodeCount, columns, size, valueAt}
 use Rattle.fit.specs.Areas.{Areas}
 use Rattle.fit.specs.Assembly.{entry, assembled}
 use Rattle.fit.specs.Node.{rightHand, zOf, Node, solutionOf, nodeWith, nodeOf}
+use Rattle.fit.specs.Slopes.{trendOf}
 use Rattle.fit.specs.Fit.{worked, fitted}
-use Rattle.fit.specs.Alike.{SameWells, SameNode, SameAnswer}
+use Rattle.fit.specs.Alike.{SameWells, SameNode, SameAnswer, SameTrend}
 use Rattle.fit.proofs.Endings.{work-long}
-use Rattle.fit.proofs.Nodes.{node-alone, size-same, assembled-same}
-use Rattle.fit.proofs.Exit.{figure-at, variance-at, verdict-at, weight-at}
+use Rattle.fit.proofs.Nodes.{renamed, node-alone, size-same, assembled-same}
+use Rattle.fit.proofs.Exit.{figure-at, variance-at, verdict-at, weight-at, trend-at}
 
 -- a node reads the right half of the matrix alone
-z-agree : (s : ℕ) (xs ys b : List Float) → Agree (s * (2 * s)) xs ys → zOf s xs b ≡ zOf s ys b
+pub z-agree : (s : ℕ) (xs ys b : List Float) → Agree (s * (2 * s)) xs ys → zOf s xs b ≡ zOf s ys b
 unfolding zOf
 z-agree s xs ys b h = same-table s _ _ (λ i l. same-inverse s xs ys (λ j. getD b j nan) i l h)
 
@@ -29,7 +34,9 @@ node-agree : (s : Survey) (xs ys : List Float) (q : ℕ) → Agree (size s * (2 
 unfolding nodeOf nodeWith solutionOf
 node-agree s xs ys q h = rw (z-agree (size s) xs ys (rightHand s q) h)
 
-module _ (limits limits′ : Limits) (s t : Survey) (same : SameWells s t) (a b : Areas) (accepted : fitted limits s a .number ≡ 0) (accepted′ : fitted limits′ t b .number ≡ 0) where
+module _
+    (limits limits′ : Limits) (s t : Survey) (same : SameWells s t) (a b : Areas)
+    (accepted : fitted limits s a .number ≡ 0) (accepted′ : fitted limits′ t b .number ≡ 0) where
   -- what the work area held before, and what lies past the matrix, does not count
   worked-agree : Agree (size s * (2 * size s)) (worked s a) (worked t b)
   worked-agree =
@@ -49,7 +56,8 @@ module _ (limits limits′ : Limits) (s t : Survey) (same : SameWells s t) (a b 
   answer-alone q r hq hr h =
       record {
         figure = figure-at limits s a accepted q nan hq ∙ ap (λ (n : Node). n .figure) (nodes-agree q r h) ∙ sym (figure-at limits′ t b accepted′ r nan hr);
-        variance = variance-at limits s a accepted q nan hq ∙ ap (λ (n : Node). n .variance) (nodes-agree q r h) ∙ sym (variance-at limits′ t b accepted′ r nan hr);
+        variance =
+            variance-at limits s a accepted q nan hq ∙ ap (λ (n : Node). n .variance) (nodes-agree q r h) ∙ sym (variance-at limits′ t b accepted′ r nan hr);
         verdict = verdict-at limits s a accepted q 0 hq ∙ ap (λ (n : Node). n .verdict) (nodes-agree q r h) ∙ sym (verdict-at limits′ t b accepted′ r 0 hr);
         weight = λ i hi.
             weight-at limits s a accepted q i nan hq hi
@@ -57,8 +65,22 @@ module _ (limits limits′ : Limits) (s t : Survey) (same : SameWells s t) (a b 
             ∙ sym (weight-at limits′ t b accepted′ r i nan hr (subst (λ (xs : List Float). i < length xs) (same .values) hi));
       }
 
+  inverse-agree : (i j : ℕ) → i < size s → j < size s → inverseAt (size s) (worked s a) i j ≡ inverseAt (size s) (worked t b) i j
+  inverse-agree i j hi hj = worked-agree .same (i * (2 * size s) + (size s + j)) (let e = row-end (2 * size s) i (size s) hi in omega arith)
+
+  -- THE TREND DOES NOT READ THE NODES: whatever they are, and if there are none
+  pub trend-alone : SameTrend s (fitted limits s a .areas) (fitted limits′ t b .areas)
+  unfolding trendOf
+  trend-alone j h =
+      let n : columns s ≡ columns t = ap columns (renamed same) in
+      trend-at limits s a accepted j nan h
+      ∙ same-sum (wells s) _ _ (λ i l. ap (λ (x : Float). mul binary64 x (valueAt s i)) (inverse-agree (wells s + j) i (omega arith) (omega arith)))
+      ∙ ap (λ (u : Survey). trendOf u (worked t b) j) (renamed same)
+      ∙ sym (trend-at limits′ t b accepted′ j nan (rw n at h))
+
 -- and so have two nodes of one fit that are alike
 pub answer-again : (limits : Limits) (s : Survey) (a : Areas) → fitted limits s a .number ≡ 0 → (q r : ℕ) → q < nodeCount s → r < nodeCount s → SameNode s s q r
     → SameAnswer s s q r (fitted limits s a .areas) (fitted limits s a .areas)
 answer-again limits s a accepted q r hq hr h =
-    answer-alone limits limits s s (record { values = refl; coords = refl; bases = refl; external = refl; options = refl; tolerance = refl }) a a accepted accepted q r hq hr h
+    let itself : SameWells s s = record { values = refl; coords = refl; bases = refl; external = refl; options = refl; tolerance = refl } in
+    answer-alone limits limits s s itself a a accepted accepted q r hq hr h

@@ -1,5 +1,6 @@
 -- What a node gets, in the terms of the kriging system: z is the inverse times the system's right-hand side, the figure is Σ λ_i value_i, the variance
--- Σ_i λ_i γ(x_i, x_0) + Σ_l μ_l f_l(x_0), clamped, and the coefficients are the μ of the last node. Read off the areas of every accepted fit. Assumes nothing.
+-- Σ_i λ_i γ(x_i, x_0) + Σ_l μ_l f_l(x_0), clamped, and the multipliers are the μ of the last node; and the trend, from the same inverse. Read off the areas
+-- of every accepted fit. Assumes nothing.
 use Prim.Native.Nat.{ℕ, _+_, _-_}
 use native.Mathlib.Omega.{arith}
 use mathlib.Core.Path.{_≡_, ap, _∙_}
@@ -17,10 +18,11 @@ use Rattle.survey.specs.declared.Limits.{Limits}
 use Rattle.survey.specs.Survey.{Survey, wells, nodeCount, columns, size, valueAt}
 use Rattle.fit.specs.Areas.{Areas}
 use Rattle.fit.specs.Node.{zOf, figureOf, varianceOf, rightHand, solutionOf, nodeWith, nodeOf}
-use Rattle.fit.specs.Fit.{coefficient, worked, fitted}
+use Rattle.fit.specs.Slopes.{trendOf}
+use Rattle.fit.specs.Fit.{multiplier, worked, fitted}
 use Rattle.fit.specs.System.{Place, nodePlace, Index, Well, Drift, Within, rightOf, varianceSum, rowOf, unknownOf, Kriged}
 use Rattle.fit.proofs.System.{row-below, right-is, variance-is}
-use Rattle.fit.proofs.Exit.{work-at, figure-at, variance-at, weight-at, coefficient-at}
+use Rattle.fit.proofs.Exit.{work-at, figure-at, variance-at, weight-at, multiplier-at, trend-at}
 
 module _ (s : Survey) (work : List Float) (q : ℕ) where
   -- "z = inverse times b, summed from 0 by rising column", b the right-hand side of the system
@@ -40,7 +42,8 @@ module _ (s : Survey) (work : List Float) (q : ℕ) where
   same-variance : (node : Place) (f g : Index → Float) → ((u : Index) → Within s u → f u ≡ g u) → varianceSum s node f ≡ varianceSum s node g
   unfolding varianceSum
   same-variance node f g h =
-      ap (λ (x : Float). addEach x (columns s) (λ l. mul binary64 (f (Drift l)) (rightOf s node (Drift l)))) (same-sum (wells s) _ _ (λ i b. ap (λ (x : Float). mul binary64 x (rightOf s node (Well i))) (h (Well i) b)))
+      ap (λ (x : Float). addEach x (columns s) (λ l. mul binary64 (f (Drift l)) (rightOf s node (Drift l))))
+      (same-sum (wells s) _ _ (λ i b. ap (λ (x : Float). mul binary64 x (rightOf s node (Well i))) (h (Well i) b)))
       ∙ same-added _ (columns s) _ _ (λ l b. ap (λ (x : Float). mul binary64 x (rightOf s node (Drift l))) (h (Drift l) b))
 
   -- "Variance: Σ z·b over all s entries", clamped
@@ -53,18 +56,20 @@ module _ (s : Survey) (work : List Float) (q : ℕ) where
 
 -- THE SYSTEM, in every accepted fit: what the areas hold at exit is its answer, node by node
 pub kriged : (limits : Limits) (s : Survey) (a : Areas) → fitted limits s a .number ≡ 0 → Kriged s (fitted limits s a .areas)
+unfolding trendOf
 kriged limits s a e =
     let w : fitted limits s a .areas .work ≡ worked s a = work-at limits s a e in
     record {
       weight = λ q i l m. rw w (weight-at limits s a e q i nan l m ∙ unknown-is s (worked s a) q (Well i) m);
       figure = λ q l. rw w (figure-at limits s a e q nan l ∙ figure-is s (worked s a) q);
       variance = λ q l. rw w (variance-at limits s a e q nan l ∙ node-variance s (worked s a) q);
-      coefficient = λ j l m.
+      multiplier = λ j l m.
           rw w
-          (coefficient-at limits s a e j nan m
+          (multiplier-at limits s a e j nan m
           ∙ ap (λ (b : Bool). cond b zeroFloat (getD (nodeOf s (worked s a) (nodeCount s - 1) .z) (wells s + j) nan)) (ne-eqb (nodeCount s) 0 (omega arith))
           ∙ unknown-is s (worked s a) (nodeCount s - 1) (Drift j) m);
+      trend = λ j m. rw w (trend-at limits s a e j nan m);
       no-nodes = λ j z m.
-          coefficient-at limits s a e j nan m
+          multiplier-at limits s a e j nan m
           ∙ ap (λ (b : Bool). cond b zeroFloat (getD (nodeOf s (worked s a) (nodeCount s - 1) .z) (wells s + j) nan)) (eq-eqb (nodeCount s) 0 z);
     }

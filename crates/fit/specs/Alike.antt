@@ -3,7 +3,7 @@ use Prim.Native.Nat.{ℕ, _+_, _*_, _<_}
 use mathlib.Core.Path.{_≡_}
 use lib.ListN.{getD}
 use lib.Ieee.{nan}
-use Rattle.survey.specs.Survey.{Survey, wells, externals, nodeX, nodeY, nodeExternalAt}
+use Rattle.survey.specs.Survey.{Survey, wells, columns, externals, nodeX, nodeY, nodeExternalAt}
 use Rattle.fit.specs.Areas.{Areas}
 
 -- the same in everything but the lists of nodes
@@ -27,6 +27,14 @@ pub record SameAnswer (s t : Survey) (q r : ℕ) (a b : Areas) : Type 0 where
   pub variance : getD (a .variance) q nan ≡ getD (b .variance) r nan
   pub verdict : getD (a .verdicts) q 0 ≡ getD (b .verdicts) r 0
   pub weight : (i : ℕ) → i < wells s → getD (a .weights) (q * wells s + i) nan ≡ getD (b .weights) (r * wells t + i) nan
+
+-- the trends of s are the same: "It doesn't depend on the nodes"
+abbrev pub SameTrend : Survey → Areas → Areas → Type 0
+SameTrend s a b = (j : ℕ) → j < columns s → getD (a .trend) j nan ≡ getD (b .trend) j nan
+
+-- the multipliers of s are the same
+abbrev pub SameMultipliers : Survey → Areas → Areas → Type 0
+SameMultipliers s a b = (j : ℕ) → j < columns s → getD (a .multipliers) j nan ≡ getD (b .multipliers) j nan
 
 -- the same in everything but the values, of which there are as many
 pub record SameButValues (s t : Survey) : Type 0 where

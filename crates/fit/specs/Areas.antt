@@ -3,24 +3,26 @@ use Prim.Native.Nat.{ℕ}
 use mathlib.Core.List.{List}
 use lib.Ieee.{Float}
 
--- the work area, and those of the answer: figures, variances, verdicts, weights node after node, coefficients
+-- the work area, and those of the answer: figures, variances, verdicts, weights node after node, multipliers, and the trend
 pub record Areas : Type 0 where
   pub work : List Float
   pub predicted : List Float
   pub variance : List Float
   pub verdicts : List ℕ
   pub weights : List Float
-  pub coefficients : List Float
+  pub multipliers : List Float
+  pub trend : List Float
 
 -- these areas
-abbrev pub areasOf : List Float → List Float → List Float → List ℕ → List Float → List Float → Areas
-areasOf work predicted variance verdicts weights coefficients = record {
+abbrev pub areasOf : List Float → List Float → List Float → List ℕ → List Float → List Float → List Float → Areas
+areasOf work predicted variance verdicts weights multipliers trend = record {
   work = work;
   predicted = predicted;
   variance = variance;
   verdicts = verdicts;
   weights = weights;
-  coefficients = coefficients;
+  multipliers = multipliers;
+  trend = trend;
 }
 
 -- the same areas with another work area
@@ -31,5 +33,18 @@ withWork a work = record {
   variance = a .variance;
   verdicts = a .verdicts;
   weights = a .weights;
-  coefficients = a .coefficients;
+  multipliers = a .multipliers;
+  trend = a .trend;
+}
+
+-- the same areas with another trend
+abbrev pub withTrend : Areas → List Float → Areas
+withTrend a trend = record {
+  work = a .work;
+  predicted = a .predicted;
+  variance = a .variance;
+  verdicts = a .verdicts;
+  weights = a .weights;
+  multipliers = a .multipliers;
+  trend = trend;
 }

@@ -2,10 +2,12 @@ pub mod Areas
 pub mod Drift
 pub mod Assembly
 pub mod Node
+pub mod Slopes
 pub mod Rules
 pub mod Refusals
 pub mod Fit
 pub mod Trend
 pub mod System
+pub mod LeastSquares
 pub mod Untouched
 pub mod Alike

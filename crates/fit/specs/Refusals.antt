@@ -11,13 +11,15 @@ use Rattle.survey.specs.Survey.{Survey, wells, nodeCount, columns, size}
 use Rattle.survey.specs.Refusals.{surveyTests}
 use Rattle.fit.specs.Areas.{Areas}
 
--- 18: "an answer area too short: m figures and variances; in a fit also m verdicts, n·m weights (node after node), p coefficients"
+-- 18: "an answer area too short: m figures and variances; in a fit also m verdicts, n·m weights (node after node), p coefficients", now called multipliers;
+-- and the trend: "An area shorter than p is refused by 18."
 abbrev pub shortAnswer : Survey → Areas → Bool
 shortAnswer s a =
     ltb (length (a .predicted)) (nodeCount s)
     || (ltb (length (a .variance)) (nodeCount s)
     || (ltb (length (a .verdicts)) (nodeCount s)
-    || (ltb (length (a .weights)) (wells s * nodeCount s) || ltb (length (a .coefficients)) (columns s))))
+    || (ltb (length (a .weights)) (wells s * nodeCount s)
+    || (ltb (length (a .multipliers)) (columns s) || ltb (length (a .trend)) (columns s)))))
 
 abbrev pub answerTests : Survey → Areas → List Test
 answerTests s a = test 18 (shortAnswer s a) ∷ []

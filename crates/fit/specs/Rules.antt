@@ -11,14 +11,16 @@ use Rattle.survey.specs.Survey.{Survey, wells, nodeCount, columns, size}
 use Rattle.survey.specs.Rules.{surveyRules}
 use Rattle.fit.specs.Areas.{Areas}
 
--- 18: "an answer area too short: m figures and variances; in a fit also m verdicts, n·m weights (node after node), p coefficients"
+-- 18: "an answer area too short: m figures and variances; in a fit also m verdicts, n·m weights (node after node), p coefficients", now called multipliers;
+-- and the trend: "An area shorter than p is refused by 18."
 abbrev pub ShortAnswer : Survey → Areas → Type 0
 ShortAnswer s a =
     (length (a .predicted) < nodeCount s)
     ⊎ (length (a .variance) < nodeCount s)
     ⊎ (length (a .verdicts) < nodeCount s)
     ⊎ (length (a .weights) < wells s * nodeCount s)
-    ⊎ (length (a .coefficients) < columns s)
+    ⊎ (length (a .multipliers) < columns s)
+    ⊎ (length (a .trend) < columns s)
 
 abbrev pub answerRules : Survey → Areas → List Rule
 answerRules s a = rule 18 (ShortAnswer s a) ∷ []

@@ -1,4 +1,5 @@
--- The universal kriging equations in terms of the variogram, block by block: Chilès and Delfiner, Geostatistics, chapter 3, kriging with an unknown mean. With wells x_i, a node x_0 and drift functions f_l,
+-- The universal kriging equations in terms of the variogram, block by block: Chilès and Delfiner, Geostatistics, chapter 3, kriging with an unknown mean.
+-- With wells x_i, a node x_0 and drift functions f_l,
 --     Σ_j γ(x_i, x_j) λ_j + Σ_l μ_l f_l(x_i) = γ(x_i, x_0) for each well i,
 --     Σ_j λ_j f_l(x_j) = f_l(x_0) for each l,
 --     and the variance is Σ_i λ_i γ(x_i, x_0) + Σ_l μ_l f_l(x_0).
@@ -132,7 +133,11 @@ pub record Kriged (s : Survey) (e : Areas) : Type 0 where
       → getD (e .predicted) q nan ≡ runningSum (wells s) (λ i. mul binary64 (unknownOf s (e .work) q (Well i)) (valueAt s i))
   -- "minus zero, anything below zero and NaN become +0"
   pub variance : (q : ℕ) → q < nodeCount s → getD (e .variance) q nan ≡ notBelowZero (varianceSum s (nodePlace s q) (unknownOf s (e .work) q))
-  -- the coefficients are the μ of the last node
-  pub coefficient : (j : ℕ) → 0 < nodeCount s → j < columns s → getD (e .coefficients) j nan ≡ unknownOf s (e .work) (nodeCount s - 1) (Drift j)
+  -- "In Chilès and Delfiner those p numbers are Lagrange multipliers": the μ of the last node
+  pub multiplier : (j : ℕ) → 0 < nodeCount s → j < columns s → getD (e .multipliers) j nan ≡ unknownOf s (e .work) (nodeCount s - 1) (Drift j)
+  -- the trend: row n + j of the same inverse that gives every λ and μ, times the values; nodes or none
+  pub trend : (j : ℕ) → j < columns s
+      → getD (e .trend) j nan
+      ≡ runningSum (wells s) (λ i. mul binary64 (inverseAt (size s) (e .work) (rowOf s (Drift j)) (rowOf s (Well i))) (valueAt s i))
   -- "zeros if m = 0"
-  pub no-nodes : (j : ℕ) → nodeCount s ≡ 0 → j < columns s → getD (e .coefficients) j nan ≡ zeroFloat
+  pub no-nodes : (j : ℕ) → nodeCount s ≡ 0 → j < columns s → getD (e .multipliers) j nan ≡ zeroFloat

@@ -10,4 +10,5 @@ pub record Untouched (s : Survey) (a b : Areas) : Type 0 where
   pub variance : Kept (nodeCount s) (a .variance) (b .variance)
   pub verdicts : Kept (nodeCount s) (a .verdicts) (b .verdicts)
   pub weights : Kept (wells s * nodeCount s) (a .weights) (b .weights)
-  pub coefficients : Kept (columns s) (a .coefficients) (b .coefficients)
+  pub multipliers : Kept (columns s) (a .multipliers) (b .multipliers)
+  pub trend : Kept (columns s) (a .trend) (b .trend)

@@ -9,7 +9,7 @@ use borrow.Author.Tests.{le-ltb}
 use lib.Dec.{eqb, ltb}
 use lib.ListN.{length, getD}
 use lib.Ieee.{Float, nan}
-use Rattle.area.specs.Area.{filled}
+use Rattle.area.specs.Area.{written, filled}
 use Rattle.area.proofs.Filled as Filled
 use Rattle.ieee.specs.Floats.{zeroFloat, oneFloat}
 use Rattle.error.specs.declared.Refusal.{Refusal}
@@ -20,11 +20,14 @@ use Rattle.elimination.specs.Elimination.{outcomeOf, eliminated}
 use Rattle.elimination.specs.Inverse.{besideIdentity, laid}
 use Rattle.elimination.specs.Call.{afterElimination}
 use Rattle.elimination.proofs.Call as Call
+use Rattle.solution.specs.Slopes.{slope, estimated}
+use Rattle.solution.proofs.Room.{estimated-is}
 use Rattle.survey.specs.Limits.{base}
 use Rattle.survey.specs.Survey.{Survey, wells, columns, size}
 use Rattle.fit.specs.Areas.{Areas}
 use Rattle.fit.specs.Drift.{DriftIn, drift}
 use Rattle.fit.specs.Assembly.{between, joined, entry, assembled}
+use Rattle.fit.specs.Slopes.{trendOf}
 use Rattle.fit.specs.Refusals.{refusal}
 use Rattle.fit.specs.Fit.{fitCall, fitted}
 use Rattle.kriging.proofs.MatrixEntries.{upper-left, upper-right, lower-left, lower-right}
@@ -55,6 +58,16 @@ module _ (s : Survey) where
               | no b ↦ sym (lower-right n gamma f i j (omega arith) (omega arith)) ∙ lower-right n gamma (drift s) i j (omega arith) (omega arith)
             ]
       ]
+
+  -- the trend from a finished elimination is the paper's
+  pub trend-is : (work trend : List Float) (p : ℕ) → p ≡ columns s → 2 * size s * size s ≤ length work → columns s ≤ length trend
+      → estimated (wells s + p) work (s .values) trend ≡ written 0 (columns s) (trendOf s work) trend
+  unfolding trendOf slope
+  trend-is work trend p e hw ht =
+      let w : size s - wells s ≡ columns s = omega arith in
+      ap (λ (k : ℕ). estimated (wells s + k) work (s .values) trend) e
+      ∙ estimated-is (size s) work (s .values) trend hw (omega arith)
+      ∙ ap (λ (k : ℕ). written 0 k (trendOf s work) trend) w
 
   pub matrix-laid : (F work : List Float) → DriftIn s F
       → laid (size s) (joined (wells s) (between (s .options) (s .coords)) (λ i j. getD F (i * columns s + j) nan)) work ≡ assembled s work

@@ -19,13 +19,13 @@ use Rattle.ieee.specs.Floats.{zeroFloat}
 use Rattle.survey.specs.Survey.{Survey, wells, nodeCount, columns, size}
 use Rattle.fit.specs.Areas.{Areas, areasOf}
 use Rattle.fit.specs.Node.{Node, nodeOf}
-use Rattle.fit.specs.Fit.{coefficient, answered}
+use Rattle.fit.specs.Fit.{multiplier, nodesAnswered}
 
 -- a row of so many of a list's numbers lies inside
 pub row-inside : (w q m len : ℕ) → q < m → w * m ≤ len → q * w + w ≤ len
 row-inside w q m len h k = omega (arith, row-end w q m h, mul-comm w m)
 
--- coefficient j after q nodes: the last one's, and 0 where there is none
+-- multiplier j after q nodes: the last one's, and 0 where there is none
 abbrev lastOf : Survey → (ℕ → Node) → ℕ → ℕ → Float
 lastOf s node q j = cond (eqb q 0) zeroFloat (getD (node (q - 1) .z) (wells s + j) nan)
 
@@ -41,32 +41,35 @@ pub record Progress (s : Survey) (a : Areas) (node : ℕ → Node) (q : ℕ) (e 
   pub variance : e .variance ≡ written 0 q (λ r. node r .variance) (a .variance)
   pub verdicts : e .verdicts ≡ written 0 q (λ r. node r .verdict) (a .verdicts)
   pub weights : e .weights ≡ filled (wells s) q (λ r c. getD (node r .z) c nan) (a .weights)
-  pub coefficients : e .coefficients ≡ written 0 (columns s) (lastOf s node q) (a .coefficients)
+  pub multipliers : e .multipliers ≡ written 0 (columns s) (lastOf s node q) (a .multipliers)
+  pub trend : e .trend ≡ a .trend
 
 module _ (s : Survey) (a : Areas) (node : ℕ → Node) where
-  -- before the first node, where the coefficients are zeros
-  pub none-yet : {p : ℕ} → columns s ≡ p → (cs : List Float) → a .coefficients ≡ written 0 p (λ j. zeroFloat) cs → Progress s a node 0 a
+  -- before the first node, where the multipliers are zeros
+  pub none-yet : {p : ℕ} → columns s ≡ p → (cs : List Float) → a .multipliers ≡ written 0 p (λ j. zeroFloat) cs → Progress s a node 0 a
   none-yet {p} e cs h = record {
     predicted = refl;
     variance = refl;
     verdicts = refl;
     weights = refl;
-    coefficients =
+    multipliers =
         h
         ∙ sym (written-over 0 p (λ j. zeroFloat) (λ j. zeroFloat) cs)
         ∙ ap (λ (xs : List Float). written 0 p (λ j. zeroFloat) xs) (sym h)
-        ∙ ap (λ (k : ℕ). written 0 k (λ j. zeroFloat) (a .coefficients)) (sym e);
+        ∙ ap (λ (k : ℕ). written 0 k (λ j. zeroFloat) (a .multipliers)) (sym e);
+    trend = refl;
   }
 
-  -- one node more: its figure, variance and verdict stored, the first places of its z to the weights, the next ones to the coefficients
+  -- one node more: its figure, variance and verdict stored, the first places of its z to the weights, the next ones to the multipliers
   pub one-more : {p : ℕ} → columns s ≡ p → (q : ℕ) (e : Areas) (z ws cs : List Float) (figure variance : Float) (verdict : ℕ)
       → size s ≤ length z → take (size s) z ≡ node q .z → figure ≡ node q .figure → variance ≡ node q .variance → verdict ≡ node q .verdict
       → ws ≡ written (q * wells s) (length (take (wells s) z)) (λ j. getD (take (wells s) z) j nan) (e .weights)
       → cs
       ≡ written 0 (length (take (wells s + p - wells s) (drop (wells s) z))) (λ j. getD (take (wells s + p - wells s) (drop (wells s) z)) j nan)
-      (e .coefficients)
+      (e .multipliers)
       → Progress s a node q e
-      → Progress s a node (q + 1) (areasOf (e .work) (set (e .predicted) q figure) (set (e .variance) q variance) (set (e .verdicts) q verdict) ws cs)
+      → Progress s a node (q + 1)
+      (areasOf (e .work) (set (e .predicted) q figure) (set (e .variance) q variance) (set (e .verdicts) q verdict) ws cs (e .trend))
   one-more {p} ep q e z ws cs figure variance verdict long hz hf hv hd hw hc h =
       let n = wells s in
       let at : (i : ℕ) → i < size s → getD z i nan ≡ getD (node q .z) i nan =
@@ -76,26 +79,26 @@ module _ (s : Survey) (a : Areas) (node : ℕ → Node) where
       ∙ same-values (q * n) n _ _ (e .weights) (λ j l. getD-take n z j nan l ∙ at j (omega arith)) in
       let part = take (n + p - n) (drop n z) in
       let width : length part ≡ columns s = omega (arith, length-take-le (n + p - n) (drop n z) (omega (arith, length-drop n z))) in
-      let last : written 0 (length part) (λ j. getD part j nan) (e .coefficients) ≡ written 0 (columns s) (lastOf s node (q + 1)) (e .coefficients) =
-      ap (λ (k : ℕ). written 0 k (λ j. getD part j nan) (e .coefficients)) width
-      ∙ same-values 0 (columns s) (λ j. getD part j nan) (lastOf s node (q + 1)) (e .coefficients) (λ j l.
+      let last : written 0 (length part) (λ j. getD part j nan) (e .multipliers) ≡ written 0 (columns s) (lastOf s node (q + 1)) (e .multipliers) =
+      ap (λ (k : ℕ). written 0 k (λ j. getD part j nan) (e .multipliers)) width
+      ∙ same-values 0 (columns s) (λ j. getD part j nan) (lastOf s node (q + 1)) (e .multipliers) (λ j l.
       getD-take (n + p - n) (drop n z) j nan (omega arith) ∙ getD-drop n z j nan ∙ at (n + j) (omega arith) ∙ sym (later s node q j)) in
       record {
         predicted = next-start q _ _ (e .predicted) figure hf (h .predicted);
         variance = next-start q _ _ (e .variance) variance hv (h .variance);
         verdicts = next-start q _ _ (e .verdicts) verdict hd (h .verdicts);
         weights = next-row (wells s) q _ _ (e .weights) ws (h .weights) (hw ∙ first);
-        coefficients =
+        multipliers =
             hc
             ∙ last
-            ∙ ap (λ (xs : List Float). written 0 (columns s) (lastOf s node (q + 1)) xs) (h .coefficients)
-            ∙ written-over 0 (columns s) (lastOf s node q) (lastOf s node (q + 1)) (a .coefficients);
+            ∙ ap (λ (xs : List Float). written 0 (columns s) (lastOf s node (q + 1)) xs) (h .multipliers)
+            ∙ written-over 0 (columns s) (lastOf s node q) (lastOf s node (q + 1)) (a .multipliers);
+        trend = h .trend;
       }
 
-  -- and all of them: what was in the coefficients' places before the zeros does not count
-  pub all-nodes : {p : ℕ} → columns s ≡ p → (q : ℕ) (e : Areas) (cs : List Float) → q ≡ nodeCount s → a .coefficients ≡ written 0 p (λ j. zeroFloat) cs
-      → Progress s a node q e → e ≡ answered s (areasOf (a .work) (a .predicted) (a .variance) (a .verdicts) (a .weights) cs) (e .work) node
-  unfolding answered
+  -- and all of them: what was in the multipliers' places before the zeros does not count
+  pub all-nodes : {p : ℕ} → columns s ≡ p → (q : ℕ) (e : Areas) (cs : List Float) → q ≡ nodeCount s → a .multipliers ≡ written 0 p (λ j. zeroFloat) cs
+      → Progress s a node q e → e ≡ nodesAnswered s (areasOf (a .work) (a .predicted) (a .variance) (a .verdicts) (a .weights) cs (a .trend)) (e .work) node
   all-nodes {p} ep q e cs m z h i = record {
     work = e .work;
     predicted = (h .predicted ∙ ap (λ (k : ℕ). written 0 k (λ r. node r .figure) (a .predicted)) m) i;
@@ -106,10 +109,11 @@ module _ (s : Survey) (a : Areas) (node : ℕ → Node) where
         ∙ one-fill (wells s) q _ (a .weights)
         ∙ ap (λ (k : ℕ). written 0 k (λ t. getD (node (t / wells s) .z) (t % wells s) nan) (a .weights)) (mul-comm q (wells s) ∙ ap (λ (k : ℕ). wells s * k) m))
         i;
-    coefficients =
-        (h .coefficients
+    multipliers =
+        (h .multipliers
         ∙ ap (λ (xs : List Float). written 0 (columns s) (lastOf s node q) xs) (z ∙ ap (λ (k : ℕ). written 0 k (λ j. zeroFloat) cs) (sym ep))
         ∙ written-over 0 (columns s) (λ j. zeroFloat) (lastOf s node q) cs
         ∙ ap (λ (k : ℕ). written 0 (columns s) (lastOf s node k) cs) m)
         i;
+    trend = h .trend i;
   }

@@ -70,5 +70,8 @@ module _ (s : Survey) (a : Areas) (taken : refusal base s a ≡ 0) where
   pub weights-long : wells s * nodeCount s ≤ length (a .weights)
   weights-long = at-least (λ l. none 18 (inr (inr (inr (inl l)))))
 
-  pub coefficients-long : columns s ≤ length (a .coefficients)
-  coefficients-long = at-least (λ l. none 18 (inr (inr (inr (inr l)))))
+  pub multipliers-long : columns s ≤ length (a .multipliers)
+  multipliers-long = at-least (λ l. none 18 (inr (inr (inr (inr (inl l))))))
+
+  pub trend-long : columns s ≤ length (a .trend)
+  trend-long = at-least (λ l. none 18 (inr (inr (inr (inr (inr l))))))

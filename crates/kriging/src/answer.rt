@@ -1,4 +1,4 @@
-// The answer of an accepted fit: every node from the finished elimination, into the lent areas.
+// The nodes of an accepted fit: each from the finished elimination, into the lent areas.
 use crate::node::krige_node;
 use survey::UniversalKrigingOptions;
 ghost use mathlib.Core.Path.{_≡_};
@@ -13,7 +13,7 @@ ghost use Rattle.survey.specs.Survey.{surveyOf, columnSum, externalCount};
 ghost use Rattle.fit.specs.Areas.{areasOf};
 ghost use Rattle.fit.specs.Drift.{DriftIn};
 ghost use Rattle.fit.specs.Node.{nodeOf};
-ghost use Rattle.fit.specs.Fit.{answered};
+ghost use Rattle.fit.specs.Fit.{nodesAnswered};
 
 // Numbers, stored to an area from place `at` on.
 fn store(numbers: &[f64], area: &mut [f64], at: usize)
@@ -35,7 +35,8 @@ fn store_zeros(area: &mut [f64], count: usize)
     }
 }
 
-// Every node. The coefficients are the last node's: each node's are stored over those of the one before, and the first one's over zeros.
+// Every node; what the trend holds does not count. The multipliers are the last node's: each node's are stored over those of the one before, and the first
+// one's over zeros.
 pub(crate) fn krige_nodes(
     values: &[f64],
     coords: &[f64],
@@ -52,29 +53,30 @@ pub(crate) fn krige_nodes(
     variance: &mut [f64],
     verdicts: &mut [u8],
     weights: &mut [f64],
-    coefficients: &mut [f64],
+    multipliers: &mut [f64],
 )
     requires { ⌜ (2 * length (now values) ≤ length (now coords)) × (columnSum (now bases) ≡ p) × (length (now values) + p ≤ 60)
         × (externalCount (now bases) * (length (now nodes) / 2) ≤ length (now «node_external»))
         × (2 * (length (now values) + p) * (length (now values) + p) ≤ length (now work))
         × (length (now nodes) / 2 ≤ length (now predicted)) × (length (now nodes) / 2 ≤ length (now variance))
         × (length (now nodes) / 2 ≤ length (now verdicts)) × (length (now values) * (length (now nodes) / 2) ≤ length (now weights))
-        × (p ≤ length (now coefficients)) × (now table ≡ fractionTable) ⌝ }
-    ensures { λ _. ⌜ ((external : List Float)
+        × (p ≤ length (now multipliers)) × (now table ≡ fractionTable) ⌝ }
+    ensures { λ _. ⌜ ((external trend : List Float)
         → let s = surveyOf (now (values .entry)) (now (coords .entry)) (now (bases .entry)) external
         (now (nodes .entry)) (now («node_external» .entry)) options tolerance in
         DriftIn s (now (drift .entry))
-        → areasOf (now (work .entry)) (now (predicted .exit)) (now (variance .exit)) (now (verdicts .exit)) (now (weights .exit)) (now (coefficients .exit))
-        ≡ answered s
+        → areasOf (now (work .entry)) (now (predicted .exit)) (now (variance .exit)) (now (verdicts .exit)) (now (weights .exit))
+        (now (multipliers .exit)) trend
+        ≡ nodesAnswered s
         (areasOf (now (work .entry)) (now (predicted .entry)) (now (variance .entry)) (now (verdicts .entry))
-        (now (weights .entry)) (now (coefficients .entry)))
+        (now (weights .entry)) (now (multipliers .entry)) trend)
         (now (work .entry)) (nodeOf s (now (work .entry)))) ⌝ }
 {
     let n = values.len();
     let size = n + p;
     let k = survey_checks::counts::external_columns(bases);
     let finite_drift = audit::drift_finite(drift, n, p);
-    store_zeros(coefficients, p);
+    store_zeros(multipliers, p);
     for q in 0..nodes.len() / 2 {
         let node = krige_node(
             values,
@@ -97,6 +99,6 @@ pub(crate) fn krige_nodes(
         verdicts[q] = node.verdict as u8;
         let z = node.z;
         store(&z[..n], weights, q * n);
-        store(&z[n..size], coefficients, 0);
+        store(&z[n..size], multipliers, 0);
     }
 }

@@ -42,7 +42,7 @@ pub enum Fit {
 
 // Universal kriging with external drift: values and coordinates of n wells, basis codes, external values column after column, m nodes with theirs
 // node after node.
-// Lent are a work area, and areas for m figures, variances and verdicts, n·m weights node after node, and p coefficients.
+// Lent are a work area, and areas for m figures, variances and verdicts, n·m weights node after node, p multipliers, and p numbers of the trend.
 pub fn universal_kriging_fit(
     values: &[f64],
     coords: &[f64],
@@ -57,16 +57,17 @@ pub fn universal_kriging_fit(
     variance: &mut [f64],
     verdicts: &mut [u8],
     weights: &mut [f64],
-    drift_coefficients: &mut [f64],
+    multipliers: &mut [f64],
+    trend: &mut [f64],
 ) -> Fit
     ensures { λ r.
         -- the survey, the areas as they were lent, and how the call ended: its number and the areas at exit
         let s = surveyOf (now (values .entry)) (now (coords .entry)) (now («drift_bases» .entry)) (now («external_drift» .entry))
         (now («query_points» .entry)) (now («query_external_drift» .entry)) options tolerance in
         let a = areasOf (now (work .entry)) (now (predicted .entry)) (now (variance .entry)) (now (verdicts .entry))
-        (now (weights .entry)) (now («drift_coefficients» .entry)) in
+        (now (weights .entry)) (now (multipliers .entry)) (now (trend .entry)) in
         let e = outcomeOf r (areasOf (now (work .exit)) (now (predicted .exit)) (now (variance .exit)) (now (verdicts .exit))
-        (now (weights .exit)) (now («drift_coefficients» .exit))) in
+        (now (weights .exit)) (now (multipliers .exit)) (now (trend .exit))) in
         let matrix = assembled s (a .work) in
         -- the whole of it, refused calls too
         let equation : Type 0 = e ≡ fitted base s a in
@@ -79,11 +80,11 @@ pub fn universal_kriging_fit(
         let accepted : Type 0 = (e .number ≡ 0) ↔ (NoneApplies (rules base s a) × Through true (size s) (size s) matrix) in
         -- past the named lengths every area is as it was, however the call ends
         let kept : Type 0 = Untouched s a (e .areas) in
-        -- the areas of an accepted fit hold the unknowns of the kriging system: weights, figures, variances, coefficients
+        -- the areas of an accepted fit hold the unknowns of the kriging system: weights, figures, variances, multipliers; and the trend, from the same inverse
         let kriged : Type 0 = e .number ≡ 0 → Kriged s (e .areas) in
         -- demand 3: in an accepted fit each node has exactly the verdict of its own weights and figure, and one that passed keeps the trend bound
-        let trend : Type 0 = TrendKept s e in
-        ⌜ equation × ruled × stopped × accepted × kept × kriged × trend ⌝ }
+        let bounded : Type 0 = TrendKept s e in
+        ⌜ equation × ruled × stopped × accepted × kept × kriged × bounded ⌝ }
 {
     let judgement = fit_refusal(
         Limits::base(),
@@ -100,7 +101,8 @@ pub fn universal_kriging_fit(
         variance,
         verdicts,
         weights,
-        drift_coefficients,
+        multipliers,
+        trend,
     );
     if let Judgement::Refused(refusal) = judgement {
         return Fit::Refused(refusal);
@@ -119,7 +121,8 @@ pub fn universal_kriging_fit(
         variance,
         verdicts,
         weights,
-        drift_coefficients,
+        multipliers,
+        trend,
     )
 }
 
@@ -138,26 +141,29 @@ fn fit_taken(
     variance: &mut [f64],
     verdicts: &mut [u8],
     weights: &mut [f64],
-    coefficients: &mut [f64],
+    multipliers: &mut [f64],
+    trend: &mut [f64],
 ) -> Fit
     requires { ⌜ refusal base (surveyOf (now values) (now coords) (now bases) (now external) (now nodes) (now «node_external») options tolerance)
-        (areasOf (now work) (now predicted) (now variance) (now verdicts) (now weights) (now coefficients)) ≡ 0 ⌝ }
+        (areasOf (now work) (now predicted) (now variance) (now verdicts) (now weights) (now multipliers) (now trend)) ≡ 0 ⌝ }
     ensures { λ r. ⌜ outcomeOf r (areasOf (now (work .exit)) (now (predicted .exit)) (now (variance .exit)) (now (verdicts .exit))
-        (now (weights .exit)) (now (coefficients .exit)))
+        (now (weights .exit)) (now (multipliers .exit)) (now (trend .exit)))
         ≡ fitted base
         (surveyOf (now (values .entry)) (now (coords .entry)) (now (bases .entry)) (now (external .entry))
         (now (nodes .entry)) (now («node_external» .entry)) options tolerance)
         (areasOf (now (work .entry)) (now (predicted .entry)) (now (variance .entry)) (now (verdicts .entry))
-        (now (weights .entry)) (now (coefficients .entry))) ⌝ }
+        (now (weights .entry)) (now (multipliers .entry)) (now (trend .entry))) ⌝ }
 {
     let n = values.len();
     let p = survey_checks::counts::drift_columns(bases);
+    let size = n + p;
     let table = exponential::fraction_table(); // it is written out whole, so once, and lent
     let mut drift = [0.0; 576];
     fill_drift(bases, external, coords, n, p, &mut drift);
     assemble(coords, options, &table, &drift, n, p, work);
-    match elimination::gauss_jordan_invert_uked(work, n + p) {
+    match elimination::gauss_jordan_invert_uked(work, size) {
         Elimination::Done => {
+            solution::fill_trend(work, size, values, trend); // nodes or none
             krige_nodes(
                 values,
                 coords,
@@ -174,7 +180,7 @@ fn fit_taken(
                 variance,
                 verdicts,
                 weights,
-                coefficients,
+                multipliers,
             );
             Fit::Done
         }

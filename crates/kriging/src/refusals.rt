@@ -31,9 +31,10 @@ fn short_answer(
     variance: usize,
     verdicts: usize,
     weights: usize,
-    coefficients: usize,
+    multipliers: usize,
+    trend: usize,
 ) -> bool
-    ensures { λ r. ⌜ r ≡ (ltb predicted m || (ltb variance m || (ltb verdicts m || (ltb weights (n * m) || ltb coefficients p)))) ⌝ }
+    ensures { λ r. ⌜ r ≡ (ltb predicted m || (ltb variance m || (ltb verdicts m || (ltb weights (n * m) || (ltb multipliers p || ltb trend p))))) ⌝ }
 {
     if predicted < m {
         return true;
@@ -47,7 +48,10 @@ fn short_answer(
     if below_product(weights, n, m) {
         return true;
     }
-    coefficients < p
+    if multipliers < p {
+        return true;
+    }
+    trend < p
 }
 
 // 1 to 12, 17 and 18: the first that applies. Past 7 there are no more columns than wells, so that their count is p itself.
@@ -66,13 +70,14 @@ pub(crate) fn fit_refusal(
     variance: &[f64],
     verdicts: &[u8],
     weights: &[f64],
-    coefficients: &[f64],
+    multipliers: &[f64],
+    trend: &[f64],
 ) -> Judgement
     ensures { λ r. ⌜ judged r ≡ refusal limits
         (surveyOf (now (values .entry)) (now (coords .entry)) (now (bases .entry)) (now (external .entry))
         (now (nodes .entry)) (now («node_external» .entry)) options tolerance)
         (areasOf (now (work .entry)) (now (predicted .entry)) (now (variance .entry)) (now (verdicts .entry))
-        (now (weights .entry)) (now (coefficients .entry))) ⌝ }
+        (now (weights .entry)) (now (multipliers .entry)) (now (trend .entry))) ⌝ }
 {
     let survey = survey_checks::refusals::survey_refusal(
         limits,
@@ -102,7 +107,8 @@ pub(crate) fn fit_refusal(
         variance.len(),
         verdicts.len(),
         weights.len(),
-        coefficients.len(),
+        multipliers.len(),
+        trend.len(),
     ) {
         return Judgement::Refused(Refusal::AnswerArea);
     }

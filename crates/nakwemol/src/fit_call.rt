@@ -45,13 +45,14 @@ pub extern "C" fn nakwemol_fit(
     variance: &mut [f64],
     verdicts: &mut [u8],
     weights: &mut [f64],
-    coefficients: &mut [f64],
+    multipliers: &mut [f64],
+    trend: &mut [f64],
 ) -> u8
     ensures { λ r.
         let a = areasOf (now (work .entry)) (now (predicted .entry)) (now (variance .entry)) (now (verdicts .entry))
-        (now (weights .entry)) (now (coefficients .entry)) in
+        (now (weights .entry)) (now (multipliers .entry)) (now (trend .entry)) in
         ⌜ outcome r (areasOf (now (work .exit)) (now (predicted .exit)) (now (variance .exit)) (now (verdicts .exit))
-        (now (weights .exit)) (now (coefficients .exit)))
+        (now (weights .exit)) (now (multipliers .exit)) (now (trend .exit)))
         ≡ byModel (modelOf model) (outcome unknownCode a)
         (λ m. fitted base (surveyOf (now (values .entry)) (now (coords .entry)) (now (bases .entry)) (now (external .entry))
         (now (nodes .entry)) (now («node_external» .entry)) (optionsOf m nugget sill range regularization) tolerance) a) ⌝ }
@@ -78,7 +79,8 @@ pub extern "C" fn nakwemol_fit(
         variance,
         verdicts,
         weights,
-        coefficients,
+        multipliers,
+        trend,
     );
     fit_number(fit)
 }

@@ -36,18 +36,25 @@ pub rest-found : (text area : List ℕ) → length text ≤ length area → drop
 rest-found text area h = rw (with-room text area h) (drop-copied 0 text area h)
 
 -- ---- listings
-module _ (figures variances : List Float) (verdicts : List ℕ) (coefficients : List Float) (area : List ℕ) where
-  pub figures-uneven : (length figures ≡ length verdicts → ⊥) → outcomeOf Uneven area ≡ listed figures variances verdicts coefficients area
+module _ (figures variances : List Float) (verdicts : List ℕ) (multipliers trend : List Float) (area : List ℕ) where
+  pub figures-uneven : (length figures ≡ length verdicts → ⊥) → outcomeOf Uneven area ≡ listed figures variances verdicts multipliers trend area
   unfolding listed
   figures-uneven h = rw (ne-eqb (length figures) (length verdicts), listed)
 
   pub variances-uneven : (length variances ≡ length verdicts → ⊥) → length figures ≡ length verdicts
-      → outcomeOf Uneven area ≡ listed figures variances verdicts coefficients area
+      → outcomeOf Uneven area ≡ listed figures variances verdicts multipliers trend area
   unfolding listed
   variances-uneven h g = rw (eq-eqb (length figures) (length verdicts), ne-eqb (length variances) (length verdicts), listed)
 
-  -- of even lists it is the listing, printed
-  pub even-listed : length figures ≡ length verdicts → length variances ≡ length verdicts
-      → listed figures variances verdicts coefficients area ≡ printed (listing figures variances verdicts coefficients) area
-  unfolding listed
-  even-listed g h = rw (eq-eqb (length figures) (length verdicts), eq-eqb (length variances) (length verdicts), listed)
+  module _ (g : length figures ≡ length verdicts) (h : length variances ≡ length verdicts) where
+    pub trend-uneven : (length trend ≡ length multipliers → ⊥) → outcomeOf Uneven area ≡ listed figures variances verdicts multipliers trend area
+    unfolding listed
+    trend-uneven n =
+        rw (eq-eqb (length figures) (length verdicts), eq-eqb (length variances) (length verdicts), ne-eqb (length trend) (length multipliers), listed)
+
+    -- of even lists it is the listing, printed
+    pub even-listed : length trend ≡ length multipliers
+        → listed figures variances verdicts multipliers trend area ≡ printed (listing figures variances verdicts multipliers trend) area
+    unfolding listed
+    even-listed e =
+        rw (eq-eqb (length figures) (length verdicts), eq-eqb (length variances) (length verdicts), eq-eqb (length trend) (length multipliers), listed)

@@ -24,7 +24,7 @@ pub refusals-apart : (j k : ℕ) → refusedText j ≡ refusedText k → j ≡ k
 refusals-apart j k e = omega (arith, line-reads j, line-reads k, ap (λ (t : List ℕ). readAfter 10 0 (drop 8 t)) e)
 
 -- one begins with `n`, the other with `r`
-pub listing-apart : (figures variances : List Float) (verdicts : List ℕ) (coefficients : List Float) (k : ℕ)
-    → listing figures variances verdicts coefficients ≢ refusedText k
+pub listing-apart : (figures variances : List Float) (verdicts : List ℕ) (multipliers trend : List Float) (k : ℕ)
+    → listing figures variances verdicts multipliers trend ≢ refusedText k
 unfolding listing refusedText
-listing-apart figures variances verdicts coefficients k e = let f : _≡_ {A = ℕ} 110 114 = ap (λ (t : List ℕ). getD t 0 0) e in omega arith
+listing-apart figures variances verdicts multipliers trend k e = let f : _≡_ {A = ℕ} 110 114 = ap (λ (t : List ℕ). getD t 0 0) e in omega arith

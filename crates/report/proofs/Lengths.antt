@@ -1,14 +1,14 @@
 -- How long lines and listings are, and that no listing of an accepted fit is longer than the longest. Assumes nothing.
 use Prim.Native.Nat.{ℕ, zero, suc, _+_, _*_, _≤_}
-use native.Mathlib.Nat.{le-refl}
+use native.Mathlib.Nat.{le-refl, mul-zero}
 use native.Mathlib.Decide.{decLt}
 use native.Mathlib.Omega.{arith}
-use mathlib.Core.Path.{_≡_, refl}
+use mathlib.Core.Path.{_≡_, sym}
 use mathlib.Core.List.{List, _++_}
 use lib.ListN.{length, getD, length-append}
 use lib.Ieee.{Float, nan}
 use Rattle.report.specs.Numerals.{ascii, decimalText, bitsText}
-use Rattle.report.specs.Listing.{spaced, wordLine, countLine, nodeLine, coefLine, lines, nodeAt, coefAt, listing}
+use Rattle.report.specs.Listing.{spaced, wordLine, countLine, nodeLine, bitsLine, lines, nodeAt, coefAt, bitsAt, trendAt, listing}
 use Rattle.report.proofs.Numerals.{bits-length}
 
 pub word-line-length : (word : List ℕ) (n : ℕ) → length (wordLine word n) ≡ length word + length (decimalText n) + 2
@@ -31,8 +31,11 @@ node-line-length number figure variance verdict =
     let d = length-append k x in
     omega (arith, bits-length figure, bits-length variance)
 
-pub coef-line-length : (x : Float) → length (coefLine x) ≡ 22
-coef-line-length x = let a = length-append (ascii "coef" ++ spaced (bitsText x)) (ascii "\n") in omega (arith, bits-length x)
+pub bits-line-length : (word : List ℕ) (x : Float) → length (bitsLine word x) ≡ length word + 18
+bits-line-length word x =
+    let a = length-append (word ++ spaced (bitsText x)) (ascii "\n") in
+    let b = length-append word (spaced (bitsText x)) in
+    omega (arith, bits-length x)
 
 -- ---- lines
 pub lines-more : (k : ℕ) (line : ℕ → List ℕ) → length (lines (suc k) line) ≡ length (lines k line) + length (line k)
@@ -47,19 +50,25 @@ lines-before k (suc n) line h =
       | no m ↦ let b = lines-before k n line (omega arith) in omega (arith, lines-more n line)
     ]
 
-pub coef-lines-length : (p : ℕ) (coefficients : List Float) → length (lines p (coefAt coefficients)) ≡ 22 * p
-coef-lines-length zero coefficients = refl
-coef-lines-length (suc p) coefficients =
-    omega (arith, lines-more p (coefAt coefficients), coef-lines-length p coefficients, coef-line-length (getD coefficients p nan))
+pub bits-lines-length : (word : List ℕ) (p : ℕ) (numbers : List Float) → length (lines p (bitsAt word numbers)) ≡ (length word + 18) * p
+bits-lines-length word zero numbers = sym (mul-zero (length word + 18))
+bits-lines-length word (suc p) numbers =
+    omega (arith, lines-more p (bitsAt word numbers), bits-lines-length word p numbers, bits-line-length word (getD numbers p nan))
 
-pub listing-length : (figures variances : List Float) (verdicts : List ℕ) (coefficients : List Float)
-    → length (listing figures variances verdicts coefficients)
-    ≡ length (decimalText (length verdicts)) + 7 + length (lines (length verdicts) (nodeAt figures variances verdicts)) + 22 * length coefficients
+pub listing-length : (figures variances : List Float) (verdicts : List ℕ) (multipliers trend : List Float)
+    → length (listing figures variances verdicts multipliers trend)
+    ≡ length (decimalText (length verdicts)) + 7 + length (lines (length verdicts) (nodeAt figures variances verdicts))
+    + 22 * length multipliers
+    + 23 * length trend
 unfolding listing
-listing-length figures variances verdicts coefficients =
+listing-length figures variances verdicts multipliers trend =
     let m = length verdicts in
     let ns = lines m (nodeAt figures variances verdicts) in
-    let cs = lines (length coefficients) (coefAt coefficients) in
-    let a = length-append (countLine m ++ ns) cs in
-    let b = length-append (countLine m) ns in
-    omega (arith, word-line-length (ascii "nodes") m, coef-lines-length (length coefficients) coefficients)
+    let cs = lines (length multipliers) (coefAt multipliers) in
+    let ts = lines (length trend) (trendAt trend) in
+    let a = length-append (countLine m ++ ns ++ cs) ts in
+    let b = length-append (countLine m ++ ns) cs in
+    let d = length-append (countLine m) ns in
+    let coef = bits-lines-length (ascii "coef") (length multipliers) multipliers in
+    let slopes = bits-lines-length (ascii "trend") (length trend) trend in
+    omega (arith, word-line-length (ascii "nodes") m)

@@ -44,13 +44,13 @@ hundred : length (lines 100 widest) ≡ 4092
 unfolding widest digit inTens decimalText inSixteens hexText bitsOf bitsText toBits
 hundred = refl
 
-pub longest-listing : (figures variances : List Float) (verdicts : List ℕ) (coefficients : List Float) → ((i : ℕ) → getD verdicts i 0 < 256)
-    → length verdicts ≤ 100 → length coefficients ≤ 12 → length (listing figures variances verdicts coefficients) ≤ longest
-longest-listing figures variances verdicts coefficients bytes m p =
+pub longest-listing : (figures variances : List Float) (verdicts : List ℕ) (multipliers trend : List Float) → ((i : ℕ) → getD verdicts i 0 < 256)
+    → length verdicts ≤ 100 → length multipliers ≤ 12 → length trend ≤ 12 → length (listing figures variances verdicts multipliers trend) ≤ longest
+longest-listing figures variances verdicts multipliers trend bytes m p q =
     let count = decimal-length 3 (length verdicts) (lit< tt) (omega arith) in
     let wide = lines-under (length verdicts) (nodeAt figures variances verdicts) widest (λ i b. no-wider figures variances verdicts bytes i) in
     let all = lines-before (length verdicts) 100 widest m in
-    omega (arith, hundred, listing-length figures variances verdicts coefficients)
+    omega (arith, hundred, listing-length figures variances verdicts multipliers trend)
 
 -- a refusal's number is a byte
 pub longest-refusal : (number : ℕ) → number < 256 → length (refusedText number) ≤ longest

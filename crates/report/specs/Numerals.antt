@@ -41,6 +41,6 @@ bitsOf nan = 0x7ff8_0000_0000_0000
 bitsOf (inf s) = toBits binary64 (inf s)
 bitsOf (fin s m e) = toBits binary64 (fin s m e)
 
--- "figure bits, variance bits", and a coefficient's
+-- "figure bits, variance bits", and a multiplier's and the trend's
 unfoldable pub bitsText : Float → List ℕ
 bitsText x = hexText (bitsOf x)

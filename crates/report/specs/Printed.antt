@@ -22,9 +22,10 @@ outcomeOf answer area = record { answer = answer; area = area }
 unfoldable pub printed : List ℕ → List ℕ → Outcome
 printed text area = cond (leb (length text) (length area)) (outcomeOf (Done (length text)) (copied 0 text area)) (outcomeOf TooShort area)
 
--- The listing of an accepted fit. A node has one figure, one variance and one verdict: lists of different lengths have no listing, and nothing is written.
-unfoldable pub listed : List Float → List Float → List ℕ → List Float → List ℕ → Outcome
-listed figures variances verdicts coefficients area =
-    cond (eqb (length figures) (length verdicts) && eqb (length variances) (length verdicts))
-    (printed (listing figures variances verdicts coefficients) area)
+-- The listing of an accepted fit. A node has one figure, one variance and one verdict, a column one multiplier and one number of the trend: lists of
+-- different lengths have no listing, and nothing is written.
+unfoldable pub listed : List Float → List Float → List ℕ → List Float → List Float → List ℕ → Outcome
+listed figures variances verdicts multipliers trend area =
+    cond (eqb (length figures) (length verdicts) && eqb (length variances) (length verdicts) && eqb (length trend) (length multipliers))
+    (printed (listing figures variances verdicts multipliers trend) area)
     (outcomeOf Uneven area)

@@ -16,12 +16,12 @@ pub enum Printed {
     Done(usize),
     // The area has fewer bytes than the text, and is as it was.
     TooShort,
-    // There is not one figure and one variance for each verdict, and the area is as it was.
+    // There is not one figure and one variance for each verdict, or not one number of the trend for each multiplier, and the area is as it was.
     Uneven,
 }
 
 // The bytes of the longest listing of an accepted fit.
-const LONGEST: usize = 4366;
+const LONGEST: usize = 4642;
 
 // Zeros, as many as the longest text has bytes.
 pub fn text_area() -> [u8; LONGEST]
@@ -30,18 +30,21 @@ pub fn text_area() -> [u8; LONGEST]
     [0; LONGEST]
 }
 
-// The listing of an accepted fit: a line for the number of nodes, one for each node and one for each coefficient.
+// The listing of an accepted fit: a line for the number of nodes, one for each node, one for each multiplier and one for each number of the trend.
 pub fn write_listing(
     predicted: &[f64],
     variance: &[f64],
     verdicts: &[u8],
-    coefficients: &[f64],
+    multipliers: &[f64],
+    trend: &[f64],
     text: &mut [u8],
 ) -> Printed
     ensures equation { λ r. ⌜ outcomeOf r (now (text .exit))
-        ≡ listed (now (predicted .entry)) (now (variance .entry)) (now (verdicts .entry)) (now (coefficients .entry)) (now (text .entry)) ⌝ }
-    ensures longest { λ _. ⌜ (length (now (verdicts .entry)) ≤ 100 → length (now (coefficients .entry)) ≤ 12
-        → length (listing (now (predicted .entry)) (now (variance .entry)) (now (verdicts .entry)) (now (coefficients .entry))) ≤ longest) ⌝ }
+        ≡ listed (now (predicted .entry)) (now (variance .entry)) (now (verdicts .entry)) (now (multipliers .entry)) (now (trend .entry))
+        (now (text .entry)) ⌝ }
+    ensures longest { λ _. ⌜ (length (now (verdicts .entry)) ≤ 100 → length (now (multipliers .entry)) ≤ 12 → length (now (trend .entry)) ≤ 12
+        → length (listing (now (predicted .entry)) (now (variance .entry)) (now (verdicts .entry)) (now (multipliers .entry)) (now (trend .entry)))
+        ≤ longest) ⌝ }
 {
     let m = verdicts.len();
     if predicted.len() != m {
@@ -50,12 +53,16 @@ pub fn write_listing(
     if variance.len() != m {
         return Printed::Uneven;
     }
-    if !room::listing_fits(verdicts, coefficients.len(), text.len()) {
+    if trend.len() != multipliers.len() {
+        return Printed::Uneven;
+    }
+    if !room::listing_fits(verdicts, multipliers.len(), text.len()) {
         return Printed::TooShort;
     }
     let counted = put::put_count(m, text, 0);
     let listed = put::put_nodes(predicted, variance, verdicts, text, counted);
-    Printed::Done(put::put_coefficients(coefficients, text, listed))
+    let multiplied = put::put_bits_lines(b"coef", multipliers, text, listed);
+    Printed::Done(put::put_bits_lines(b"trend", trend, text, multiplied))
 }
 
 // A refusal's one line.

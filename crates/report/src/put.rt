@@ -3,7 +3,7 @@ ghost use mathlib.Core.Path.{_≡_};
 ghost use mathlib.Core.List.{[], _∷_};
 ghost use lib.ListN.{length};
 ghost use Rattle.report.specs.Numerals.{decimalText, bitsText};
-ghost use Rattle.report.specs.Listing.{spaced, wordLine, countLine, nodeLine, coefLine, lines, nodeAt, coefAt, refusedText};
+ghost use Rattle.report.specs.Listing.{spaced, wordLine, countLine, nodeLine, bitsLine, lines, nodeAt, bitsAt, refusedText};
 ghost use Rattle.area.specs.Placed.{Room, Put};
 
 // Bytes as they are.
@@ -101,12 +101,12 @@ fn put_node(
     put_byte(b'\n', text, judged)
 }
 
-// The line of a coefficient.
-fn put_coefficient(x: f64, text: &mut [u8], at: usize) -> usize
-    requires { ⌜ Room at (coefLine x) (now text) ⌝ }
-    ensures { λ r. ⌜ Put at (coefLine x) (now (text .entry)) r (now (text .exit)) ⌝ }
+// A line of one word and one float.
+fn put_bits_line(word: &[u8], x: f64, text: &mut [u8], at: usize) -> usize
+    requires { ⌜ Room at (bitsLine (now word) x) (now text) ⌝ }
+    ensures { λ r. ⌜ Put at (bitsLine (now (word .entry)) x) (now (text .entry)) r (now (text .exit)) ⌝ }
 {
-    let named = put_bytes(b"coef", text, at);
+    let named = put_bytes(word, text, at);
     let figured = put_bits(x, text, named);
     put_byte(b'\n', text, figured)
 }
@@ -139,14 +139,16 @@ pub(crate) fn put_nodes(
     next
 }
 
-// The lines of all coefficients.
-pub(crate) fn put_coefficients(coefficients: &[f64], text: &mut [u8], at: usize) -> usize
-    requires { ⌜ Room at (lines (length (now coefficients)) (coefAt (now coefficients))) (now text) ⌝ }
-    ensures { λ r. ⌜ Put at (lines (length (now (coefficients .entry))) (coefAt (now (coefficients .entry)))) (now (text .entry)) r (now (text .exit)) ⌝ }
+// A line of one word and one float for each number of a list.
+pub(crate) fn put_bits_lines(word: &[u8], numbers: &[f64], text: &mut [u8], at: usize) -> usize
+    requires { ⌜ Room at (lines (length (now numbers)) (bitsAt (now word) (now numbers))) (now text) ⌝ }
+    ensures { λ r. ⌜ Put at
+        (lines (length (now (numbers .entry))) (bitsAt (now (word .entry)) (now (numbers .entry))))
+        (now (text .entry)) r (now (text .exit)) ⌝ }
 {
     let mut next = at;
-    for j in 0..coefficients.len() {
-        next = put_coefficient(coefficients[j], text, next);
+    for j in 0..numbers.len() {
+        next = put_bits_line(word, numbers[j], text, next);
     }
     next
 }

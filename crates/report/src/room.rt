@@ -50,16 +50,16 @@ fn left_by_nodes(verdicts: &[u8], room: usize) -> usize
     rest
 }
 
-// Whether the listing of these verdicts and p coefficients has at most `size` bytes: a coefficient's line has 22.
+// Whether the listing of these verdicts and p columns has at most `size` bytes: a column's coef line has 22 and its trend line 23.
 pub(crate) fn listing_fits(verdicts: &[u8], p: usize, size: usize) -> bool
     requires { ⌜ size < 2 ^ 63 ⌝ }
-    ensures { λ r. ⌜ ((figures variances coefficients : List Float) → length coefficients ≡ p
-        → r ≡ leb (length (listing figures variances (now (verdicts .entry)) coefficients)) size) ⌝ }
+    ensures { λ r. ⌜ ((figures variances multipliers trend : List Float) → length multipliers ≡ p → length trend ≡ p
+        → r ≡ leb (length (listing figures variances (now (verdicts .entry)) multipliers trend)) size) ⌝ }
 {
     let room = left(size + 1, decimal_length(verdicts.len() as u64) + 7);
     let rest = left_by_nodes(verdicts, room);
     if rest == 0 {
         return false;
     }
-    p <= (rest - 1) / 22
+    p <= (rest - 1) / 45
 }

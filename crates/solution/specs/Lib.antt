@@ -1,1 +1,2 @@
 pub mod Solution
+pub mod Slopes

@@ -1,4 +1,4 @@
-// z = inverse · b, from a finished elimination; and sums of products in turn.
+// z = inverse · b and the trend, from a finished elimination; and sums of products in turn.
 ghost use mathlib.Core.Path.{_≡_};
 ghost use Prim.Native.Nat.{_+_, _*_, _≤_, _<_};
 ghost use lib.ListN.{length, getD};
@@ -6,8 +6,9 @@ ghost use mathlib.Core.List.{List};
 ghost use lib.Ieee.{Float, nan, binary64, mul};
 ghost use Rattle.area.specs.Area.{written};
 ghost use Rattle.ieee.specs.Sums.{runningSum};
-ghost use Rattle.elimination.specs.Inverse.{timesInverse};
+ghost use Rattle.elimination.specs.Inverse.{inverseAt, timesInverse};
 ghost use Rattle.solution.specs.Solution.{solved};
+ghost use Rattle.solution.specs.Slopes.{estimated};
 
 // Four entries of z, one below the other.
 struct Four {
@@ -50,14 +51,14 @@ fn four_rows(work: &[f64], size: usize, b: &[f64], i: usize) -> Four
     }
 }
 
-// Row i of the inverse times b, summed from 0 by rising column.
-fn one_row(work: &[f64], size: usize, b: &[f64], i: usize) -> f64
-    requires { ⌜ (i < size) × (2 * size * size ≤ length (now work)) × (size ≤ length (now b)) ⌝ }
-    ensures { λ r. ⌜ r ≡ timesInverse size (now (work .entry)) (λ j. getD (now (b .entry)) j nan) i ⌝ }
+// Row i of the inverse times the first `count` numbers of b, summed from 0 by rising column.
+fn one_row(work: &[f64], size: usize, b: &[f64], count: usize, i: usize) -> f64
+    requires { ⌜ (i < size) × (count ≤ size) × (2 * size * size ≤ length (now work)) × (count ≤ length (now b)) ⌝ }
+    ensures { λ r. ⌜ r ≡ runningSum count (λ j. mul binary64 (inverseAt size (now (work .entry)) i j) (getD (now (b .entry)) j nan)) ⌝ }
 {
     let row = i * (2 * size) + size;
     let mut acc = 0.0;
-    for j in 0..size {
+    for j in 0..count {
         acc += work[row + j] * b[j];
     }
     acc
@@ -70,7 +71,7 @@ fn fill_last_rows(work: &[f64], size: usize, b: &[f64], from: usize, z: &mut [f6
         → now (z .exit) ≡ written 0 size (timesInverse size (now (work .entry)) (λ j. getD (now (b .entry)) j nan)) xs) ⌝ }
 {
     for i in from..size {
-        z[i] = one_row(work, size, b, i);
+        z[i] = one_row(work, size, b, size, i);
     }
 }
 
@@ -105,6 +106,27 @@ pub fn fill_z(work: &[f64], size: usize, b: &[f64], z: &mut [f64])
         return;
     }
     fill_rows(work, size, b, z);
+}
+
+// The trend's estimate, from a work area of `size` rows after its elimination: for each row past the wells', that row of the inverse times the values,
+// summed from 0 well after well. Where it is no such area or the trend has no room, the trend stays as it is.
+pub fn fill_trend(work: &[f64], size: usize, values: &[f64], trend: &mut [f64])
+    ensures { λ _. ⌜ now (trend .exit) ≡ estimated size (now (work .entry)) (now (values .entry)) (now (trend .entry)) ⌝ }
+{
+    let n = values.len();
+    if elimination::too_short(work.len(), size) {
+        return;
+    }
+    if size < n {
+        return;
+    }
+    let p = size - n;
+    if trend.len() < p {
+        return;
+    }
+    for j in 0..p {
+        trend[j] = one_row(work, size, values, n, n + j);
+    }
 }
 
 // Σ z_i·number_i over the first `count`, summed from 0: the figure with the values, the variance with b. A list that is shorter has no number there,

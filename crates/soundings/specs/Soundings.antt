@@ -76,7 +76,8 @@ areas n = record {
   variance = n0 ∷ [];
   verdicts = 1 ∷ [];
   weights = replicate n n0;
-  coefficients = n0 ∷ [];
+  multipliers = n0 ∷ [];
+  trend = n0 ∷ [];
 }
 
 -- "(0,0) value 5", with another variogram in C
@@ -112,37 +113,39 @@ samples = record { dimension = 1; values = n0 ∷ n2 ∷ n4 ∷ []; points = n0 
 abbrev pub bins : List Float → List Float → List ℕ → semivariogram.Areas
 bins distances semivariances counts = record { distances = distances; semivariances = semivariances; counts = counts }
 
--- a fit is accepted with this figure, variance, coefficient and verdict; the other areas are not looked at
-abbrev pub answer : ℕ → List Float → List Float → List Float → List ℕ → Outcome Areas
-answer number figures variances coefficients verdicts = outcome number (record {
+-- a fit is accepted with this figure, variance, multiplier, trend and verdict; the other areas are not looked at
+abbrev pub answer : ℕ → List Float → List Float → List Float → List Float → List ℕ → Outcome Areas
+answer number figures variances multipliers trend verdicts = outcome number (record {
   work = [];
   predicted = figures;
   variance = variances;
   verdicts = verdicts;
   weights = [];
-  coefficients = coefficients;
+  multipliers = multipliers;
+  trend = trend;
 })
 
 abbrev pub seen : Outcome Areas → Outcome Areas
-seen e = answer (e .number) (e .areas .predicted) (e .areas .variance) (e .areas .coefficients) (e .areas .verdicts)
+seen e = answer (e .number) (e .areas .predicted) (e .areas .variance) (e .areas .multipliers) (e .areas .trend) (e .areas .verdicts)
 
-abbrev pub Answer : Outcome Areas → Float → Float → Float → ℕ → Type 0
-Answer e figure variance coefficient verdict = seen e ≡ answer 0 (figure ∷ []) (variance ∷ []) (coefficient ∷ []) (verdict ∷ [])
+abbrev pub Answer : Outcome Areas → Float → Float → Float → Float → ℕ → Type 0
+Answer e figure variance multiplier trend verdict =
+    seen e ≡ answer 0 (figure ∷ []) (variance ∷ []) (multiplier ∷ []) (trend ∷ []) (verdict ∷ [])
 
 -- ---- the soundings
 pub record Soundings : Type 0 where
-  -- "A: (0,0) value 5, node (1,0): 5, variance 2, coefficient 1, verdict 0."
-  pub A : Answer (oneWell plain) n5 n2 n1 0
-  -- "B: (0,0) 2 and (2,0) 6, node (1,0): 4, 1.5, coefficient 0.5, 0. Ordinary interpolation: 4, 1.5."
-  pub B : Answer (twoWells n2 n6 n0) n4 n1½ n½ 0
+  -- "A: (0,0) value 5, node (1,0): 5, variance 2, coefficient 1, verdict 0." The coefficient is a multiplier; the trend: "In sounding A it is 5."
+  pub A : Answer (oneWell plain) n5 n2 n1 n5 0
+  -- "B: (0,0) 2 and (2,0) 6, node (1,0): 4, 1.5, coefficient 0.5, 0. Ordinary interpolation: 4, 1.5." And "B's listing gains `trend 4010000000000000`".
+  pub B : Answer (twoWells n2 n6 n0) n4 n1½ n½ n4 0
   pub B-accepted : interpolated base query queryAreas .number ≡ 0
   pub B-figure : interpolated base query queryAreas .areas .figures ≡ n4 ∷ []
   pub B-variance : interpolated base query queryAreas .areas .variances ≡ n1½ ∷ []
-  -- "C: A with Linear 0, 1, 0: figure NaN, variance +0, verdict 255."
-  pub C : Answer (oneWell (variogram Linear n0 n1 n0)) nan n0 nan 255
+  -- "C: A with Linear 0, 1, 0: figure NaN, variance +0, verdict 255." The trend reads no node: it is A's.
+  pub C : Answer (oneWell (variogram Linear n0 n1 n0)) nan n0 nan n5 255
   -- "D: B with values 1 and 2^-60: figure 0.5; t = 2^-62 gives verdict 2, t = 2^-61 gives 0."
-  pub D-missed : Answer (twoWells n1 (below 60) (below 62)) n½ n1½ n½ 2
-  pub D-met : Answer (twoWells n1 (below 60) (below 61)) n½ n1½ n½ 0
+  pub D-missed : Answer (twoWells n1 (below 60) (below 62)) n½ n1½ n½ n½ 2
+  pub D-met : Answer (twoWells n1 (below 60) (below 61)) n½ n1½ n½ n½ 0
   -- "E: two wells at (0,0): r = 2^-53 gives 19, r = 2^-52 does not."
   pub E-refused : oneSpot (below 53) .number ≡ 19
   pub E-accepted : oneSpot (below 52) .number ≡ 0

@@ -41,7 +41,8 @@ struct Answer {
     number: u64,
     figure: f64,
     variance: f64,
-    coefficient: f64,
+    multiplier: f64,
+    trend: f64,
     verdict: u8,
 }
 
@@ -84,7 +85,8 @@ fn fit(
     let mut variance = [0.0; 1];
     let mut verdicts = [1u8; 1];
     let mut weights = [0.0; 2];
-    let mut coefficients = [0.0; 1];
+    let mut multipliers = [0.0; 1];
+    let mut trend = [0.0; 1];
     let ended = kriging::universal_kriging_fit(
         values,
         coords,
@@ -99,34 +101,38 @@ fn fit(
         &mut variance,
         &mut verdicts,
         &mut weights,
-        &mut coefficients,
+        &mut multipliers,
+        &mut trend,
     );
     Answer {
         number: number_of(ended),
         figure: predicted[0],
         variance: variance[0],
-        coefficient: coefficients[0],
+        multiplier: multipliers[0],
+        trend: trend[0],
         verdict: verdicts[0],
     }
 }
 
-// A fit's figure, variance, coefficient and verdict, and that it is accepted.
+// A fit's figure, variance, multiplier, trend and verdict, and that it is accepted.
 fn show_fit(
     t: Tally,
     a: Answer,
     figure: f64,
     variance: f64,
-    coefficient: f64,
+    multiplier: f64,
+    trend: f64,
     verdict: u64,
 ) -> Tally {
     let accepted = show_number(t, b"  number", a.number, 0);
     let figured = show(accepted, b"  figure", a.figure, figure);
     let varied = show(figured, b"  variance", a.variance, variance);
-    let fitted = show(varied, b"  coefficient", a.coefficient, coefficient);
-    show_number(fitted, b"  verdict", a.verdict as u64, verdict)
+    let multiplied = show(varied, b"  multiplier", a.multiplier, multiplier);
+    let estimated = show(multiplied, b"  trend", a.trend, trend);
+    show_number(estimated, b"  verdict", a.verdict as u64, verdict)
 }
 
-// "A: (0,0) value 5, node (1,0): 5, variance 2, coefficient 1, verdict 0."
+// "A: (0,0) value 5, node (1,0): 5, variance 2, coefficient 1, verdict 0." The trend: "In sounding A it is 5."
 fn sounding_a(t: Tally) -> Tally {
     io::write_all(STDOUT_FILENO, b"A\n");
     show_fit(
@@ -135,6 +141,7 @@ fn sounding_a(t: Tally) -> Tally {
         5.0,
         2.0,
         1.0,
+        5.0,
         0,
     )
 }
@@ -174,13 +181,13 @@ fn show_interpolation(t: Tally) -> Tally {
     show(figured, b"  interpolation: variance", variances[0], 1.5)
 }
 
-// "B: (0,0) 2 and (2,0) 6, node (1,0): 4, 1.5, coefficient 0.5, 0. Ordinary interpolation: 4, 1.5."
+// "B: (0,0) 2 and (2,0) 6, node (1,0): 4, 1.5, coefficient 0.5, 0. Ordinary interpolation: 4, 1.5." Its trend is 4.
 fn sounding_b(t: Tally) -> Tally {
     io::write_all(STDOUT_FILENO, b"B\n");
-    show_interpolation(show_fit(t, two_wells(2.0, 6.0, 0.0), 4.0, 1.5, 0.5, 0))
+    show_interpolation(show_fit(t, two_wells(2.0, 6.0, 0.0), 4.0, 1.5, 0.5, 4.0, 0))
 }
 
-// "C: A with Linear 0, 1, 0: figure NaN, variance +0, verdict 255."
+// "C: A with Linear 0, 1, 0: figure NaN, variance +0, verdict 255." The trend reads no node: it is A's.
 fn sounding_c(t: Tally) -> Tally {
     io::write_all(STDOUT_FILENO, b"C\n");
     let linear = Variogram::new(VariogramModel::Linear, 0.0, 1.0, 0.0);
@@ -191,6 +198,7 @@ fn sounding_c(t: Tally) -> Tally {
         nan,
         0.0,
         nan,
+        5.0,
         255,
     )
 }
@@ -198,12 +206,21 @@ fn sounding_c(t: Tally) -> Tally {
 // "D: B with values 1 and 2^-60: figure 0.5; t = 2^-62 gives verdict 2, t = 2^-61 gives 0."
 fn sounding_d(t: Tally) -> Tally {
     io::write_all(STDOUT_FILENO, b"D\n");
-    let missed = show_fit(t, two_wells(1.0, below(60), below(62)), 0.5, 1.5, 0.5, 2);
+    let missed = show_fit(
+        t,
+        two_wells(1.0, below(60), below(62)),
+        0.5,
+        1.5,
+        0.5,
+        0.5,
+        2,
+    );
     show_fit(
         missed,
         two_wells(1.0, below(60), below(61)),
         0.5,
         1.5,
+        0.5,
         0.5,
         0,
     )

@@ -24,7 +24,7 @@ use Rattle.report.specs.Listing.{refusedText}
 use Rattle.report.proofs.Apart.{refusals-apart, listing-apart}
 use Rattle.survey_map.specs.Areas.{ownLists, ownAreas}
 use Rattle.survey_map.specs.Text.{fitText, surveyText, fileText, AmpleForFit, AmpleForFile}
-use Rattle.survey_map.proofs.Own.{lists-fit, own-work, own-predicted, own-variance, own-verdicts, own-weights, own-coefficients}
+use Rattle.survey_map.proofs.Own.{lists-fit, own-work, own-predicted, own-variance, own-verdicts, own-weights, own-multipliers, own-trend}
 
 module _ (s : Survey) where
   -- a number that is given is the lowest whose condition holds
@@ -46,7 +46,8 @@ module _ (s : Survey) where
   answer-fits n p m (inr (inl l)) = omega (arith, own-variance)
   answer-fits n p m (inr (inr (inl l))) = omega (arith, own-verdicts)
   answer-fits n p m (inr (inr (inr (inl l)))) = let product = mul-le-mul n m in omega (arith, own-weights)
-  answer-fits n p m (inr (inr (inr (inr l)))) = omega (arith, own-coefficients)
+  answer-fits n p m (inr (inr (inr (inr (inl l))))) = omega (arith, own-multipliers)
+  answer-fits n p m (inr (inr (inr (inr (inr l))))) = omega (arith, own-trend)
 
   at-most : {k most : ℕ} → ¬ (most < k) → k ≤ most
   at-most h = omega arith
@@ -69,7 +70,7 @@ module _ (s : Survey) where
   apart k n = let o = fitted base s ownAreas in go (o .number) (o .areas) n
     where
       go : (j : ℕ) (a : Areas) → j ≢ k → fitText j s a ≢ refusedText k
-      go zero a d e = listing-apart _ _ _ _ k e
+      go zero a d e = listing-apart _ _ _ _ _ k e
       go (suc j) a d e = d (refusals-apart (suc j) k e)
 
   pub ample-for-fit : AmpleForFit s

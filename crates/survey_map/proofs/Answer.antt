@@ -11,7 +11,7 @@ use Rattle.fit.specs.Fit.{fitted}
 use Rattle.fit.specs.Untouched.{Untouched}
 use Rattle.fit.proofs.Endings.{untouched, few-columns, predicted-long}
 use Rattle.survey_map.specs.Areas.{ownAreas}
-use Rattle.survey_map.proofs.Own.{own-predicted, own-variance, own-verdicts, own-coefficients}
+use Rattle.survey_map.proofs.Own.{own-predicted, own-variance, own-verdicts, own-multipliers, own-trend}
 
 module _ (s : Survey) (a : Areas) (e : outcome 0 a ≡ fitted base s ownAreas) where
   kept : Untouched s ownAreas a
@@ -19,7 +19,7 @@ module _ (s : Survey) (a : Areas) (e : outcome 0 a ≡ fitted base s ownAreas) w
 
   -- what the listing asks
   pub listable : (nodeCount s ≤ 100) × (nodeCount s ≤ length (a .predicted)) × (nodeCount s ≤ length (a .variance))
-      × (nodeCount s ≤ length (a .verdicts)) × (columns s ≤ 12) × (columns s ≤ length (a .coefficients))
+      × (nodeCount s ≤ length (a .verdicts)) × (columns s ≤ 12) × (columns s ≤ length (a .multipliers)) × (columns s ≤ length (a .trend))
   listable =
       let done = sym (ap (λ (o : Outcome Areas). o .number) e) in
       let m : nodeCount s ≤ 100 = omega (arith, predicted-long base s ownAreas done, own-predicted) in
@@ -29,5 +29,6 @@ module _ (s : Survey) (a : Areas) (e : outcome 0 a ≡ fitted base s ownAreas) w
         omega (arith, kept .variance .len, own-variance),
         omega (arith, kept .verdicts .len, own-verdicts),
         p,
-        omega (arith, kept .coefficients .len, own-coefficients),
+        omega (arith, kept .multipliers .len, own-multipliers),
+        omega (arith, kept .trend .len, own-trend),
       )

@@ -84,6 +84,10 @@ pub own-weights : length (ownAreas .weights) ≡ mostWeights
 unfolding ownAreas
 own-weights = length-replicate mostWeights zeroFloat
 
-pub own-coefficients : length (ownAreas .coefficients) ≡ mostColumns
+pub own-multipliers : length (ownAreas .multipliers) ≡ mostColumns
 unfolding ownAreas
-own-coefficients = length-replicate mostColumns zeroFloat
+own-multipliers = length-replicate mostColumns zeroFloat
+
+pub own-trend : length (ownAreas .trend) ≡ mostColumns
+unfolding ownAreas
+own-trend = length-replicate mostColumns zeroFloat

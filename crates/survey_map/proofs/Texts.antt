@@ -37,10 +37,10 @@ same-text area e x = (
 )
 
 -- of even lists the listing is printed
-pub listed-text : {o : Printing} (figures variances : List Float) (verdicts : List ℕ) (coefficients : List Float) (area : List ℕ)
-    → length figures ≡ length verdicts → length variances ≡ length verdicts → o ≡ listed figures variances verdicts coefficients area
-    → o ≡ printed (listing figures variances verdicts coefficients) area
-listed-text figures variances verdicts coefficients area f v e = e ∙ even-listed figures variances verdicts coefficients area f v
+pub listed-text : {o : Printing} (figures variances : List Float) (verdicts : List ℕ) (multipliers trend : List Float) (area : List ℕ)
+    → length figures ≡ length verdicts → length variances ≡ length verdicts → length trend ≡ length multipliers
+    → o ≡ listed figures variances verdicts multipliers trend area → o ≡ printed (listing figures variances verdicts multipliers trend) area
+listed-text figures variances verdicts multipliers trend area f v t e = e ∙ even-listed figures variances verdicts multipliers trend area f v t
 
 -- ---- a fit
 module _ (s : Survey) (a : Areas) where

@@ -41,8 +41,7 @@ mostWeights = 4800
 unfoldable pub ownAreas : fit.Areas
 ownAreas =
     fit.areasOf (replicate mostWork zeroFloat) (replicate mostNodes zeroFloat) (replicate mostNodes zeroFloat) (replicate mostNodes 0)
-    (replicate mostWeights zeroFloat)
-    (replicate mostColumns zeroFloat)
+    (replicate mostWeights zeroFloat) (replicate mostColumns zeroFloat) (replicate mostColumns zeroFloat)
 
 -- ---- a survey in the areas that the reader filled
 -- "k the count of code 4"

@@ -15,11 +15,12 @@ use Rattle.survey_file.specs.Reader.{surveyIn, reader}
 use Rattle.report.specs.Listing.{listing, refusedText}
 use Rattle.survey_map.specs.Areas.{ownLists, ownAreas}
 
--- of a fit that ended with this number: "node count; node number from 1, figure bits, variance bits, verdict; one coef line a column", or
--- "A refusal prints only `refused N`"
+-- of a fit that ended with this number: "node count; node number from 1, figure bits, variance bits, verdict; one coef line a column" and "`trend` lines
+-- after the coef lines", or "A refusal prints only `refused N`"
 abbrev pub fitText : ℕ → Survey → Areas → List ℕ
 fitText zero s a =
-    listing (take (nodeCount s) (a .predicted)) (take (nodeCount s) (a .variance)) (take (nodeCount s) (a .verdicts)) (take (columns s) (a .coefficients))
+    listing (take (nodeCount s) (a .predicted)) (take (nodeCount s) (a .variance)) (take (nodeCount s) (a .verdicts)) (take (columns s) (a .multipliers))
+    (take (columns s) (a .trend))
 fitText (suc k) s a = refusedText (suc k)
 
 -- of a survey

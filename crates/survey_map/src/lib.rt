@@ -53,18 +53,19 @@ fn print_answer(
     predicted: &[f64],
     variance: &[f64],
     verdicts: &[u8],
-    coefficients: &[f64],
+    multipliers: &[f64],
+    trend: &[f64],
     text: &mut [u8],
 ) -> Printed
     requires { ⌜ (m ≤ 100) × (m ≤ length (now predicted)) × (m ≤ length (now variance)) × (m ≤ length (now verdicts))
-        × (columnSum (now bases) ≤ 12) × (columnSum (now bases) ≤ length (now coefficients)) ⌝ }
+        × (columnSum (now bases) ≤ 12) × (columnSum (now bases) ≤ length (now multipliers)) × (columnSum (now bases) ≤ length (now trend)) ⌝ }
     ensures equation { λ r. ⌜ outcomeOf r (now (text .exit)) ≡ printed
         (listing (take m (now (predicted .entry))) (take m (now (variance .entry))) (take m (now (verdicts .entry)))
-        (take (columnSum (now (bases .entry))) (now (coefficients .entry))))
+        (take (columnSum (now (bases .entry))) (now (multipliers .entry))) (take (columnSum (now (bases .entry))) (now (trend .entry))))
         (now (text .entry)) ⌝ }
     ensures longest { λ _. ⌜ length
         (listing (take m (now (predicted .entry))) (take m (now (variance .entry))) (take m (now (verdicts .entry)))
-        (take (columnSum (now (bases .entry))) (now (coefficients .entry))))
+        (take (columnSum (now (bases .entry))) (now (multipliers .entry))) (take (columnSum (now (bases .entry))) (now (trend .entry))))
         ≤ longest ⌝ }
 {
     let p = drift_columns(bases);
@@ -72,7 +73,8 @@ fn print_answer(
         &predicted[..m],
         &variance[..m],
         &verdicts[..m],
-        &coefficients[..p],
+        &multipliers[..p],
+        &trend[..p],
         text,
     )
 }
@@ -103,7 +105,8 @@ pub fn print_fit(
     let mut variance = [0.0; NODES];
     let mut verdicts = [0u8; NODES];
     let mut weights = [0.0; WEIGHTS];
-    let mut coefficients = [0.0; COLUMNS];
+    let mut multipliers = [0.0; COLUMNS];
+    let mut trend = [0.0; COLUMNS];
     let fit = universal_kriging_fit(
         values,
         coords,
@@ -118,7 +121,8 @@ pub fn print_fit(
         &mut variance,
         &mut verdicts,
         &mut weights,
-        &mut coefficients,
+        &mut multipliers,
+        &mut trend,
     );
     match fit {
         Fit::Done => print_answer(
@@ -127,7 +131,8 @@ pub fn print_fit(
             &predicted,
             &variance,
             &verdicts,
-            &coefficients,
+            &multipliers,
+            &trend,
             text,
         ),
         Fit::Refused(refusal) => write_refusal(refusal, text),

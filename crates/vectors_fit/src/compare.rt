@@ -1,6 +1,7 @@
 // What is compared of a fit: how it ended and what each area holds, past what is written too.
-use crate::counts::COEFFICIENTS;
 use crate::counts::FIGURES;
+use crate::counts::MULTIPLIERS;
+use crate::counts::TRENDS;
 use crate::counts::VARIANCES;
 use crate::counts::VERDICTS;
 use crate::counts::WEIGHT;
@@ -30,14 +31,16 @@ pub(crate) fn mark_all(
     variance: &mut [f64],
     verdicts: &mut [u8],
     weights: &mut [f64],
-    coefficients: &mut [f64],
+    multipliers: &mut [f64],
+    trend: &mut [f64],
 ) {
     mark(work);
     mark(predicted);
     mark(variance);
     mark_bytes(verdicts);
     mark(weights);
-    mark(coefficients);
+    mark(multipliers);
+    mark(trend);
 }
 
 fn wide(b: u8) -> u64 {
@@ -82,18 +85,21 @@ fn compare_nodes(
     compare_next_verdicts(verdicts, words, written.verdicts, counts);
 }
 
-// The weights and the coefficients.
+// The weights, the multipliers and the trend.
 fn compare_weights(
     written: Areas,
     weights: &[f64],
-    coefficients: &[f64],
+    multipliers: &[f64],
+    trend: &[f64],
     words: &mut [u64],
     counts: &mut [u64],
 ) {
     let n = written.weights;
-    let p = written.coefficients;
+    let p = written.multipliers;
+    let again = written.trend;
     compare_next(weights, words, n, n, WEIGHT, counts);
-    compare_next(coefficients, words, p, p, COEFFICIENTS, counts);
+    compare_next(multipliers, words, p, p, MULTIPLIERS, counts);
+    compare_next(trend, words, again, again, TRENDS, counts);
 }
 
 // Compares how a fit ended and what it left: the number comes in, then how much is written of each area, how much of the work area is told, and the areas.
@@ -104,7 +110,8 @@ pub(crate) fn compare_all(
     variance: &[f64],
     verdicts: &[u8],
     weights: &[f64],
-    coefficients: &[f64],
+    multipliers: &[f64],
+    trend: &[f64],
     words: &mut [u64],
     counts: &mut [u64],
 ) {
@@ -113,5 +120,5 @@ pub(crate) fn compare_all(
     let told = next_size();
     compare_next(work, words, told, written.work, WORK_AREA, counts);
     compare_nodes(written, predicted, variance, verdicts, words, counts);
-    compare_weights(written, weights, coefficients, words, counts);
+    compare_weights(written, weights, multipliers, trend, words, counts);
 }

@@ -1,4 +1,4 @@
-// Replays fits: figures, variances and coefficients of the original Rust; weights, verdicts, work areas and refusals of another reading of the paper.
+// Replays fits: figures, variances and multipliers of the original Rust; trends, weights, verdicts, work areas and refusals of another reading of the papers.
 // Standard input has a record for each, as tools/generators/fit.py wrote them.
 // Writes a line for each record that comes out otherwise; then how the fits ended, by number, and of each part how many numbers were compared and how
 // many differ; and last how many records were compared and how many differ.
@@ -45,7 +45,8 @@ fn answer(
     variance: &mut [f64],
     verdicts: &mut [u8],
     weights: &mut [f64],
-    coefficients: &mut [f64],
+    multipliers: &mut [f64],
+    trend: &mut [f64],
 ) -> Fit {
     let lists = head.lists;
     let bases = least(lists.codes, codes.len());
@@ -63,7 +64,8 @@ fn answer(
         variance,
         verdicts,
         weights,
-        coefficients,
+        multipliers,
+        trend,
     )
 }
 
@@ -85,7 +87,8 @@ fn replay_lent(
     variance: &mut [f64],
     verdicts: &mut [u8],
     weights: &mut [f64],
-    coefficients: &mut [f64],
+    multipliers: &mut [f64],
+    trend: &mut [f64],
     counts: &mut [u64],
 ) {
     let number = number_of(answer(
@@ -97,7 +100,8 @@ fn replay_lent(
         variance,
         verdicts,
         weights,
-        coefficients,
+        multipliers,
+        trend,
     ));
     let mut words = [0u64; WORK];
     compare_all(
@@ -107,7 +111,8 @@ fn replay_lent(
         variance,
         verdicts,
         weights,
-        coefficients,
+        multipliers,
+        trend,
         &mut words,
         counts,
     );
@@ -121,21 +126,24 @@ fn replay_fit(head: Head, numbers: &[f64], codes: &[u8], counts: &mut [u64]) {
     let mut variance = [0.0; NODES];
     let mut verdicts = [0u8; NODES];
     let mut weights = [0.0; WEIGHTS];
-    let mut coefficients = [0.0; COLUMNS];
+    let mut multipliers = [0.0; COLUMNS];
+    let mut trend = [0.0; COLUMNS];
     mark_all(
         &mut work,
         &mut predicted,
         &mut variance,
         &mut verdicts,
         &mut weights,
-        &mut coefficients,
+        &mut multipliers,
+        &mut trend,
     );
     let a = least(lent.work, WORK);
     let b = least(lent.predicted, NODES);
     let c = least(lent.variance, NODES);
     let d = least(lent.verdicts, NODES);
     let e = least(lent.weights, WEIGHTS);
-    let f = least(lent.coefficients, COLUMNS);
+    let f = least(lent.multipliers, COLUMNS);
+    let g = least(lent.trend, COLUMNS);
     replay_lent(
         head,
         numbers,
@@ -145,7 +153,8 @@ fn replay_fit(head: Head, numbers: &[f64], codes: &[u8], counts: &mut [u64]) {
         &mut variance[..c],
         &mut verdicts[..d],
         &mut weights[..e],
-        &mut coefficients[..f],
+        &mut multipliers[..f],
+        &mut trend[..g],
         counts,
     );
 }

@@ -20,7 +20,8 @@ pub struct Areas {
     pub variance: usize,
     pub verdicts: usize,
     pub weights: usize,
-    pub coefficients: usize,
+    pub multipliers: usize,
+    pub trend: usize,
 }
 
 // A record but for what its lists hold.
@@ -88,13 +89,15 @@ pub(crate) fn next_areas() -> Areas {
     let variance = next_size();
     let verdicts = next_size();
     let weights = next_size();
+    let multipliers = next_size();
     Areas {
         work,
         predicted,
         variance,
         verdicts,
         weights,
-        coefficients: next_size(),
+        multipliers,
+        trend: next_size(),
     }
 }
 

@@ -12,15 +12,16 @@ struct Record {
     codes: Vec<u8>,
     model: u8,
     options: [f64; 5],
-    lent: [usize; 6],
+    lent: [usize; 7],
     number: u8,
-    written: [usize; 6],
+    written: [usize; 7],
     work: Vec<u64>,
     predicted: Vec<u64>,
     variance: Vec<u64>,
     verdicts: Vec<u8>,
     weights: Vec<u64>,
-    coefficients: Vec<u64>,
+    multipliers: Vec<u64>,
+    trend: Vec<u64>,
 }
 
 fn next(words: &mut Words) -> Record {
@@ -31,7 +32,7 @@ fn next(words: &mut Words) -> Record {
     let lists = (words.numbers(values), words.numbers(coords), words.numbers(external), words.numbers(nodes), words.numbers(node_external));
     let codes = words.bytes(codes);
     let number = words.word() as u8;
-    let written: [usize; 6] = words.counts();
+    let written: [usize; 7] = words.counts();
     let told = words.count();
     Record {
         values: lists.0,
@@ -50,14 +51,15 @@ fn next(words: &mut Words) -> Record {
         variance: words.words(written[2]),
         verdicts: words.bytes(written[3]),
         weights: words.words(written[4]),
-        coefficients: words.words(written[5]),
+        multipliers: words.words(written[5]),
+        trend: words.words(written[6]),
     }
 }
 
 /// The exported call: its number, what it writes, and what it does not.
 fn exported_agrees(r: &Record) -> bool {
     let [nugget, sill, range, regularization, tolerance] = r.options;
-    let [mut work, mut predicted, mut variance, mut weights, mut coefficients] = [0, 1, 2, 4, 5].map(|area| marked(r.lent[area]));
+    let [mut work, mut predicted, mut variance, mut weights, mut multipliers, mut trend] = [0, 1, 2, 4, 5, 6].map(|area| marked(r.lent[area]));
     let mut verdicts = vec![MARK_BYTE; r.lent[3]];
     let number = calls::fit(
         &r.values,
@@ -77,7 +79,8 @@ fn exported_agrees(r: &Record) -> bool {
         &mut variance,
         &mut verdicts,
         &mut weights,
-        &mut coefficients,
+        &mut multipliers,
+        &mut trend,
     );
     number == r.number
         && holds(&work, &r.work, r.written[0])
@@ -86,7 +89,8 @@ fn exported_agrees(r: &Record) -> bool {
         && verdicts.starts_with(&r.verdicts)
         && verdicts[r.written[3]..].iter().all(|&verdict| verdict == MARK_BYTE)
         && holds(&weights, &r.weights, r.written[4])
-        && holds(&coefficients, &r.coefficients, r.written[5])
+        && holds(&multipliers, &r.multipliers, r.written[5])
+        && holds(&trend, &r.trend, r.written[6])
 }
 
 /// The bases of a record's codes with their columns, if they can be written so: every code is one, and the externals are as many as they should be.
@@ -117,7 +121,8 @@ fn safe_agrees(r: &Record, drift_bases: Vec<DriftBasis>) -> bool {
             r.number == 0
                 && same(&fit.predicted, &r.predicted)
                 && same(&fit.variance, &r.variance)
-                && same(&fit.drift_coefficients, &r.coefficients)
+                && same(&fit.multipliers, &r.multipliers)
+                && same(&fit.trend, &r.trend)
                 && same(&fit.weights, &r.weights)
                 && fit.verdicts == r.verdicts
         }

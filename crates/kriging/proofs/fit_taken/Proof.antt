@@ -20,12 +20,14 @@ use Rattle.elimination.proofs.Stops.{refused-exactly}
 use Rattle.survey.specs.Survey.{Survey, wells, columns, size}
 use Rattle.fit.specs.Drift.{DriftIn, drift}
 use Rattle.fit.specs.Assembly.{between, joined, entry, assembled}
-use Rattle.fit.specs.Fit.{answered}
+use Rattle.fit.specs.Areas.{withTrend}
+use Rattle.fit.specs.Node.{nodeOf}
+use Rattle.fit.specs.Fit.{nodesAnswered, answered}
 use Rattle.kriging.proofs.Taken.{few-wells, few-columns, columns-counted, coords-twice, externals-whole, node-externals}
-use Rattle.kriging.proofs.Taken.{work-long, predicted-long, variance-long, verdicts-long, weights-long, coefficients-long}
-use Rattle.kriging.proofs.Fitting.{drift-laid, matrix-laid, taken-there}
-use Rattle.kriging.proofs.fit_taken.Proof.States.{at-entry, at-table, at-columns, at-laid, at-drift, at-matrix, at-ended, at-done, at-solved, at-nodes}
-use Rattle.kriging.proofs.fit_taken.Proof.States.{survey-of, areas-of}
+use Rattle.kriging.proofs.Taken.{work-long, predicted-long, variance-long, verdicts-long, weights-long, multipliers-long, trend-long}
+use Rattle.kriging.proofs.Fitting.{drift-laid, matrix-laid, trend-is, taken-there}
+use Rattle.kriging.proofs.fit_taken.Proof.States.{at-entry, at-table, at-columns, at-laid, at-drift, at-matrix, at-ended}
+use Rattle.kriging.proofs.fit_taken.Proof.States.{at-trend, at-done, at-solved, at-nodes, survey-of, areas-of}
 use Rattle.kriging.proofs.fit_taken.Statement.{statement}
 use Rattle.kriging.proofs.fit_taken.Tie as tie
 mod States
@@ -46,6 +48,10 @@ fits c =
 -- let p = survey_checks::counts::drift_columns(bases);
 drift-columns-requires : tie.Need-drift-columns-requires
 drift-columns-requires c κs = search needs
+
+-- let size = n + p;
+add-size : tie.Need-add-size
+add-size c = search needs
 
 -- let table = exponential::fraction_table();
 fraction-table-requires : tie.Need-fraction-table-requires
@@ -123,24 +129,35 @@ assemble-requires c κs =
       at-table f .fraction-table .ensures,
     )
 
--- match elimination::gauss_jordan_invert_uked(work, n + p) {
-add-gauss-jordan-invert-uked : tie.Need-add-gauss-jordan-invert-uked
-add-gauss-jordan-invert-uked c = search needs
-
+-- match elimination::gauss_jordan_invert_uked(work, size) {
 gauss-jordan-invert-uked-requires : tie.Need-gauss-jordan-invert-uked-requires
 gauss-jordan-invert-uked-requires c κs = search needs
 
--- &drift,
+-- it leaves the area as long as it came, and so long enough
+same-work : (c : tie.After-gauss-jordan-invert-uked) → let d = at-columns (at-drift (at-matrix c)) in
+    length (c .gauss-jordan-invert-uked .last .0) ≡ length (at-entry d .args .work .now)
+same-work c = c .gauss-jordan-invert-uked .kept .0 ∙ at-matrix c .assemble .kept .1 .1 .1 .1 .1 .1 .0
+
+finished-long : (c : tie.After-gauss-jordan-invert-uked) → let s = survey-of (at-columns (at-drift (at-matrix c))) in
+    2 * size s * size s ≤ length (c .gauss-jordan-invert-uked .last .0)
+finished-long c = let d = at-columns (at-drift (at-matrix c)) in omega (arith, work-long (survey-of d) (areas-of d) (at-entry d .pre), same-work c)
+
+-- Elimination::Done => {
 enum-told : tie.Need-enum-told
 enum-told c = search needs
 
+-- solution::fill_trend(work, size, values, trend);
+fill-trend-requires : tie.Need-fill-trend-requires
+fill-trend-requires c κs = search needs
+
+-- &drift,
 slice-aggregate-krige-nodes : tie.Need-slice-aggregate-krige-nodes
 slice-aggregate-krige-nodes c = search needs
 
 -- krige_nodes(
 krige-nodes-requires : tie.Need-krige-nodes-requires
 krige-nodes-requires c κs =
-    let g = at-solved c in
+    let g = at-solved (at-trend c .before) in
     let f = at-drift (at-matrix g) in
     let d = at-columns f in
     let s = survey-of d in
@@ -152,12 +169,12 @@ krige-nodes-requires c κs =
       omega (arith, counted d, few-wells s a t, few-columns s a t),
       node-externals s a t,
       subst (λ (p : ℕ). 2 * (wells s + p) * (wells s + p) ≤ length (g .gauss-jordan-invert-uked .last .0)) (sym (counted d))
-          (omega (arith, work-long s a t, g .gauss-jordan-invert-uked .kept .0, at-matrix g .assemble .kept .1 .1 .1 .1 .1 .1 .0)),
+          (finished-long g),
       predicted-long s a t,
       variance-long s a t,
       verdicts-long s a t,
       weights-long s a t,
-      subst (λ (p : ℕ). p ≤ length (at-entry d .args .coefficients .now)) (sym (counted d)) (coefficients-long s a t),
+      subst (λ (p : ℕ). p ≤ length (at-entry d .args .multipliers .now)) (sym (counted d)) (multipliers-long s a t),
       at-table f .fraction-table .ensures,
     )
 
@@ -171,7 +188,7 @@ enum-told-3 c = search needs
 
 -- fn fit_taken(
 same-length : tie.Need-same-length
-same-length c = search needs
+same-length c = same-work (at-solved (at-trend (at-nodes c .before) .before))
 
 same-length-2 : tie.Need-same-length-2
 same-length-2 c = search needs
@@ -188,21 +205,29 @@ same-length-5 c = search needs
 same-length-6 : tie.Need-same-length-6
 same-length-6 c = search needs
 
+same-length-7 : tie.Need-same-length-7
+same-length-7 c = search needs
+
 returns : tie.Need-returns
 unfolding afterElimination answered
 returns c =
     let n = at-nodes c in
-    let g = at-solved (n .before) in
+    let lent = at-trend (n .before) .before in
+    let g = at-solved lent in
     let d = at-columns (at-drift (at-matrix g)) in
     let s = survey-of d in
     let a = areas-of d in
-    ap (outcome 0) (n .krige-nodes .ensures (at-entry d .args .external .now) (drift-in (at-drift (at-matrix g))))
+    let t = at-trend (n .before) .fill-trend in
+    ap (outcome 0)
+    (n .krige-nodes .ensures (at-entry d .args .external .now) (t .last .1 .1 .1 .0) (drift-in (at-drift (at-matrix g)))
+    ∙ ap (withTrend (nodesAnswered s a (g .gauss-jordan-invert-uked .last .0) (nodeOf s (g .gauss-jordan-invert-uked .last .0))))
+    (t .ensures ∙ trend-is s (g .gauss-jordan-invert-uked .last .0) (a .trend) _ (counted d) (finished-long g) (trend-long s a (at-entry d .pre))))
     ∙ taken-there s a Done (g .gauss-jordan-invert-uked .last .0) (at-entry d .pre)
-    (ap (λ (r : Elimination). elimination.outcomeOf r (g .gauss-jordan-invert-uked .last .0)) (sym (at-done (n .before) .enum-told .given .1))
+    (ap (λ (r : Elimination). elimination.outcomeOf r (g .gauss-jordan-invert-uked .last .0)) (sym (at-done lent .enum-told .given .1))
     ∙ eliminated-in g)
 
-same-length-7 : tie.Need-same-length-7
-same-length-7 c = search needs
+same-length-8 : tie.Need-same-length-8
+same-length-8 c = search needs
 
 returns-2 : tie.Need-returns-2
 unfolding afterElimination
@@ -212,8 +237,8 @@ returns-2 c =
     taken-there (survey-of d) (areas-of d) (Stopped _) (g .gauss-jordan-invert-uked .last .0) (at-entry d .pre)
     (ap (λ (r : Elimination). elimination.outcomeOf r (g .gauss-jordan-invert-uked .last .0)) (sym (c .enum-told2 .given .1)) ∙ eliminated-in g)
 
-same-length-8 : tie.Need-same-length-8
-same-length-8 c = search needs
+same-length-9 : tie.Need-same-length-9
+same-length-9 c = search needs
 
 returns-3 : tie.Need-returns-3
 returns-3 c =
@@ -230,14 +255,15 @@ fit-taken-spec =
     tie.close
     (tie.spec
     drift-columns-requires
+    add-size
     fraction-table-requires
     slice-aggregate-fill-drift
     fill-drift-requires
     slice-aggregate-assemble
     assemble-requires
-    add-gauss-jordan-invert-uked
     gauss-jordan-invert-uked-requires
     enum-told
+    fill-trend-requires
     slice-aggregate-krige-nodes
     krige-nodes-requires
     enum-told-2
@@ -248,8 +274,9 @@ fit-taken-spec =
     same-length-4
     same-length-5
     same-length-6
-    returns
     same-length-7
-    returns-2
+    returns
     same-length-8
+    returns-2
+    same-length-9
     returns-3)

@@ -13,46 +13,52 @@ use Rattle.kriging.proofs.universal_kriging_fit.Statement.{statement}
 use Rattle.kriging.proofs.universal_kriging_fit.Tie as tie
 
 -- The states that the needs look back to, in the order of the code: a name takes a later state back to its own.
-abbrev at-half-lent : tie.After-fit-refusal → tie.After-fit-refusal-arg4
+abbrev at-half-lent : tie.After-fit-refusal → tie.After-fit-refusal-arg5
 at-half-lent c = c .before .before .before
 
-abbrev at-first-lent : tie.After-fit-refusal → tie.After-fit-refusal-arg
-at-first-lent c = at-half-lent c .before .before .before
+abbrev at-second-lent : tie.After-fit-refusal → tie.After-fit-refusal-arg2
+at-second-lent c = at-half-lent c .before .before .before
 
 abbrev at-limits : tie.After-fit-refusal → tie.After-base
-at-limits c = at-first-lent c .before
+at-limits c = at-second-lent c .before .before
 
 -- the lists and the areas, each known by its elements
 abbrev at-lists : tie.After-shared-slice-known6 → tie.After-shared-slice-known3
 at-lists c = c .before .before .before
 
-abbrev at-areas : tie.After-slice-known6 → tie.After-slice-known3
+abbrev at-areas : tie.After-slice-known7 → tie.After-slice-known4
 at-areas c = c .before .before .before
 
-abbrev at-last-list : tie.After-slice-known6 → tie.After-shared-slice-known6
-at-last-list c = at-areas c .before .before .before
+abbrev at-first-area : tie.After-slice-known7 → tie.After-slice-known
+at-first-area c = at-areas c .before .before .before
 
 abbrev at-entry : tie.After-fit-refusal → tie.Start
-at-entry c = at-lists (at-last-list (at-limits c .before)) .before .before .before
+at-entry c = at-lists (at-first-area (at-limits c .before) .before) .before .before .before
 
 -- the fit of what is taken: what is lent to it, and how it comes back
-abbrev at-areas-lent : tie.After-fit-taken-arg6 → tie.After-fit-taken-arg3
+abbrev at-areas-lent : tie.After-fit-taken-arg7 → tie.After-fit-taken-arg4
 at-areas-lent c = c .before .before .before
 
-abbrev at-taken : tie.After-fit-taken-arg6 → tie.After-enum-told
-at-taken c = at-areas-lent c .before .before .before
+abbrev at-work-lent : tie.After-fit-taken-arg7 → tie.After-fit-taken-arg
+at-work-lent c = at-areas-lent c .before .before .before
 
-abbrev at-weights : tie.After-slice-known12 → tie.After-weights
-at-weights c = c .before .before .before
+abbrev at-taken : tie.After-fit-taken-arg7 → tie.After-enum-told
+at-taken c = at-work-lent c .before
 
-abbrev at-verdicts : tie.After-weights → tie.After-slice-known9
+abbrev at-multipliers : tie.After-slice-known14 → tie.After-multipliers
+at-multipliers c = c .before .before .before
+
+abbrev at-verdicts : tie.After-multipliers → tie.After-slice-known11
 at-verdicts c = c .before .before .before
 
-abbrev at-predicted : tie.After-slice-known9 → tie.After-predicted
-at-predicted c = c .before .before .before
+abbrev at-variance : tie.After-slice-known11 → tie.After-variance
+at-variance c = c .before .before .before
 
-abbrev at-fitted : tie.After-slice-known12 → tie.After-fit-taken
-at-fitted c = at-predicted (at-verdicts (at-weights c)) .before .before .before
+abbrev at-work : tie.After-slice-known14 → tie.After-slice-known8
+at-work c = at-variance (at-verdicts (at-multipliers c)) .before .before .before
+
+abbrev at-fitted : tie.After-slice-known14 → tie.After-fit-taken
+at-fitted c = at-work c .before .before
 
 -- the survey and the areas that came
 abbrev survey-of : tie.After-fit-refusal → Survey
@@ -64,7 +70,7 @@ survey-of c =
 abbrev areas-of : tie.After-fit-refusal → Areas
 areas-of c =
     let a = at-entry c .args in
-    areasOf (a .work .now) (a .predicted .now) (a .variance .now) (a .verdicts .now) (a .weights .now) (a .drift-coefficients .now)
+    areasOf (a .work .now) (a .predicted .now) (a .variance .now) (a .verdicts .now) (a .weights .now) (a .multipliers .now) (a .trend .now)
 
 -- what the judgement says: the number of the refusal, with the limits of the base
 judgement : (c : tie.After-fit-refusal) → judged (c .fit-refusal .result) ≡ refusal base (survey-of c) (areas-of c)
@@ -101,6 +107,9 @@ same-length-5 c = search needs
 same-length-6 : tie.Need-same-length-6
 same-length-6 c = search needs
 
+same-length-7 : tie.Need-same-length-7
+same-length-7 c = search needs
+
 returns : tie.Need-returns
 returns c =
     let f = c .before .before .before in
@@ -118,9 +127,6 @@ fit-taken-requires c κs =
     sym (judgement f) ∙ ap judged (t .enum-told .given .1)
 
 -- pub fn universal_kriging_fit(
-same-length-7 : tie.Need-same-length-7
-same-length-7 c = search needs
-
 same-length-8 : tie.Need-same-length-8
 same-length-8 c = search needs
 
@@ -135,6 +141,12 @@ same-length-11 c = search needs
 
 same-length-12 : tie.Need-same-length-12
 same-length-12 c = search needs
+
+same-length-13 : tie.Need-same-length-13
+same-length-13 c = search needs
+
+same-length-14 : tie.Need-same-length-14
+same-length-14 c = search needs
 
 returns-2 : tie.Need-returns-2
 returns-2 c =
@@ -155,13 +167,15 @@ universal-kriging-fit-spec =
     same-length-4
     same-length-5
     same-length-6
+    same-length-7
     returns
     enum-told
     fit-taken-requires
-    same-length-7
     same-length-8
     same-length-9
     same-length-10
     same-length-11
     same-length-12
+    same-length-13
+    same-length-14
     returns-2)

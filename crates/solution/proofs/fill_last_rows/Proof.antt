@@ -9,6 +9,7 @@ use lib.Ieee.{Float}
 use Rattle.area.specs.Area.{written}
 use Rattle.area.proofs.Start.{next-start}
 use Rattle.area.proofs.Places.{all-turns}
+use Rattle.elimination.specs.Inverse.{timesInverse}
 use Rattle.solution.proofs.Terms.{rows}
 use Rattle.solution.proofs.fill_last_rows.Statement.{statement}
 use Rattle.solution.proofs.fill_last_rows.Tie as tie
@@ -27,7 +28,7 @@ loop-holds c = (omega arith, refl, λ xs h. h)
 
 -- src/lib.rt:73:16
 one-row-requires : tie.Need-one-row-requires Inv-loop μ-loop
-one-row-requires c κs = let p = c .before .before .before .before .before .pre in (omega arith, p .1, p .2)
+one-row-requires c κs = let p = c .before .before .before .before .before .pre in (omega arith, omega arith, p .1, p .2)
 
 -- src/lib.rt:73:9
 mul-z : tie.Need-mul-z Inv-loop μ-loop
@@ -47,6 +48,7 @@ loop-less c = omega arith
 
 -- src/lib.rt:72:5
 loop-again : tie.Need-loop-again Inv-loop μ-loop
+unfolding timesInverse
 loop-again c =
     let l = c .before .before .loop in (
       omega arith,

@@ -8,23 +8,23 @@ use lib.Ieee.{Float, nan, binary64, add, mul}
 use Rattle.ieee.specs.Sums.{runningSum}
 use Rattle.ieee.proofs.Sums.{no-terms, sum-turn, all-terms}
 use Rattle.elimination.proofs.Rows.{row-inside}
-use Rattle.elimination.specs.Inverse.{inverseAt, timesInverse}
+use Rattle.elimination.specs.Inverse.{inverseAt}
 use Rattle.solution.proofs.one_row.Statement.{statement}
 use Rattle.solution.proofs.one_row.Tie as tie
 
 abbrev Inv-loop : tie.InvT-loop
-Inv-loop work size b i row acc₀ j₀ acc j =
-    (j ≤ size) × (row ≡ i * (2 * size) + size) × (acc ≡ runningSum j (λ k. mul binary64 (inverseAt size work i k) (getD b k nan)))
+Inv-loop work size b count i row acc₀ j₀ acc j =
+    (j ≤ count) × (row ≡ i * (2 * size) + size) × (acc ≡ runningSum j (λ k. mul binary64 (inverseAt size work i k) (getD b k nan)))
 
 abbrev μ-loop : tie.MeasureT-loop
-μ-loop work size b i row acc₀ j₀ acc j = size - j
+μ-loop work size b count i row acc₀ j₀ acc j = count - j
 
 abbrev State : (tie.InvT-loop → tie.MeasureT-loop → Type 0) → Type 0
 State S = S Inv-loop μ-loop
 
 -- row i lies inside the work area
 inside : (c : State tie.Start) → let a = c .args in a .i * (2 * a .size) + 2 * a .size ≤ length (a .work .now)
-inside c = let a = c .args in row-inside (a .size) (a .i) (length (a .work .now)) (c .pre .0) (c .pre .1)
+inside c = let a = c .args in row-inside (a .size) (a .i) (length (a .work .now)) (c .pre .0) (c .pre .2)
 
 -- let row = i * (2 * size) + size;
 mul-row : tie.Need-mul-row Inv-loop μ-loop
@@ -36,7 +36,7 @@ mul-row-2 c = omega (arith, inside c)
 add-row : tie.Need-add-row Inv-loop μ-loop
 add-row c = omega (arith, inside c)
 
--- for j in 0..size {
+-- for j in 0..count {
 loop-holds : tie.Need-loop-holds Inv-loop μ-loop
 loop-holds c = (omega arith, refl, no-terms _)
 
@@ -56,7 +56,7 @@ mul-acc-2 c = omega arith
 shared-slice-read-acc-2 : tie.Need-shared-slice-read-acc-2 Inv-loop μ-loop
 shared-slice-read-acc-2 c = omega arith
 
--- for j in 0..size {
+-- for j in 0..count {
 add-j : tie.Need-add-j Inv-loop μ-loop
 add-j c = omega arith
 
@@ -76,12 +76,11 @@ product c =
 loop-again : tie.Need-loop-again Inv-loop μ-loop
 loop-again c = let l = c .before .before .before .loop in (omega arith, refl, sum-turn (l .j) _ (l .acc) _ (product (c .before .before .before)) (l .inv .2))
 
--- fn times_inverse(work: &[f64], size: usize, b: &[f64], i: usize) -> f64
+-- fn one_row(work: &[f64], size: usize, b: &[f64], count: usize, i: usize) -> f64
 returns : tie.Need-returns Inv-loop μ-loop
-unfolding timesInverse
 returns c =
     let l = c .before .loop in
-    let all : l .j ≡ c .before .before .args .size = omega arith in
+    let all : l .j ≡ c .before .before .args .count = omega arith in
     all-terms _ all (l .inv .2)
 
 pub one-row-spec : {M : Type 1} → statement M

@@ -26,13 +26,13 @@ abbrev at-entry : tie.After-universal-kriging-fit → tie.Start
 at-entry c =
     let later = c .before .before .before in
     let earlier = later .before .before .before in
-    at-lists (earlier .before)
+    at-lists (earlier .before .before)
 
-abbrev at-fit : tie.After-coefficients2 → tie.After-universal-kriging-fit
-at-fit c = let d = c .before .before .before in d .before .before .before
+abbrev at-fit : tie.After-trend2 → tie.After-universal-kriging-fit
+at-fit c = let d = c .before .before .before in d .before .before .before .before
 
 abbrev at-done : tie.After-print-answer-arg → tie.After-enum-told
-at-done c = let d = c .before .before .before in d .before .before
+at-done c = let d = c .before .before .before in d .before .before .before
 
 abbrev at-refused : tie.After-write-refusal-arg → tie.After-fit
 at-refused c = c .before .before
@@ -48,7 +48,7 @@ left c =
     let past-lists = c .universal-kriging-fit .last .1 .1 .1 .1 in
     let work = past-lists .1 .1 .1 .1 in
     let verdicts = work .1 .1 .1 in
-    areasOf (work .0) (work .1 .0) (work .1 .1 .0) (verdicts .0) (verdicts .1 .0) (verdicts .1 .1 .0)
+    areasOf (work .0) (work .1 .0) (work .1 .1 .0) (verdicts .0) (verdicts .1 .0) (verdicts .1 .1 .0) (verdicts .1 .1 .1 .0)
 
 -- how the fit ended
 ended : (c : tie.After-universal-kriging-fit) → outcomeOf (c .universal-kriging-fit .result) (left c) ≡ fitted base (survey-of c) ownAreas
@@ -82,9 +82,13 @@ slice-aggregate-universal-kriging-fit-4 c = search needs
 slice-aggregate-universal-kriging-fit-5 : tie.Need-slice-aggregate-universal-kriging-fit-5
 slice-aggregate-universal-kriging-fit-5 c = search needs
 
--- &mut coefficients,
+-- &mut multipliers,
 slice-aggregate-universal-kriging-fit-6 : tie.Need-slice-aggregate-universal-kriging-fit-6
 slice-aggregate-universal-kriging-fit-6 c = search needs
+
+-- &mut trend,
+slice-aggregate-universal-kriging-fit-7 : tie.Need-slice-aggregate-universal-kriging-fit-7
+slice-aggregate-universal-kriging-fit-7 c = search needs
 
 -- let fit = universal_kriging_fit(
 universal-kriging-fit-requires : tie.Need-universal-kriging-fit-requires
@@ -106,9 +110,13 @@ slice-aggregate-print-answer-2 c = search needs
 slice-aggregate-print-answer-3 : tie.Need-slice-aggregate-print-answer-3
 slice-aggregate-print-answer-3 c = search needs
 
--- &coefficients,
+-- &multipliers,
 slice-aggregate-print-answer-4 : tie.Need-slice-aggregate-print-answer-4
 slice-aggregate-print-answer-4 c = search needs
+
+-- &trend,
+slice-aggregate-print-answer-5 : tie.Need-slice-aggregate-print-answer-5
+slice-aggregate-print-answer-5 c = search needs
 
 -- what the listing asks
 print-answer-requires : tie.Need-print-answer-requires
@@ -152,12 +160,14 @@ print-fit-spec =
     slice-aggregate-universal-kriging-fit-4
     slice-aggregate-universal-kriging-fit-5
     slice-aggregate-universal-kriging-fit-6
+    slice-aggregate-universal-kriging-fit-7
     universal-kriging-fit-requires
     enum-told
     slice-aggregate-print-answer
     slice-aggregate-print-answer-2
     slice-aggregate-print-answer-3
     slice-aggregate-print-answer-4
+    slice-aggregate-print-answer-5
     print-answer-requires
     enum-known-fit
     write-refusal-requires

@@ -25,9 +25,13 @@ slice-aggregate-mark-all-4 c = search needs
 slice-aggregate-mark-all-5 : tie.Need-slice-aggregate-mark-all-5
 slice-aggregate-mark-all-5 c = search needs
 
--- &mut coefficients,
+-- &mut multipliers,
 slice-aggregate-mark-all-6 : tie.Need-slice-aggregate-mark-all-6
 slice-aggregate-mark-all-6 c = search needs
+
+-- &mut trend,
+slice-aggregate-mark-all-7 : tie.Need-slice-aggregate-mark-all-7
+slice-aggregate-mark-all-7 c = search needs
 
 -- mark_all(
 mark-all-requires : tie.Need-mark-all-requires
@@ -53,9 +57,13 @@ least-requires-4 c κs = search needs
 least-requires-5 : tie.Need-least-requires-5
 least-requires-5 c κs = search needs
 
--- let f = least(lent.coefficients, COLUMNS);
+-- let f = least(lent.multipliers, COLUMNS);
 least-requires-6 : tie.Need-least-requires-6
 least-requires-6 c κs = search needs
+
+-- let g = least(lent.trend, COLUMNS);
+least-requires-7 : tie.Need-least-requires-7
+least-requires-7 c κs = search needs
 
 -- &mut work[..a],
 array-borrow-prefix-work : tie.Need-array-borrow-prefix-work
@@ -92,12 +100,19 @@ array-borrow-prefix-weights c = search needs
 slice-aggregate-replay-lent-5 : tie.Need-slice-aggregate-replay-lent-5
 slice-aggregate-replay-lent-5 c = sym (length-take-le _ _ (search needs))
 
--- &mut coefficients[..f],
-array-borrow-prefix-coefficients : tie.Need-array-borrow-prefix-coefficients
-array-borrow-prefix-coefficients c = search needs
+-- &mut multipliers[..f],
+array-borrow-prefix-multipliers : tie.Need-array-borrow-prefix-multipliers
+array-borrow-prefix-multipliers c = search needs
 
 slice-aggregate-replay-lent-6 : tie.Need-slice-aggregate-replay-lent-6
 slice-aggregate-replay-lent-6 c = sym (length-take-le _ _ (search needs))
+
+-- &mut trend[..g],
+array-borrow-prefix-trend : tie.Need-array-borrow-prefix-trend
+array-borrow-prefix-trend c = search needs
+
+slice-aggregate-replay-lent-7 : tie.Need-slice-aggregate-replay-lent-7
+slice-aggregate-replay-lent-7 c = sym (length-take-le _ _ (search needs))
 
 -- replay_lent(
 replay-lent-requires : tie.Need-replay-lent-requires
@@ -120,6 +135,7 @@ replay-fit-spec =
     slice-aggregate-mark-all-4
     slice-aggregate-mark-all-5
     slice-aggregate-mark-all-6
+    slice-aggregate-mark-all-7
     mark-all-requires
     least-requires
     least-requires-2
@@ -127,6 +143,7 @@ replay-fit-spec =
     least-requires-4
     least-requires-5
     least-requires-6
+    least-requires-7
     array-borrow-prefix-work
     slice-aggregate-replay-lent
     array-borrow-prefix-predicted
@@ -137,8 +154,10 @@ replay-fit-spec =
     slice-aggregate-replay-lent-4
     array-borrow-prefix-weights
     slice-aggregate-replay-lent-5
-    array-borrow-prefix-coefficients
+    array-borrow-prefix-multipliers
     slice-aggregate-replay-lent-6
+    array-borrow-prefix-trend
+    slice-aggregate-replay-lent-7
     replay-lent-requires
     same-length
     returns)

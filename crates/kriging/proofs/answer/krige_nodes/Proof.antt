@@ -29,7 +29,7 @@ external-columns-requires c κs = search needs
 drift-finite-requires : tie.Need-drift-finite-requires Inv-loop μ-loop
 drift-finite-requires c κs = search needs
 
--- store_zeros(coefficients, p);
+-- store_zeros(multipliers, p);
 store-zeros-requires : tie.Need-store-zeros-requires Inv-loop μ-loop
 store-zeros-requires c κs = at-columns (c .before .before) .pre .9
 
@@ -50,7 +50,7 @@ loop-holds c =
       refl,
       refl,
       refl,
-      λ external hF. none-yet _ _ _ (at-columns k .pre .1) _ (zeros .store-zeros .ensures),
+      λ external trend hF. none-yet _ _ _ (at-columns k .pre .1) _ (zeros .store-zeros .ensures),
     )
 
 -- let node = krige_node(
@@ -134,7 +134,7 @@ mul-store c =
 store-requires : tie.Need-store-requires Inv-loop μ-loop
 store-requires c κs = let krige = at-storing c in omega (arith, weights-inside krige, z-first krige)
 
--- store(&z[n..size], coefficients, 0);
+-- store(&z[n..size], multipliers, 0);
 mul-store-2 : tie.Need-mul-store-2 Inv-loop μ-loop
 mul-store-2 c = let l = loop-of (at-node (c .before .before)) in omega (arith, at-entry l .pre .2)
 
@@ -179,12 +179,12 @@ loop-again c =
       simp length-set (i .8),
       first .store .kept .1 .0 ∙ i .9,
       last .store2 .kept .1 .0 ∙ i .10,
-      λ external hF.
+      λ external trend hF.
           let s = survey-of l external in
           let node = v .krige-node .ensures .1 .1 external hF in
           one-more s _ (nodeOf s (at-entry l .args .work .now)) (at-entry l .pre .1) (l .loop .q) _ (v .krige-node .result .z) _ _ _ _ _
           (omega (arith, v .krige-node .ensures .0, at-entry l .pre .2, at-entry l .pre .1)) (node .0) (node .1) (node .2) (node .3)
-          (first .store .ensures) (last .store2 .ensures) (i .11 external hF),
+          (first .store .ensures) (last .store2 .ensures) (i .11 external trend hF),
     )
 
 -- pub(crate) fn krige_nodes(
@@ -206,10 +206,10 @@ same-length-5 c = search needs
 returns : tie.Need-returns Inv-loop μ-loop
 returns c =
     let l = c .before in
-    λ external hF.
+    λ external trend hF.
     let s = survey-of l external in
-    all-nodes s _ (nodeOf s (at-entry l .args .work .now)) (at-entry l .pre .1) (l .loop .q) _ (at-entry l .args .coefficients .now)
-    (omega (arith, l .loop .inv .1)) (at-zeros l .store-zeros .ensures) (l .loop .inv .11 external hF)
+    all-nodes s _ (nodeOf s (at-entry l .args .work .now)) (at-entry l .pre .1) (l .loop .q) _ (at-entry l .args .multipliers .now)
+    (omega (arith, l .loop .inv .1)) (at-zeros l .store-zeros .ensures) (l .loop .inv .11 external trend hF)
 
 pub krige-nodes-spec : {M : Type 1} → statement M
 krige-nodes-spec =

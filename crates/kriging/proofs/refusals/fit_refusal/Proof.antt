@@ -29,7 +29,7 @@ survey c =
 abbrev areas : tie.Start → Areas
 areas c =
     let a = c .args in
-    areasOf (a .work .now) (a .predicted .now) (a .variance .now) (a .verdicts .now) (a .weights .now) (a .coefficients .now)
+    areasOf (a .work .now) (a .predicted .now) (a .variance .now) (a .verdicts .now) (a .weights .now) (a .multipliers .now) (a .trend .now)
 
 abbrev whole : tie.Start → ℕ
 whole c = refusal (c .args .limits) (survey c) (areas c)
@@ -55,7 +55,7 @@ abbrev known-3 : tie.After-shared-slice-known6 → tie.After-shared-slice-known3
 known-3 c = c .before .before .before
 
 abbrev at-survey : tie.After-survey-refusal → tie.Start
-at-survey c = known-3 (known-6 (known-9 (c .before))) .before .before .before
+at-survey c = known-3 (known-6 (known-9 (c .before .before))) .before .before .before
 
 abbrev at-columns : tie.After-drift-columns → tie.Start
 at-columns c = at-survey (c .before .before .before)
@@ -135,7 +135,7 @@ short-for c p =
     ltb (length (a .predicted)) (nodeCount s)
     || (ltb (length (a .variance)) (nodeCount s)
     || (ltb (length (a .verdicts)) (nodeCount s)
-    || (ltb (length (a .weights)) (wells s * nodeCount s) || ltb (length (a .coefficients)) p)))
+    || (ltb (length (a .weights)) (wells s * nodeCount s) || (ltb (length (a .multipliers)) p || ltb (length (a .trend)) p))))
 
 answer-is : (c : tie.After-short-answer) → let s = at-work (c .before) in c .short-answer .result ≡ shortAnswer (survey s) (areas s)
 answer-is c = c .short-answer .ensures ∙ ap (short-for (at-work (c .before))) (exactly (c .before .before .before))

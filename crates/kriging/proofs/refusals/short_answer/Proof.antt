@@ -10,8 +10,11 @@ use Rattle.kriging.proofs.refusals.short_answer.Statement.{statement}
 use Rattle.kriging.proofs.refusals.short_answer.Tie as tie
 
 -- What is left to look at, area after area.
+abbrev multipliers-left : tie.Start → Bool
+multipliers-left c = ltb (c .args .multipliers) (c .args .p) || ltb (c .args .trend) (c .args .p)
+
 abbrev weights-left : tie.Start → Bool
-weights-left c = let a = c .args in ltb (a .weights) (a .n * a .m) || ltb (a .coefficients) (a .p)
+weights-left c = ltb (c .args .weights) (c .args .n * c .args .m) || multipliers-left c
 
 abbrev verdicts-left : tie.Start → Bool
 verdicts-left c = ltb (c .args .verdicts) (c .args .m) || weights-left c
@@ -50,9 +53,19 @@ below-product-requires c κs = search needs
 returns-4 : tie.Need-returns-4
 returns-4 c = let h = c .before in sym (past-3 (h .before) ∙ one _ (sym (h .below-product .ensures) ∙ c .if4 .taken))
 
--- coefficients < p
+abbrev at-entry : tie.Else4 → tie.Start
+at-entry c = c .before .before .before .before .before
+
+past-4 : (c : tie.Else4) → whole (at-entry c) ≡ multipliers-left (at-entry c)
+past-4 c = let h = c .before in past-3 (h .before) ∙ other _ (sym (h .below-product .ensures) ∙ c .if4 .left)
+
+-- if multipliers < p
 returns-5 : tie.Need-returns-5
-returns-5 c = let h = c .before in sym (past-3 (h .before) ∙ other _ (sym (h .below-product .ensures) ∙ c .if4 .left))
+returns-5 c = sym (past-4 (c .before) ∙ one _ (lt-ltb _ _ (c .if5 .taken)))
+
+-- trend < p
+returns-6 : tie.Need-returns-6
+returns-6 c = let a = at-entry (c .before) .args in sym (past-4 (c .before) ∙ other _ (le-ltb (a .multipliers) (a .p) (c .if5 .left)))
 
 pub short-answer-spec : {M : Type 1} → statement M
-short-answer-spec = tie.close (tie.spec returns returns-2 returns-3 below-product-requires returns-4 returns-5)
+short-answer-spec = tie.close (tie.spec returns returns-2 returns-3 below-product-requires returns-4 returns-5 returns-6)

@@ -24,7 +24,7 @@ abbrev lists-known : tie.After-model-of → tie.After-shared-slice-known6
 lists-known c =
     let later = c .before .before .before in
     let earlier = later .before .before .before in
-    earlier .before
+    earlier .before .before
 
 abbrev at-entry : tie.After-model-of → tie.Start
 at-entry c = let d = lists-known c .before .before .before in d .before .before .before
@@ -36,19 +36,22 @@ abbrev at-new : tie.After-universal-kriging-fit → tie.After-new
 at-new c =
     let later = c .before .before .before in
     let earlier = later .before .before .before in
-    earlier .before
+    earlier .before .before
 
-abbrev half-back : tie.After-slice-known12 → tie.After-slice-known9
+abbrev half-back : tie.After-slice-known14 → tie.After-slice-known11
 half-back c = let d = c .before .before .before in d .before .before .before
 
-abbrev at-fit : tie.After-slice-known12 → tie.After-universal-kriging-fit
-at-fit c = let d = half-back c .before .before .before in d .before .before .before
+abbrev at-fit : tie.After-slice-known14 → tie.After-universal-kriging-fit
+at-fit c =
+    let later = half-back c .before .before .before in
+    let earlier = later .before .before .before in
+    earlier .before .before
 
 -- the areas that came
 abbrev lent : tie.Start → Areas
 lent c =
     let a = c .args in
-    areasOf (a .work .now) (a .predicted .now) (a .variance .now) (a .verdicts .now) (a .weights .now) (a .coefficients .now)
+    areasOf (a .work .now) (a .predicted .now) (a .variance .now) (a .verdicts .now) (a .weights .now) (a .multipliers .now) (a .trend .now)
 
 -- how the call ends where the code is none, and the fit with a variogram
 abbrev away : tie.Start → Outcome Areas
@@ -70,7 +73,7 @@ abbrev left : tie.After-universal-kriging-fit → Areas
 left c =
     let work = c .universal-kriging-fit .last .1 .1 .1 .1 .1 .1 .1 .1 in
     let verdicts = work .1 .1 .1 in
-    areasOf (work .0) (work .1 .0) (work .1 .1 .0) (verdicts .0) (verdicts .1 .0) (verdicts .1 .1 .0)
+    areasOf (work .0) (work .1 .0) (work .1 .1 .0) (verdicts .0) (verdicts .1 .0) (verdicts .1 .1 .0) (verdicts .1 .1 .1 .0)
 
 -- the fit with the model that the code stands for is how the call ends
 with-known : (s : tie.Start) (n : ℕ) (fit : Fit) (after : Areas) (v : Variogram) (m : VariogramModel) → ((a : Areas) → outcome n a ≡ outcomeOf fit a)
@@ -127,6 +130,9 @@ same-length-5 c = search needs
 same-length-6 : tie.Need-same-length-6
 same-length-6 c = search needs
 
+same-length-7 : tie.Need-same-length-7
+same-length-7 c = search needs
+
 returns-2 : tie.Need-returns-2
 returns-2 c =
     let f = at-fit (c .before) in
@@ -153,4 +159,5 @@ nakwemol-fit-spec =
     same-length-4
     same-length-5
     same-length-6
+    same-length-7
     returns-2)

@@ -17,17 +17,18 @@ abbrev at-entry : tie.After-left-by-nodes → tie.Start
 at-entry c = c .before .before .before .before
 
 -- how long the listing is
-abbrev length-of : tie.After-left-by-nodes → List Float → List Float → List Float → ℕ
-length-of c figures variances coefficients = length (listing figures variances (at-entry c .args .verdicts .now) coefficients)
+abbrev length-of : tie.After-left-by-nodes → List Float → List Float → List Float → List Float → ℕ
+length-of c figures variances multipliers trend = length (listing figures variances (at-entry c .args .verdicts .now) multipliers trend)
 
--- what the coefficients' lines leave of the room is what the whole listing leaves of it
-left-of : (c : tie.After-left-by-nodes) (figures variances coefficients : List Float) → length coefficients ≡ at-entry c .args .p
-    → c .left-by-nodes .result - 22 * at-entry c .args .p ≡ at-entry c .args .size + 1 - length-of c figures variances coefficients
-left-of c figures variances coefficients e =
+-- what the columns' lines leave of the room is what the whole listing leaves of it
+left-of : (c : tie.After-left-by-nodes) (figures variances multipliers trend : List Float)
+    → length multipliers ≡ at-entry c .args .p → length trend ≡ at-entry c .args .p
+    → c .left-by-nodes .result - 45 * at-entry c .args .p ≡ at-entry c .args .size + 1 - length-of c figures variances multipliers trend
+left-of c figures variances multipliers trend e t =
     let nodes = c .left-by-nodes .ensures figures variances in
-    let room = c .before .left .ensures in
+    let room : c .before .left .result ≡ at-entry c .args .size + 1 - (c .before .before .decimal-length .result + 7) = c .before .left .ensures in
     let digits = c .before .before .decimal-length .ensures .0 in
-    omega (arith, listing-length figures variances (at-entry c .args .verdicts .now) coefficients)
+    omega (arith, listing-length figures variances (at-entry c .args .verdicts .now) multipliers trend)
 
 -- let room = left(size + 1, decimal_length(verdicts.len() as u64) + 7);
 add-left : tie.Need-add-left
@@ -49,25 +50,25 @@ left-by-nodes-requires c κs = search needs
 -- return false;
 returns : tie.Need-returns
 returns c =
-    λ figures variances coefficients e.
-    let l = left-of (c .before) figures variances coefficients e in
-    sym (lt-leb (length-of (c .before) figures variances coefficients) (at-entry (c .before) .args .size) (omega arith))
+    λ figures variances multipliers trend e t.
+    let l = left-of (c .before) figures variances multipliers trend e t in
+    sym (lt-leb (length-of (c .before) figures variances multipliers trend) (at-entry (c .before) .args .size) (omega arith))
 
--- p <= (rest - 1) / 22
+-- p <= (rest - 1) / 45
 sub-result : tie.Need-sub-result
 sub-result c = search needs
 
 -- pub(crate) fn listing_fits(verdicts: &[u8], p: usize, size: usize) -> bool
 returns-2 : tie.Need-returns-2
 returns-2 c =
-    λ figures variances coefficients e.
-    let l = left-of (c .before) figures variances coefficients e in
+    λ figures variances multipliers trend e t.
+    let l = left-of (c .before) figures variances multipliers trend e t in
     let a = at-entry (c .before) .args in
-    let long = length-of (c .before) figures variances coefficients in
+    let long = length-of (c .before) figures variances multipliers trend in
     let rest = c .before .left-by-nodes .result in
-    elim (decLt ((rest - 1) / 22) (a .p)) [
-      | yes p ↦ lt-leb (a .p) ((rest - 1) / 22) p ∙ sym (lt-leb long (a .size) (omega arith))
-      | no n ↦ le-leb (a .p) ((rest - 1) / 22) (omega arith) ∙ sym (le-leb long (a .size) (omega arith))
+    elim (decLt ((rest - 1) / 45) (a .p)) [
+      | yes p ↦ lt-leb (a .p) ((rest - 1) / 45) p ∙ sym (lt-leb long (a .size) (omega arith))
+      | no n ↦ le-leb (a .p) ((rest - 1) / 45) (omega arith) ∙ sym (le-leb long (a .size) (omega arith))
     ]
 
 pub listing-fits-spec : {M : Type 1} → statement M

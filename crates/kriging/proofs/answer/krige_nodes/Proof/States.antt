@@ -14,20 +14,20 @@ use Rattle.kriging.proofs.Progress.{Progress}
 use Rattle.kriging.proofs.answer.krige_nodes.Tie as tie
 
 abbrev pub Inv-loop : tie.InvT-loop
-Inv-loop values coords bases options table nodes node-external tolerance drift p work predicted₀ variance₀ verdicts₀ weights₀ coefficients₀
-    n size k finite-drift q₀ q-end predicted variance verdicts weights coefficients q =
+Inv-loop values coords bases options table nodes node-external tolerance drift p work predicted₀ variance₀ verdicts₀ weights₀ multipliers₀
+    n size k finite-drift q₀ q-end predicted variance verdicts weights multipliers q =
     (q ≤ q-end) × (q-end ≡ length nodes / 2) × (n ≡ length values) × (size ≡ n + p) × (k ≡ externalCount bases)
     × (finite-drift ≡ driftFinite n p (entryIn drift p))
     × (length predicted ≡ length predicted₀) × (length variance ≡ length variance₀) × (length verdicts ≡ length verdicts₀)
-    × (length weights ≡ length weights₀) × (length coefficients ≡ length coefficients₀)
-    × ((external : List Float) → let s = surveyOf values coords bases external nodes node-external options tolerance in
+    × (length weights ≡ length weights₀) × (length multipliers ≡ length multipliers₀)
+    × ((external trend : List Float) → let s = surveyOf values coords bases external nodes node-external options tolerance in
     DriftIn s drift
-    → Progress s (areasOf work predicted₀ variance₀ verdicts₀ weights₀ coefficients₀) (nodeOf s work) q
-    (areasOf work predicted variance verdicts weights coefficients))
+    → Progress s (areasOf work predicted₀ variance₀ verdicts₀ weights₀ multipliers₀ trend) (nodeOf s work) q
+    (areasOf work predicted variance verdicts weights multipliers trend))
 
 abbrev pub μ-loop : tie.MeasureT-loop
-μ-loop values coords bases options table nodes node-external tolerance drift p work predicted₀ variance₀ verdicts₀ weights₀ coefficients₀
-    n size k finite-drift q₀ q-end predicted variance verdicts weights coefficients q = q-end - q
+μ-loop values coords bases options table nodes node-external tolerance drift p work predicted₀ variance₀ verdicts₀ weights₀ multipliers₀
+    n size k finite-drift q₀ q-end predicted variance verdicts weights multipliers q = q-end - q
 
 abbrev pub State : (tie.InvT-loop → tie.MeasureT-loop → Type 0) → Type 0
 State S = S Inv-loop μ-loop
@@ -68,7 +68,7 @@ at-storing c = at-z c .before .before
 abbrev pub at-node : State tie.After-store → State tie.After-krige-node
 at-node c = at-storing (c .before)
 
--- the weights, from where the coefficients are stored and from past that
+-- the weights, from where the multipliers are stored and from past that
 abbrev at-part : State tie.After-store-arg3 → State tie.After-slice-known7
 at-part c = c .before .before .before
 
