@@ -7,6 +7,7 @@ use Rattle.cases.specs.Cases.{FourBins, Cases}
 use Rattle.cases.proofs.FitCases.{fit-cases}
 use Rattle.cases.proofs.InterpolationCases.{interpolation-cases}
 use Rattle.cases.proofs.ModelCases.{model-cases}
+use Rattle.cases.proofs.SlopeCases.{slope-cases}
 
 four-bins : FourBins
 unfolding calculated add sub mul div lt le eq ofInt toUnsigned round ofBits toBits
@@ -17,6 +18,7 @@ cases = record {
   fits = fit-cases;
   interpolations = interpolation-cases;
   models = model-cases;
+  slopes = slope-cases;
   bins = four-bins;
   file-written = writes-bytes;
   file-read = reads-bytes;

@@ -1,4 +1,5 @@
 pub mod FitCases
 pub mod InterpolationCases
 pub mod ModelCases
+pub mod SlopeCases
 pub mod Cases

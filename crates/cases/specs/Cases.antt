@@ -1,5 +1,5 @@
 -- Computed cases, their answers worked out outside these definitions: by tools/reading/cases.py, another reading of the paper in Python's floats and whole
--- numbers, and where the original Rust answers, the original's own; those of ModelCases as it says. One record holds them all. Assumes nothing.
+-- numbers, and where the original Rust answers, the original's own; those of ModelCases and SlopeCases as they say. One record holds them all. Assumes nothing.
 use mathlib.Core.Path.{_≡_}
 use mathlib.Core.List.{[], _∷_}
 use mathlib.Core.Option.{some}
@@ -15,6 +15,7 @@ use Rattle.survey_file.specs.Cases.{survey, file, noted, bare, withModel}
 use Rattle.cases.specs.FitCases.{f, fs, FitCases}
 use Rattle.cases.specs.InterpolationCases.{InterpolationCases}
 use Rattle.cases.specs.ModelCases.{ModelCases}
+use Rattle.cases.specs.SlopeCases.{SlopeCases}
 
 -- samples at (0, 0), (6, 8), (6, 0), (1.5, 0) with 1, 4, 2, 8, in five bins: the second is empty
 abbrev pub fourSamples : Samples
@@ -46,6 +47,8 @@ pub record Cases : Type 0 where
   pub interpolations : InterpolationCases
   -- the Exponential and the Gaussian model, and the ranges that 12 refuses
   pub models : ModelCases
+  -- an exact inverse of a fit's matrix, and the trend by it
+  pub slopes : SlopeCases
   -- several kept bins, and one empty among them
   pub bins : FourBins
   -- a file by its bytes, every field another number, without a note and with one

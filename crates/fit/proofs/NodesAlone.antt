@@ -18,12 +18,13 @@ use Rattle.survey.specs.Survey.{Survey, wells, nodeCount, columns, size, valueA
 use Rattle.fit.specs.Areas.{Areas}
 use Rattle.fit.specs.Assembly.{entry, assembled}
 use Rattle.fit.specs.Node.{rightHand, zOf, Node, solutionOf, nodeWith, nodeOf}
-use Rattle.fit.specs.Slopes.{trendOf}
+use Rattle.fit.specs.System.{Drift, slopeOf}
 use Rattle.fit.specs.Fit.{worked, fitted}
 use Rattle.fit.specs.Alike.{SameWells, SameNode, SameAnswer, SameTrend}
 use Rattle.fit.proofs.Endings.{work-long}
 use Rattle.fit.proofs.Nodes.{renamed, node-alone, size-same, assembled-same}
-use Rattle.fit.proofs.Exit.{figure-at, variance-at, verdict-at, weight-at, trend-at}
+use Rattle.fit.proofs.Exit.{figure-at, variance-at, verdict-at, weight-at, work-at}
+use Rattle.fit.proofs.SystemNode.{kriged}
 
 -- a node reads the right half of the matrix alone
 pub z-agree : (s : ℕ) (xs ys b : List Float) → Agree (s * (2 * s)) xs ys → zOf s xs b ≡ zOf s ys b
@@ -70,13 +71,15 @@ module _
 
   -- THE TREND DOES NOT READ THE NODES: whatever they are, and if there are none
   pub trend-alone : SameTrend s (fitted limits s a .areas) (fitted limits′ t b .areas)
-  unfolding trendOf
+  unfolding slopeOf
   trend-alone j h =
       let n : columns s ≡ columns t = ap columns (renamed same) in
-      trend-at limits s a accepted j nan h
+      kriged limits s a accepted .trend j h
+      ∙ ap (λ (work : List Float). slopeOf s work (Drift j)) (work-at limits s a accepted)
       ∙ same-sum (wells s) _ _ (λ i l. ap (λ (x : Float). mul binary64 x (valueAt s i)) (inverse-agree (wells s + j) i (omega arith) (omega arith)))
-      ∙ ap (λ (u : Survey). trendOf u (worked t b) j) (renamed same)
-      ∙ sym (trend-at limits′ t b accepted′ j nan (rw n at h))
+      ∙ ap (λ (u : Survey). slopeOf u (worked t b) (Drift j)) (renamed same)
+      ∙ ap (λ (work : List Float). slopeOf t work (Drift j)) (sym (work-at limits′ t b accepted′))
+      ∙ sym (kriged limits′ t b accepted′ .trend j (rw n at h))
 
 -- and so have two nodes of one fit that are alike
 pub answer-again : (limits : Limits) (s : Survey) (a : Areas) → fitted limits s a .number ≡ 0 → (q r : ℕ) → q < nodeCount s → r < nodeCount s → SameNode s s q r

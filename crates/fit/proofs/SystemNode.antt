@@ -20,7 +20,7 @@ use Rattle.fit.specs.Areas.{Areas}
 use Rattle.fit.specs.Node.{zOf, figureOf, varianceOf, rightHand, solutionOf, nodeWith, nodeOf}
 use Rattle.fit.specs.Slopes.{trendOf}
 use Rattle.fit.specs.Fit.{multiplier, worked, fitted}
-use Rattle.fit.specs.System.{Place, nodePlace, Index, Well, Drift, Within, rightOf, varianceSum, rowOf, unknownOf, Kriged}
+use Rattle.fit.specs.System.{Place, nodePlace, Index, Well, Drift, Within, rightOf, varianceSum, rowOf, unknownOf, slopeOf, Kriged}
 use Rattle.fit.proofs.System.{row-below, right-is, variance-is}
 use Rattle.fit.proofs.Exit.{work-at, figure-at, variance-at, weight-at, multiplier-at, trend-at}
 
@@ -56,7 +56,7 @@ module _ (s : Survey) (work : List Float) (q : ℕ) where
 
 -- THE SYSTEM, in every accepted fit: what the areas hold at exit is its answer, node by node
 pub kriged : (limits : Limits) (s : Survey) (a : Areas) → fitted limits s a .number ≡ 0 → Kriged s (fitted limits s a .areas)
-unfolding trendOf
+unfolding trendOf slopeOf
 kriged limits s a e =
     let w : fitted limits s a .areas .work ≡ worked s a = work-at limits s a e in
     record {

@@ -124,6 +124,12 @@ unknownOf s work q u =
     (columns s)
     (λ l. mul binary64 (inverseAt (size s) work (rowOf s u) (rowOf s (Drift l))) (rightOf s (nodePlace s q) (Drift l)))
 
+-- the same unknown where the values stand on the right in place of a node's side, and 0 for every drift function: the inverse times these, over the wells.
+-- Of drift function l it is the estimate of its coefficient (specs/LeastSquares)
+unfoldable pub slopeOf : Survey → List Float → Index → Float
+unfolding addEach
+slopeOf s work u = runningSum (wells s) (λ i. mul binary64 (inverseAt (size s) work (rowOf s u) (rowOf s (Well i))) (valueAt s i))
+
 -- what the areas of an accepted fit hold at exit, in these terms
 pub record Kriged (s : Survey) (e : Areas) : Type 0 where
   -- "The first n entries of z are the weights", the λ of each node
@@ -135,9 +141,7 @@ pub record Kriged (s : Survey) (e : Areas) : Type 0 where
   pub variance : (q : ℕ) → q < nodeCount s → getD (e .variance) q nan ≡ notBelowZero (varianceSum s (nodePlace s q) (unknownOf s (e .work) q))
   -- "In Chilès and Delfiner those p numbers are Lagrange multipliers": the μ of the last node
   pub multiplier : (j : ℕ) → 0 < nodeCount s → j < columns s → getD (e .multipliers) j nan ≡ unknownOf s (e .work) (nodeCount s - 1) (Drift j)
-  -- the trend: row n + j of the same inverse that gives every λ and μ, times the values; nodes or none
-  pub trend : (j : ℕ) → j < columns s
-      → getD (e .trend) j nan
-      ≡ runningSum (wells s) (λ i. mul binary64 (inverseAt (size s) (e .work) (rowOf s (Drift j)) (rowOf s (Well i))) (valueAt s i))
+  -- the trend, from the same inverse that gives every λ and μ; nodes or none
+  pub trend : (j : ℕ) → j < columns s → getD (e .trend) j nan ≡ slopeOf s (e .work) (Drift j)
   -- "zeros if m = 0"
   pub no-nodes : (j : ℕ) → nodeCount s ≡ 0 → j < columns s → getD (e .multipliers) j nan ≡ zeroFloat

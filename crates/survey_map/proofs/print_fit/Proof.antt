@@ -28,8 +28,11 @@ at-entry c =
     let earlier = later .before .before .before in
     at-lists (earlier .before .before)
 
+abbrev at-verdicts : tie.After-trend2 → tie.After-verdicts2
+at-verdicts c = c .before .before .before
+
 abbrev at-fit : tie.After-trend2 → tie.After-universal-kriging-fit
-at-fit c = let d = c .before .before .before in d .before .before .before .before
+at-fit c = let work = at-verdicts c .before .before .before in work .before
 
 abbrev at-done : tie.After-print-answer-arg → tie.After-enum-told
 at-done c = let d = c .before .before .before in d .before .before .before
