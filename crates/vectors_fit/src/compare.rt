@@ -96,10 +96,10 @@ fn compare_weights(
 ) {
     let n = written.weights;
     let p = written.multipliers;
-    let again = written.trend;
+    let estimates = written.trend;
     compare_next(weights, words, n, n, WEIGHT, counts);
     compare_next(multipliers, words, p, p, MULTIPLIERS, counts);
-    compare_next(trend, words, again, again, TRENDS, counts);
+    compare_next(trend, words, estimates, estimates, TRENDS, counts);
 }
 
 // Compares how a fit ended and what it left: the number comes in, then how much is written of each area, how much of the work area is told, and the areas.
