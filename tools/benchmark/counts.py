@@ -8,21 +8,26 @@ SIZES = [(12, 1, 25), (24, 1, 100), (24, 6, 100), (48, 1, 100), (48, 6, 100)]
 ZEROS = ("stopped", "near", "one-place")
 KINDS = ("whole", "first-row", "exact", "refused", *ZEROS)
 RUNS = {"original": "bench::kriging::original::Fit::run", "port": "bench::port::Fit::run"}
+COMPARE, PLACES, EQUAL = "bench::port::Sums::run", (66, 65, 64, 60, 50, 33, 10, 1, 0), 67
 NAMED = {"original": ["gauss_jordan_invert_uked"], "port": ["elimination::eliminate", "solution::fill_z", "audit::row_met"]}
 
 
-def profiled(program, out, side, words):
-    """A profile of one call of one side, and what the program says of it."""
+def profiled(program, out, side, words, function=None):
+    """A profile of one call of one side, of a fit where no other function is named, and what the program says of it."""
     profile = out / "callgrind.out"
-    flags = ["--tool=callgrind", f"--callgrind-out-file={profile}", "--collect-atstart=no", f"--toggle-collect={RUNS[side]}"]
+    flags = ["--tool=callgrind", f"--callgrind-out-file={profile}", "--collect-atstart=no", f"--toggle-collect={function or RUNS[side]}"]
     run = subprocess.run(["valgrind", *flags, program, "--one", side, "1", *words], text=True, stderr=subprocess.PIPE, check=True)
     return profile, run.stderr
+
+
+def instructions(said):
+    return int(re.search(r"Collected : (\d+)", said)[1])
 
 
 def counted(program, out, side, words):
     """How many instructions one call takes, and how many rows its audits look at."""
     said = profiled(program, out, side, words)[1]
-    return int(re.search(r"Collected : (\d+)", said)[1]), re.search(r"rows (\d+)", said)[1]
+    return instructions(said), re.search(r"rows (\d+)", said)[1]
 
 
 def figures(program, out):
@@ -47,6 +52,15 @@ def by_function(program, out):
                 count = re.search(rf"([\d,]+) \([^)]*\)  \S*{name} ", text)
                 rows.append([", ".join(map(str, sizes)), side, name, count[1] if count else "inlined"])
     return table(["n, p, m", "", "function", "instructions"], rows)
+
+
+def comparisons(program, out):
+    """Instructions of a comparison of two exact sums, by the place of the highest word that differs."""
+    def row(name, words, place):
+        return [name, words, instructions(profiled(program, out, "port", ["compare", str(place)], COMPARE)[1])]
+
+    rows = [*(row(place, 67 - place, place) for place in PLACES), row("equal", 67, EQUAL)]
+    return table(["place of the highest differing word", "words", "instructions"], rows)
 
 
 def thousands(count):

@@ -144,6 +144,14 @@ pub fn powers(count: usize) -> Vec<f64> {
     Draw(count as u64).list(count, 0.0, 6.0)
 }
 
+/// Two exact sums with every word above a place in common; there they differ, and in every word below. Place 67 is none: equal sums.
+pub fn sums(place: usize) -> ([u64; 67], [u64; 67]) {
+    let mut draw = Draw(67);
+    let one: [u64; 67] = std::array::from_fn(|_| draw.word());
+    let other = std::array::from_fn(|i| if i <= place && place < 67 { !one[i] } else { one[i] });
+    (one, other)
+}
+
 /// Points, values and targets of the older calls, over two axes.
 pub struct Samples {
     pub points: Vec<f64>,

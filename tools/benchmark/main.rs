@@ -4,6 +4,7 @@
 //!     bench --one SIDE COUNT fit N P M KIND     COUNT fits of one side (original or port) and nothing else, for a profile
 //!     bench --one SIDE COUNT interpolate N M TYPE
 //!     bench --one SIDE COUNT semivariogram N
+//!     bench --one port COUNT compare PLACE      the port's alone: the original has no exact sums
 
 #[path = "../../bindings/rust/src/calls.rs"]
 #[allow(dead_code)]
@@ -37,6 +38,8 @@ const PARTS: [(usize, usize, usize); 5] = [(12, 1, 25), (24, 1, 100), (24, 6, 10
 const MODELS: [(usize, usize, usize); 6] = [(12, 1, 25), (12, 1, 100), (24, 1, 100), (48, 1, 1), (48, 1, 100), (48, 6, 100)];
 const POWERS: usize = 100;
 const BINS: usize = 10;
+const PLACES: [usize; 8] = [66, 60, 50, 40, 30, 20, 10, 0];
+const EQUAL: usize = 67;
 
 fn stop(what: &str) -> ! {
     eprintln!("{what}");
@@ -156,6 +159,16 @@ fn semivariogram(n: usize) -> Case<'static> {
     Case::new(format!("semivariogram {n}"), move || black_box(&original).run(), move || black_box(&mut port).run())
 }
 
+/// A comparison of two exact sums whose highest differing word stands at a place, beside that of equal sums, which looks at all 67 words.
+fn comparison(place: usize) -> Case<'static> {
+    let (sums, equal) = (port::Sums::differing(place), port::Sums::differing(EQUAL));
+    let (order, words) = sums.told();
+    if order == 1 || words != 67 - place || equal.told() != (1, 67) {
+        stop(&format!("comparison at place {place}: {words} words, order {order}"));
+    }
+    Case::new(format!("compare {place}"), move || black_box(&equal).run(), move || black_box(&sums).run())
+}
+
 /// Fits that stop early or leave something out, whose differences are the parts of a fit. The last number is how many rows the audits look at.
 fn parts() -> Vec<Case<'static>> {
     let mut cases = Vec::new();
@@ -202,7 +215,11 @@ fn one(words: &[String]) {
             let (original, mut ours) = (original::Semivariogram::of(&samples, BINS), port::Semivariogram::of(samples, BINS));
             repeat(count, || if port { ours.run() } else { original.run() });
         }
-        _ => stop("one of: fit, interpolate, semivariogram"),
+        Some("compare") => {
+            let sums = port::Sums::differing(number(words, 3));
+            repeat(count, || sums.run());
+        }
+        _ => stop("one of: fit, interpolate, semivariogram, compare"),
     }
 }
 
@@ -218,5 +235,6 @@ fn main() {
     cases.extend(parts());
     cases.extend(models());
     cases.push(powers());
+    cases.extend(PLACES.map(comparison));
     in_turns(cases);
 }

@@ -1,7 +1,7 @@
 //! The port's calls, with their areas lent once and used again.
 
 use crate::calls;
-use crate::inputs::{Kind, Samples, Survey};
+use crate::inputs::{self, Kind, Samples, Survey};
 use std::hint::black_box;
 
 const SPHERICAL: u8 = 1;
@@ -85,6 +85,40 @@ pub fn powers(us: &[f64], out: &mut [f64]) {
     // SAFETY: both lists are valid for their counts, and no number is in both.
     unsafe { nakwemol_exp_neg_each(us.as_ptr(), us.len(), out.as_mut_ptr(), out.len()) };
     black_box(out);
+}
+
+extern "C" {
+    fn timed_compare(a: &[u64; 67], b: &[u64; 67], words: &mut usize) -> u8;
+}
+
+/// An exact sum at the start of a cache line, so that each is copied alike.
+#[repr(align(64))]
+struct Sum([u64; 67]);
+
+/// A comparison of two exact sums.
+pub struct Sums {
+    one: Sum,
+    other: Sum,
+}
+
+impl Sums {
+    pub fn differing(place: usize) -> Sums {
+        let (one, other) = inputs::sums(place);
+        Sums { one: Sum(one), other: Sum(other) }
+    }
+
+    /// The order's number, and how many words it took.
+    pub fn told(&self) -> (u8, usize) {
+        let mut words = 0;
+        // SAFETY: both sums and the place are valid, and none of them is another.
+        let order = unsafe { timed_compare(&self.one.0, &self.other.0, &mut words) };
+        (order, words)
+    }
+
+    #[inline(never)]
+    pub fn run(&self) {
+        black_box(self.told());
+    }
 }
 
 pub struct Interpolation {

@@ -181,6 +181,14 @@ def small(figures):
     return table(["", "original", "port"], rows)
 
 
+def comparisons(figures):
+    """A comparison of two exact sums by the place of the highest word that differs, beside that of equal sums."""
+    made = {int(key[1]): cell for key, cell in figures.items() if key[0] == "compare"}
+    rows = [[place, 67 - place, f"{1000 * cell.port:.1f} ns", cell.shown()] for place, cell in made.items()]
+    equal = sorted(1000 * cell.original for cell in made.values())[len(made) // 2]
+    return table(["place of the highest differing word", "words", "time", "in times of equal sums"], [*rows, ["equal", 67, f"{equal:.1f} ns", ""]])
+
+
 def worst(figures, wanted):
     """The greatest ratio of the cases that are wanted, and which it is."""
     key = max(filter(wanted, figures), key=lambda key: figures[key].ratio)
@@ -210,5 +218,5 @@ def goals(figures):
 
 def blocks(figures):
     """The tables of docs/SPEED.md, by the names of their blocks."""
-    makers = [goals, fits, models, interpolations, semivariograms, growth, parts, small]
+    makers = [goals, fits, models, interpolations, semivariograms, growth, parts, small, comparisons]
     return {make.__name__: make(figures) for make in makers}

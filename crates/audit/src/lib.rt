@@ -120,7 +120,9 @@ fn exactly_met(
     let missing = exact::sub_product(sum, target, 1.0);
     let one = exact::add_product([0; 67], tolerance, 1.0);
     let allowed = exact::add_product(one, tolerance, ieee::abs(target));
-    words::at_most(words::magnitude(missing), allowed)
+    let compared = words::compare(words::magnitude(missing), allowed);
+    let order = compared.order;
+    order.is_at_most()
 }
 
 // The same row. Where sums with rounding leave no doubt that it is met, the exact ones, which say the same, are not worked out.

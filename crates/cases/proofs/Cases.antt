@@ -8,6 +8,7 @@ use Rattle.cases.proofs.FitCases.{fit-cases}
 use Rattle.cases.proofs.InterpolationCases.{interpolation-cases}
 use Rattle.cases.proofs.ModelCases.{model-cases}
 use Rattle.cases.proofs.SlopeCases.{slope-cases}
+use Rattle.cases.proofs.ComparisonCases.{comparison-cases}
 
 four-bins : FourBins
 unfolding calculated add sub mul div lt le eq ofInt toUnsigned round ofBits toBits
@@ -19,6 +20,7 @@ cases = record {
   interpolations = interpolation-cases;
   models = model-cases;
   slopes = slope-cases;
+  comparisons = comparison-cases;
   bins = four-bins;
   file-written = writes-bytes;
   file-read = reads-bytes;

@@ -1,5 +1,5 @@
 -- Computed cases, their answers worked out outside these definitions: by tools/reading/cases.py, another reading of the paper in Python's floats and whole
--- numbers, and where the original Rust answers, the original's own; those of ModelCases and SlopeCases as they say. One record holds them all. Assumes nothing.
+-- numbers, and where the original Rust answers, the original's own; those of ModelCases, SlopeCases and ComparisonCases as they say. One record holds them all. Assumes nothing.
 use mathlib.Core.Path.{_≡_}
 use mathlib.Core.List.{[], _∷_}
 use mathlib.Core.Option.{some}
@@ -16,6 +16,7 @@ use Rattle.cases.specs.FitCases.{f, fs, FitCases}
 use Rattle.cases.specs.InterpolationCases.{InterpolationCases}
 use Rattle.cases.specs.ModelCases.{ModelCases}
 use Rattle.cases.specs.SlopeCases.{SlopeCases}
+use Rattle.cases.specs.ComparisonCases.{ComparisonCases}
 
 -- samples at (0, 0), (6, 8), (6, 0), (1.5, 0) with 1, 4, 2, 8, in five bins: the second is empty
 abbrev pub fourSamples : Samples
@@ -49,6 +50,7 @@ pub record Cases : Type 0 where
   pub models : ModelCases
   -- an exact inverse of a fit's matrix, and the trend by it
   pub slopes : SlopeCases
+  pub comparisons : ComparisonCases
   -- several kept bins, and one empty among them
   pub bins : FourBins
   -- a file by its bytes, every field another number, without a note and with one

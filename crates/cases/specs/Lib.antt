@@ -2,4 +2,5 @@ pub mod FitCases
 pub mod InterpolationCases
 pub mod ModelCases
 pub mod SlopeCases
+pub mod ComparisonCases
 pub mod Cases

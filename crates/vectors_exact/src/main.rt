@@ -35,7 +35,9 @@ fn show_words(words: [u64; 67]) {
 
 // A line: whether the sum before is at most this one, whether this one is negative, its words, and those of its magnitude.
 fn show(before: [u64; 67], sum: [u64; 67]) {
-    show_flag(words::at_most(before, sum));
+    let compared = words::compare(before, sum);
+    let order = compared.order;
+    show_flag(order.is_at_most());
     show_flag(words::is_negative(sum));
     show_words(sum);
     io::write_all(1, b"| ");

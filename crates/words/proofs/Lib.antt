@@ -3,4 +3,5 @@ pub mod Words
 pub mod Residue
 pub mod Held
 pub mod Carries
-pub mod Order
+pub mod Sign
+pub mod Compared

@@ -1,10 +1,11 @@
 // A whole number in 67 words of 64 bits, lowest first, in two's complement: its sign, its magnitude, and the order of two.
 ghost use mathlib.Core.Path.{_≡_};
 ghost use mathlib.Core.Bool.{not};
-ghost use Prim.Native.Nat.{_+_, _*_, _^_, _≤_};
+ghost use Prim.Native.Nat.{_+_, _*_, _%_, _^_, _≤_};
 ghost use lib.IntN.{pos, negℤ, natAbs};
-ghost use lib.Signed.{leZ, nonNeg};
+ghost use lib.Signed.{nonNeg};
 ghost use Rattle.words.specs.Words.{reading, held};
+ghost use Rattle.words.specs.Compared.{orderOf, isAtMost, readAt, wordsTaken};
 
 // Whether the sum is below zero: its highest bit is set.
 pub fn is_negative(sum: [u64; 67]) -> bool
@@ -63,20 +64,82 @@ pub fn magnitude(sum: [u64; 67]) -> [u64; 67]
     sum
 }
 
-// Whether a ≤ b, as whole numbers. Of two with the same sign, the words' numbers are in the order of what they stand for: the highest that differ decide.
-pub fn at_most(a: [u64; 67], b: [u64; 67]) -> bool
-    ensures { λ r. ⌜ r ≡ leZ (reading a) (reading b) ⌝ }
-{
-    let below = is_negative(a);
-    if below != is_negative(b) {
-        return below;
-    }
-    let mut i = 67;
-    while 0 < i {
-        i -= 1;
-        if a[i] != b[i] {
-            return a[i] < b[i];
+// How one sum stands to another.
+pub enum Order {
+    Below,
+    Same,
+    Above,
+}
+
+impl Order {
+    // Whether it is the order of a sum that is at most the other.
+    pub fn is_at_most(self) -> bool
+        ensures { λ r. ⌜ r ≡ isAtMost self ⌝ }
+    {
+        match self {
+            Order::Below => true,
+            Order::Same => true,
+            Order::Above => false,
         }
     }
-    true
+}
+
+// What a comparison of two sums tells: how the first stands to the second, and how many words it took.
+pub struct Comparison {
+    pub order: Order,
+    pub words: usize,
+}
+
+// A word turned by half of what there are, so that the order of signed words is that of the turned ones.
+fn turned(word: u64) -> u64
+    ensures { λ r. ⌜ r ≡ (word + 2 ^ 63) % 2 ^ 64 ⌝ }
+{
+    std::num::wrapping_add_u64(word, 0x8000_0000_0000_0000)
+}
+
+// The order of two words that have no sign.
+fn word_order(a: u64, b: u64) -> Order
+    ensures { λ r. ⌜ r ≡ orderOf (pos a) (pos b) ⌝ }
+{
+    if a < b {
+        return Order::Below;
+    }
+    if b < a {
+        return Order::Above;
+    }
+    Order::Same
+}
+
+// The order of two words at a place: the top word is read as signed.
+fn order_at(place: usize, a: u64, b: u64) -> Order
+    ensures { λ r. ⌜ r ≡ orderOf (readAt place a) (readAt place b) ⌝ }
+{
+    if place == 66 {
+        return word_order(turned(a), turned(b));
+    }
+    word_order(a, b)
+}
+
+// From the top word down to the first that differs, which decides. Each word that is looked at counts.
+pub fn compare(a: [u64; 67], b: [u64; 67]) -> Comparison
+    ensures order { λ r. ⌜ r .order ≡ orderOf (reading a) (reading b) ⌝ }
+    ensures words { λ r. ⌜ r .words ≡ wordsTaken a b ⌝ }
+{
+    let mut left = 67;
+    let mut words = 0;
+    while 0 < left {
+        let place = left - 1;
+        words += 1;
+        if a[place] != b[place] {
+            return Comparison {
+                order: order_at(place, a[place], b[place]),
+                words: words,
+            };
+        }
+        left -= 1;
+    }
+    Comparison {
+        order: Order::Same,
+        words: 67,
+    }
 }

@@ -1,7 +1,7 @@
 -- `audit::exactly_met` meets its contract: a slice has too few numbers for its exact sum to wrap. Assumes nothing.
 use Prim.Native.Nat.{_*_, _^_, _<_}
 use native.Mathlib.Omega.{arith}
-use mathlib.Core.Path.{_∙_, ap}
+use mathlib.Core.Path.{_∙_, sym, ap}
 use borrow.Author.Needs.{needs}
 use lib.ListN.{length}
 use lib.IntN.{_+ℤ_, _*ℤ_}
@@ -9,6 +9,8 @@ use lib.Ieee.{Float, fits, binary64}
 use Rattle.ieee.proofs.Zero.{holds}
 use Rattle.exact.specs.Units.{units}
 use Rattle.words.specs.Words.{reading, held}
+use Rattle.words.specs.Compared.{isAtMost}
+use Rattle.words.proofs.Compared.{at-most}
 use Rattle.audit.proofs.Row.{row-is}
 use Rattle.audit.proofs.exactly_met.Statement.{statement}
 use Rattle.audit.proofs.exactly_met.Tie as tie
@@ -44,16 +46,21 @@ abs-requires c κs = search needs
 add-product-requires-2 : tie.Need-add-product-requires-2
 add-product-requires-2 c κs = search needs
 
--- exact::at_most(exact::magnitude(missing), allowed)
+-- let compared = words::compare(words::magnitude(missing), allowed);
 magnitude-requires : tie.Need-magnitude-requires
 magnitude-requires c κs = search needs
 
-at-most-requires : tie.Need-at-most-requires
-at-most-requires c κs = search needs
+compare-requires : tie.Need-compare-requires
+compare-requires c κs = search needs
+
+-- order.is_at_most()
+is-at-most-requires : tie.Need-is-at-most-requires
+is-at-most-requires c κs = search needs
 
 returns : tie.Need-returns
 returns c =
-    let m = c .before in
+    let compared = c .before .compare in
+    let m = c .before .before in
     let allowed = m .before .add-product2 in
     let one = at-one m in
     let missing = one .before .sub-product in
@@ -62,7 +69,7 @@ returns c =
     let a = s .args in
     let few : length (a .weights .now) * 8 < 2 ^ 63 = s .good .0 .1 in
     let same = ap (λ (y : Float). held (reading (one .add-product .result) +ℤ units (a .tolerance) *ℤ units y)) (m .before .before .abs .ensures) in
-    c .at-most .ensures
+    c .is-at-most .ensures ∙ ap isAtMost (compared .ensures .0) ∙ sym (at-most (reading (m .magnitude .result)) (reading (allowed .result)))
     ∙ row-is (a .weights .now) (a .numbers .now) (a .column) (a .width) (a .target) (omega arith) (a .tolerance)
     (holds (fits binary64 (a .target)) (s .good .1 .1 .1 .1 .0 .1))
     (sum .result) (missing .result) (m .magnitude .result) (one .add-product .result) (allowed .result)
@@ -78,5 +85,6 @@ exactly-met-spec =
     abs-requires
     add-product-requires-2
     magnitude-requires
-    at-most-requires
+    compare-requires
+    is-at-most-requires
     returns)

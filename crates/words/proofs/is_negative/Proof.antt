@@ -1,7 +1,7 @@
 -- `words::is_negative` meets its contract: the highest bit is the sign. Assumes nothing.
 use borrow.Author.Needs.{needs}
 use Rattle.words.proofs.Words.{are-words, their-length}
-use Rattle.words.proofs.Order.{sign-of-words}
+use Rattle.words.proofs.Sign.{sign-of-words}
 use Rattle.words.proofs.is_negative.Statement.{statement}
 use Rattle.words.proofs.is_negative.Tie as tie
 

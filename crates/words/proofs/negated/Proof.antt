@@ -14,7 +14,7 @@ use lib.IntN.{pos, negℤ, _-ℤ_, +ℤ-idl}
 use Rattle.words.specs.Words.{number, reading, held}
 use Rattle.words.proofs.Words.{Words, their-length, words-set, place-suc}
 use Rattle.words.proofs.Held.{held-zero, held-words, held-add, held-negℤ}
-use Rattle.words.proofs.Order.{number-take}
+use Rattle.words.proofs.Sign.{number-take}
 use Rattle.words.proofs.Carries.{moved-held}
 use Rattle.words.proofs.negated.Statement.{statement}
 use Rattle.words.proofs.negated.Tie as tie
