@@ -10,9 +10,10 @@ exclusive or. Neither looks at words one after another.
 import random
 import struct
 
+from tools.generators.exact import MOD, words
+
 COUNT = 67
 WORD = 1 << 64
-MOD = 1 << (64 * COUNT)
 ONES = MOD - 1
 
 
@@ -91,10 +92,6 @@ def pairs(rng):
         yield from of
 
 
-def as_words(pattern):
-    return [pattern >> (64 * i) & (WORD - 1) for i in range(COUNT)]
-
-
 def records(which, old, new):
     """What makes one sum, `which`, of what it was: words put, or first one word at every place where that takes fewer."""
     fill = max(set(new), key=new.count)
@@ -107,9 +104,9 @@ def files():
     data, lines, sums = b"", [], [[0] * COUNT, [0] * COUNT]
     for pair in pairs(random.Random(3)):
         for which, pattern in enumerate(pair):
-            words = as_words(pattern)
-            data += records(which, sums[which], words)
-            sums[which] = words
+            made = words(pattern)
+            data += records(which, sums[which], made)
+            sums[which] = made
         data += struct.pack("<BQQ", 4, 0, 0)
         lines.append("%s %s\n" % (told(*pair), told(*pair[::-1])))
     assert len(data) < 65536, len(data)

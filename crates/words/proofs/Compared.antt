@@ -17,7 +17,7 @@ use lib.IntN.{ℤ, pos, negsuc}
 use Rattle.words.specs.declared.Order.{Order}
 use Rattle.words.specs.declared.Order.the-variants.{Below, Same, Above}
 use Rattle.words.specs.Words.{number, modulus, half, reading}
-use Rattle.words.specs.Compared.{orderOf, isAtMost, HighestDiffering, signedWord, readAt, orLowest, highestPlace, lessPlace, wordsTaken, SaysOf}
+use Rattle.words.specs.Compared.{orderOf, isAtMost, HighestDiffering, signedWord, readAt, orLowest, lowestPlace, highestPlace, lessPlace, wordsTaken, SaysOf}
 use Rattle.words.proofs.Whole.{either-lt}
 use Rattle.words.proofs.Words.{Words, words-get}
 use Rattle.words.proofs.Held.{number-below}
@@ -115,14 +115,14 @@ number-less (x ∷ xs) (y ∷ ys) (suc i) u v n h e l =
     let s : number xs < number ys = number-less xs ys i (u .1) (v .1) (omega arith) (le-of-suc-le-suc h) (λ j g. e (suc j) (suc-le-suc g)) l in
     omega (arith, u .0, v .0)
 
+-- past the last word both read 0
+pub past-last : (a b : List ℕ) → length a ≡ 67 → length b ≡ 67 → (j : ℕ) → 67 ≤ j → getD a j 0 ≡ getD b j 0
+past-last a b k l j h =
+    List·getD-eq-default a 0 (subst (λ (n : ℕ). n ≤ j) (sym k) h) ∙ sym (List·getD-eq-default b 0 (subst (λ (n : ℕ). n ≤ j) (sym l) h))
+
 module _ (a b : List ℕ) (u : Words a) (v : Words b) (k : length a ≡ 67) (l : length b ≡ 67) (i : ℕ) (d : HighestDiffering a b i) where
-  -- past the last word both read 0
-  pub within : i < 67
-  within =
-      ⊎-elim
-      (λ (h : i < 67). h)
-      (λ (h : 67 ≤ i). absurd (d .differs (List·getD-eq-default a 0 (subst (λ (n : ℕ). n ≤ i) (sym k) h) ∙ sym (List·getD-eq-default b 0 (subst (λ (n : ℕ). n ≤ i) (sym l) h)))))
-      (either-lt i 67)
+  within : i < 67
+  within = ⊎-elim (λ (h : i < 67). h) (λ (h : 67 ≤ i). absurd (d .differs (past-last a b k l i h))) (either-lt i 67)
 
   -- the order of the words' numbers
   numbers : orderOf (pos (number a)) (pos (number b)) ≡ orderOf (pos (getD a i 0)) (pos (getD b i 0))
@@ -191,7 +191,7 @@ module _ (a b : List ℕ) (u : Words a) (v : Words b) (k : length a ≡ 67) (l :
 -- ---- the highest place where they differ
 
 -- what the rest says, with the lowest words before it
-with-lowest : (x y : ℕ) (xs ys : List ℕ) (o : Option ℕ) → SaysOf xs ys o → SaysOf (x ∷ xs) (y ∷ ys) (orLowest o (cond (eqb x y) none (some 0)))
+with-lowest : (x y : ℕ) (xs ys : List ℕ) (o : Option ℕ) → SaysOf xs ys o → SaysOf (x ∷ xs) (y ∷ ys) (orLowest o (lowestPlace x y))
 with-lowest x y xs ys (some i) d = record { differs = d .differs; above = up }
   where
     up : (j : ℕ) → suc i < j → getD (x ∷ xs) j 0 ≡ getD (y ∷ ys) j 0

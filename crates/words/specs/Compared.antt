@@ -43,11 +43,15 @@ abbrev pub orLowest : Option ℕ → Option ℕ → Option ℕ
 orLowest (some i) lowest = some (suc i)
 orLowest none lowest = lowest
 
+-- the lowest word stands at place 0
+abbrev pub lowestPlace : ℕ → ℕ → Option ℕ
+lowestPlace x y = cond (eqb x y) none (some 0)
+
 -- "the place of the highest differing word, counted from 0 at the lowest"; none where no word differs
 abbrev pub highestPlace : List ℕ → List ℕ → Option ℕ
 highestPlace [] ys = none
 highestPlace (x ∷ xs) [] = none
-highestPlace (x ∷ xs) (y ∷ ys) = orLowest (highestPlace xs ys) (cond (eqb x y) none (some 0))
+highestPlace (x ∷ xs) (y ∷ ys) = orLowest (highestPlace xs ys) (lowestPlace x y)
 
 -- "67 less the place of the highest differing word .. or 67 if they are equal"
 abbrev pub lessPlace : Option ℕ → ℕ

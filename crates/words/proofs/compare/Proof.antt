@@ -7,13 +7,13 @@ use mathlib.Core.List.{List}
 use native.Mathlib.Omega.{arith}
 use native.Mathlib.Nat.{le-antisymm}
 use borrow.Author.Needs.{needs}
-use lib.ListN.{length, getD, List·getD-eq-default}
+use lib.ListN.{length, getD}
 use lib.Seq.{ext-getD}
 use Rattle.words.specs.Words.{reading}
 use Rattle.words.specs.Compared.{HighestDiffering, orderOf}
 use Rattle.words.proofs.Whole.{either-lt}
 use Rattle.words.proofs.Words.{Words, are-words, their-length}
-use Rattle.words.proofs.Compared.{decided, taken-to, taken-all, itself}
+use Rattle.words.proofs.Compared.{past-last, decided, taken-to, taken-all, itself}
 use Rattle.words.proofs.compare.Statement.{statement}
 use Rattle.words.proofs.compare.Tie as tie
 
@@ -26,11 +26,6 @@ Inv-loop a b left₀ words₀ left words = (left + words ≡ 67) × SameFrom lef
 
 abbrev μ-loop : tie.MeasureT-loop
 μ-loop a b left₀ words₀ left words = left
-
--- past the last word both read 0
-past-the-last : (a b : List ℕ) → length a ≡ 67 → length b ≡ 67 → SameFrom 67 a b
-past-the-last a b k l j h =
-    List·getD-eq-default a 0 (subst (λ (n : ℕ). n ≤ j) (sym k) h) ∙ sym (List·getD-eq-default b 0 (subst (λ (n : ℕ). n ≤ j) (sym l) h))
 
 -- one place more
 one-more : (a b : List ℕ) (left : ℕ) → 0 < left → SameFrom left a b → getD a (left - 1) 0 ≡ getD b (left - 1) 0 → SameFrom (left - 1) a b
@@ -64,7 +59,7 @@ loop-holds c =
     let b = c .args .t2 in
     let k = their-length 67 a _ (c .good .0) in
     let l = their-length 67 b _ (c .good .1 .0) in
-    (refl, past-the-last a b k l, are-words 67 a _ (c .good .0), are-words 67 b _ (c .good .1 .0), k, l)
+    (refl, past-last a b k l, are-words 67 a _ (c .good .0), are-words 67 b _ (c .good .1 .0), k, l)
 
 -- let place = left - 1;
 sub-place : tie.Need-sub-place Inv-loop μ-loop
