@@ -3,16 +3,31 @@ import os
 import signal
 import subprocess
 import threading
+import time
+
+GONE_WITHIN = 10  # seconds; a prover that is killed gives back a gigabyte first
 
 
 class Stopped(Exception):
     """The run was interrupted."""
 
 
-class Checks:
-    """Runs `rt`, each in a process group of its own, so that an interrupted run leaves none behind."""
+def wait_for_group(group):
+    """Waits until no process of the group is left."""
+    until = time.monotonic() + GONE_WITHIN
+    try:
+        while time.monotonic() < until:
+            os.killpg(group, 0)
+            time.sleep(0.01)
+    except ProcessLookupError:
+        pass
 
-    def __init__(self):
+
+class Checks:
+    """Runs `rt`, each in a process group of its own, so that an interrupted run leaves none behind; the prover's temporary files are in one folder."""
+
+    def __init__(self, temporary):
+        self.environment = {**os.environ, "TMPDIR": str(temporary)}
         # a signal's handler may ask for the lock while the main thread has it
         self.running, self.stopped, self.lock = set(), False, threading.RLock()
 
@@ -20,17 +35,21 @@ class Checks:
         with self.lock:
             if self.stopped:
                 raise Stopped
-            process = subprocess.Popen(["rt", *words], cwd=folder, stdin=subprocess.DEVNULL, stdout=out, stderr=subprocess.STDOUT, start_new_session=True)
+            process = subprocess.Popen(
+                ["rt", *words], cwd=folder, env=self.environment, stdin=subprocess.DEVNULL, stdout=out, stderr=subprocess.STDOUT, start_new_session=True
+            )
             self.running.add(process)
         return process
 
     def end(self, process):
-        """The exit status, once it is there."""
+        """The exit status, once it is there. Of an interrupted run the prover that `rt` began has to be gone too: it writes into its room."""
         status = process.wait()
         with self.lock:
             self.running.discard(process)
-            if self.stopped:
-                raise Stopped
+            stopped = self.stopped
+        if stopped:
+            wait_for_group(process.pid)
+            raise Stopped
         return status
 
     def run(self, words, folder, log):

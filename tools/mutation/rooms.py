@@ -1,4 +1,4 @@
-"""Rooms: folders below target/ in which a copy of one crate is checked by `rt dev`, beside the libraries of the repository as they were proved.
+"""Rooms: folders in which a copy of one crate is checked by `rt dev`, beside the libraries of the repository as they were proved.
 
 A room's crates.txt has its one crate's line alone, so that `rt dev` does not look at all that the crate stands on once more for each edit; its
 libraries are the repository's own target/rlib. Its incremental folder, where the prover keeps what it checked, is made of links to the files of
@@ -7,7 +7,11 @@ one whole folder for each crate: the prover writes a file anew and never into it
 import os
 import pathlib
 import shutil
+import subprocess
+import tempfile
 
+HOUSE = "nakwemol-mutants-"
+MEMORY_FOLDER = pathlib.Path(__file__).resolve().parents[1] / "memory_folder"
 COPIED = ("src", "specs", "proofs")
 MODULE = ".oantt"
 
@@ -15,6 +19,19 @@ MODULE = ".oantt"
 def remove(folder):
     """Removes a folder, whatever is in it."""
     shutil.rmtree(folder, ignore_errors=True)
+
+
+def house():
+    """A new folder for all that a run makes and leaves nothing of: its rooms, and the prover's temporary files, `tmp`. It is in memory where there is room.
+
+    What a run that was killed has left there goes first."""
+    parent = pathlib.Path(subprocess.run([MEMORY_FOLDER], stdout=subprocess.PIPE, encoding="utf-8", check=True).stdout.strip())
+    for left in parent.glob(f"{HOUSE}*"):
+        if not pathlib.Path("/proc", left.name.removeprefix(HOUSE).partition("-")[0]).exists():
+            remove(left)
+    made = pathlib.Path(tempfile.mkdtemp(prefix=f"{HOUSE}{os.getpid()}-", dir=parent))
+    (made / "tmp").mkdir()
+    return made
 
 
 def make(folder, crate):

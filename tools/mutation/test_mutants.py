@@ -7,6 +7,7 @@ import tempfile
 import unittest
 
 TOOL = pathlib.Path(__file__).resolve().parents[1] / "mutants"
+PARENTS = (pathlib.Path("/dev/shm"), pathlib.Path(tempfile.gettempdir()))  # where rooms may be made
 
 CODE = """\
 ghost use Prim.Native.Nat.{_≤_};
@@ -89,6 +90,7 @@ class Mutants(unittest.TestCase):
             (root / name).write_text(text, encoding="utf-8")
         cls.before = files(root)
 
+        cls.runs = []
         cls.status, cls.told = cls.run_tool("--all")
 
     @classmethod
@@ -97,12 +99,20 @@ class Mutants(unittest.TestCase):
 
     @classmethod
     def run_tool(cls, *words):
-        ran = subprocess.run([TOOL, "--root", cls.root, *words], stdout=subprocess.PIPE, stderr=subprocess.STDOUT, encoding="utf-8")
-        return ran.returncode, ran.stdout.splitlines()
+        tool = cls.begin(*words)
+        told = tool.communicate()[0].splitlines()
+        return tool.returncode, told
+
+    @classmethod
+    def begin(cls, *words):
+        tool = subprocess.Popen([TOOL, "--root", cls.root, *words], stdout=subprocess.PIPE, stderr=subprocess.STDOUT, encoding="utf-8")
+        cls.runs.append(tool.pid)
+        return tool
 
     def tearDown(self):
         self.assertEqual(files(self.root), self.before, "the tree is not as it was")
-        self.assertEqual(list((self.root / "target" / "mutants").glob("rooms-*")), [], "a room is left behind")
+        left = [room for parent in PARENTS for run in self.runs for room in parent.glob(f"nakwemol-mutants-{run}-*")]
+        self.assertEqual(left, [], "a room is left behind")
         self.assertEqual(processes_below(self.root), [], "a check is still running")
 
     def told_of(self, edit):
@@ -148,7 +158,7 @@ class Mutants(unittest.TestCase):
 
     def test_an_interrupted_run_leaves_nothing_behind(self):
         for how in (signal.SIGINT, signal.SIGTERM):
-            tool = subprocess.Popen([TOOL, "--root", self.root], stdout=subprocess.PIPE, stderr=subprocess.STDOUT, encoding="utf-8")
+            tool = self.begin()
             for line in tool.stdout:
                 if " of 7, " in line:
                     break

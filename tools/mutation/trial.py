@@ -1,7 +1,5 @@
 """A run over the edits of some crates: several at a time, each in a room of its own, and a line for each as it ends."""
-import pathlib
 import signal
-import tempfile
 import threading
 import time
 import traceback
@@ -27,7 +25,8 @@ class Trial:
         self.unfinished = {crate: len(crate.edits) for crate in crates}
         self.wholes = {}  # of each crate that a worker has begun with: None, then its whole folder and what is in it
         self.told, self.failures, self.fault = 0, [], False
-        self.checks, self.turn = Checks(), threading.Condition()
+        self.base = rooms.house()
+        self.checks, self.turn = Checks(self.base / "tmp"), threading.Condition()
 
     def run(self):
         """Tries all edits. Answers the exit status."""
@@ -35,7 +34,6 @@ class Trial:
         for ending in (signal.SIGINT, signal.SIGTERM, signal.SIGHUP):
             signal.signal(ending, lambda *_: self.stop())
         self.logs.mkdir(parents=True, exist_ok=True)
-        self.base = pathlib.Path(tempfile.mkdtemp(prefix="rooms-", dir=self.logs))
         try:
             if not self.libraries_proved():
                 return 1
