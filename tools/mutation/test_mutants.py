@@ -53,6 +53,7 @@ EDITS = {
     "held/mutants/not_there": ("return 11;", "return 12;"),
     "held/mutants/in_two_places": ("9", "8"),
     "held/mutants/no_number": ("return 9;", "return true;"),
+    "held/mutants/no_definition": ("r ≤ 9", "r ≤ nine"),
     "held/must-fail/eleven": ("return 9;", "return 11;"),
     "above/mutants/two_more": ("held::held(x) + 1", "held::held(x) + 2"),
 }
@@ -139,11 +140,12 @@ class Mutants(unittest.TestCase):
         self.assertEqual(self.told_of("held/not_there"), "BAD EDIT, an 'old:' text is not in src/lib.rt")
         self.assertEqual(self.told_of("held/in_two_places"), "BAD EDIT, an 'old:' text is in src/lib.rt more than once")
         self.assertEqual(self.told_of("held/no_number"), "BAD EDIT, it did not reach the prover (status 1)")
+        self.assertRegex(self.told_of("held/no_definition"), r"^BAD EDIT, what it writes is no definition, src/lib\.rt:\d+:\d+$")
 
     def test_all_are_tried_and_counted(self):
         self.assertEqual(self.status, 1)
-        self.assertRegex(self.told[-1], r"^mutants: 8 edits, 3 refused by a fact, 5 not \(\d+ s\)$")
-        self.assertEqual(sum(" of 8, " in line for line in self.told), 8)
+        self.assertRegex(self.told[-1], r"^mutants: 9 edits, 3 refused by a fact, 6 not \(\d+ s\)$")
+        self.assertEqual(sum(" of 9, " in line for line in self.told), 9)
 
     def test_status_0_where_facts_refuse_every_one(self):
         status, told = self.run_tool("held/eleven", "above")
@@ -160,7 +162,7 @@ class Mutants(unittest.TestCase):
         for how in (signal.SIGINT, signal.SIGTERM):
             tool = self.begin()
             for line in tool.stdout:
-                if " of 7, " in line:
+                if " of 8, " in line:
                     break
             tool.send_signal(how)
             rest = tool.communicate()[0]
