@@ -1,4 +1,4 @@
--- Laws of `filled`, for loops that store a matrix row after row: a turn of the outer loop, what stands at each place, and the same as one fill. Assumes nothing.
+-- Laws of `filled`, for loops that store a matrix row after row: a turn of the outer loop, what stands at each place, and the same as one fill.
 use Prim.Native.Nat.{ℕ, zero, suc, _+_, _*_, _/_, _%_, _≤_, _<_}
 use native.Mathlib.Nat.{not-suc-le-zero, suc-mul, zero-mul, zero-add}
 use native.Mathlib.Numerals.{add-one}

@@ -1,4 +1,4 @@
--- What keeps an area's length and all that lies past a place: a fill before that place, and one such change after another. Assumes nothing.
+-- What keeps an area's length and all that lies past a place: a fill before that place, and one such change after another.
 use Prim.Native.Nat.{ℕ, _+_, _-_, _≤_}
 use native.Mathlib.Omega.{arith}
 use mathlib.Core.Path.{_≡_, refl, ap, sym, _∙_}

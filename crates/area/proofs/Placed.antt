@@ -1,4 +1,4 @@
--- Bytes put into an area, one list of them after another. Assumes nothing.
+-- Bytes put into an area, one list of them after another.
 use Prim.Native.Nat.{ℕ, _+_}
 use native.Mathlib.Nat.{add-zero}
 use native.Mathlib.Omega.{arith}

@@ -1,4 +1,4 @@
--- Laws of `written` place by place: what stands where it writes and where it does not, a store elsewhere, two fills that agree, and one fill after another. Assumes nothing.
+-- Laws of `written` place by place: what stands where it writes and where it does not, a store elsewhere, two fills that agree, and one fill after another.
 use Prim.Native.Nat.{ℕ, zero, suc, _+_, _-_, _≤_, _<_}
 use native.Mathlib.Nat.{add-zero, add-suc, add-assoc, not-suc-le-zero}
 use native.Mathlib.Numerals.{add-one}

@@ -1,4 +1,4 @@
--- Places of a matrix that lies row after row, entry (r, c) of w columns at r * w + c: a row lies inside, and two rows lie apart. Assumes nothing.
+-- Places of a matrix that lies row after row, entry (r, c) of w columns at r * w + c: a row lies inside, and two rows lie apart.
 use Prim.Native.Nat.{ℕ, _+_, _*_, _≤_, _<_}
 use native.Mathlib.Nat.{mul-le-mul-right}
 use native.Mathlib.Decide.{decLt}

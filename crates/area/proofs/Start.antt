@@ -1,4 +1,4 @@
--- A fill from the first place on, and a list that is copied there: the values, and then what was there. Assumes nothing.
+-- A fill from the first place on, and a list that is copied there: the values, and then what was there.
 use Prim.Native.Nat.{ℕ, zero, suc, _+_, _≤_, _<_}
 use native.Mathlib.Nat.{zero-add}
 use native.Mathlib.Omega.{arith}

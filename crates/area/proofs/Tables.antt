@@ -1,4 +1,4 @@
--- Laws of `table` and of two lists joined, place by place. Assumes nothing.
+-- Laws of `table` and of two lists joined, place by place.
 use Prim.Native.Nat.{ℕ, zero, suc, _+_, _≤_, _<_}
 use native.Mathlib.Nat.{not-suc-le-zero}
 use native.Mathlib.Numerals.{add-one}

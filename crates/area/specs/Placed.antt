@@ -1,4 +1,4 @@
--- Bytes put into a lent area from a place on. Assumes nothing.
+-- Bytes put into a lent area from a place on.
 use Prim.Native.Nat.{ℕ, _+_, _≤_}
 use mathlib.Core.Path.{_≡_}
 use mathlib.Core.List.{List}

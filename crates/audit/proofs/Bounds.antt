@@ -1,4 +1,4 @@
--- How large a verdict can be: a row's number or 255, so that it fits a byte where the rows do. Assumes nothing.
+-- How large a verdict can be: a row's number or 255, so that it fits a byte where the rows do.
 use Prim.Native.Nat.{ℕ, zero, suc, _+_, _≤_}
 use native.Mathlib.Omega.{arith}
 use mathlib.Core.Bool.{Bool, true, false, cond}

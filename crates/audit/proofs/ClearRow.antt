@@ -1,4 +1,4 @@
--- A row that sums with rounding show to be met is met by the exact ones. Assumes nothing.
+-- A row that sums with rounding show to be met is met by the exact ones.
 use Prim.Native.Nat.{ℕ, _+_, _*_, _^_, _≤_}
 use mathlib.Core.Path.{_≡_, refl, sym, ap, ap₂, _∙_, subst}
 use mathlib.Core.Bool.{Bool, true}

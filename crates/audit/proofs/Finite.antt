@@ -1,4 +1,4 @@
--- All that the verdict asks to be finite is, or something is not: each as its test tells. Assumes nothing.
+-- All that the verdict asks to be finite is, or something is not: each as its test tells.
 use Prim.Native.Nat.{ℕ, _<_}
 use mathlib.Core.Logic.{_⊎_, inl, inr}
 use mathlib.Core.Bool.{Bool, not, _&&_}

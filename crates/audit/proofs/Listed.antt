@@ -1,4 +1,4 @@
--- An audit over lists: its tests of finite numbers and its sums, as the functions of exact and ieee answer them; and the rows in turn. Assumes nothing.
+-- An audit over lists: its tests of finite numbers and its sums, as the functions of exact and ieee answer them; and the rows in turn.
 use Prim.Native.Nat.{ℕ, suc, _+_, _-_, _*_, _<_}
 use native.Mathlib.Nat.{add-comm}
 use native.Mathlib.Omega.{arith}

@@ -1,4 +1,4 @@
--- One row of an audit in words: what the exact sums hold on both sides is the row itself, since nothing wraps. Assumes nothing.
+-- One row of an audit in words: what the exact sums hold on both sides is the row itself, since nothing wraps.
 use Prim.Native.Nat.{ℕ, _+_, _^_, _<_}
 use native.Mathlib.Omega.{arith}
 use mathlib.Core.Path.{_≡_, sym, ap, ap₂, _∙_}

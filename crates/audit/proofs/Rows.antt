@@ -1,4 +1,4 @@
--- The rows of an audit, as facts: the first that is missed, and when a row is met. Assumes nothing.
+-- The rows of an audit, as facts: the first that is missed, and when a row is met.
 use Prim.Native.Nat.{ℕ, zero, suc, _+_, _-_, _≤_, _<_}
 use native.Mathlib.Decide.{decLt}
 use native.Mathlib.Omega.{arith}

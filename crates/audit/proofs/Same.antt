@@ -1,4 +1,4 @@
--- An audit reads n weights, n rows of p columns, p entries of f0 and n values, and no more: the same numbers there have the same verdict. Assumes nothing.
+-- An audit reads n weights, n rows of p columns, p entries of f0 and n values, and no more: the same numbers there have the same verdict.
 use Prim.Native.Nat.{ℕ, zero, suc, _+_, _-_, _≤_, _<_}
 use native.Mathlib.Omega.{arith}
 use mathlib.Core.Path.{_≡_, refl, ap, ap₂, _∙_}

@@ -1,4 +1,4 @@
--- The scan of F, entry after entry: what a row more says, and what one bad entry says of them all. Assumes nothing.
+-- The scan of F, entry after entry: what a row more says, and what one bad entry says of them all.
 use Prim.Native.Nat.{ℕ, zero, suc, _+_, _≤_, _<_}
 use native.Mathlib.Numerals.{add-one}
 use native.Mathlib.Decide.{decLt}

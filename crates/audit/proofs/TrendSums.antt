@@ -1,4 +1,4 @@
--- The trend bound over plain functions: from p + 1 rows that hold, for any p whole numbers and any factor. Assumes nothing.
+-- The trend bound over plain functions: from p + 1 rows that hold, for any p whole numbers and any factor.
 use Prim.Native.Nat.{ℕ, _*_, _<_}
 use native.Mathlib.Nat.{mul-comm}
 use mathlib.Core.Path.{_≡_, sym, ap, ap₂, _∙_, subst, subst₂}

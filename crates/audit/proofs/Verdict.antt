@@ -1,4 +1,4 @@
--- The verdict of an audit, each exactly when; and the trend bound of what passed. Assumes nothing.
+-- The verdict of an audit, each exactly when; and the trend bound of what passed.
 use Prim.Native.Nat.{ℕ, suc, _+_, _≤_, _<_}
 use native.Mathlib.Decide.{decLt}
 use native.Mathlib.Omega.{arith}

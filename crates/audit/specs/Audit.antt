@@ -1,5 +1,5 @@
 -- The audit of one node: paper 01, "Audit (added)". All sums are exact, over whole multiples of 2^-1074 and, for products, of 2^-2148.
--- It is in two parts: what does not depend on the values, rows 1 to p, and what does, row p + 1. Assumes nothing.
+-- It is in two parts: what does not depend on the values, rows 1 to p, and what does, row p + 1.
 use Prim.Native.Nat.{ℕ, zero, suc, _+_, _-_, _^_, _<_}
 use mathlib.Core.Path.{_≡_}
 use mathlib.Core.Bool.{Bool, _&&_, cond}

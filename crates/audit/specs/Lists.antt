@@ -1,4 +1,4 @@
--- What an audit reads, as it lies in lists: the weights, F row after row, the node's f0 and the values. Assumes nothing.
+-- What an audit reads, as it lies in lists: the weights, F row after row, the node's f0 and the values.
 use Prim.Native.Nat.{ℕ, _+_, _*_}
 use mathlib.Core.List.{List}
 use lib.ListN.{length, getD}

@@ -1,5 +1,5 @@
 -- What an audit promises of a node: when it has which verdict, and the trend bound of a node that passed. Paper 01, "Audit (added)".
--- All is exact: a number is its whole multiple of 2^-1074 (`units`), a product of two numbers is over 2^-2148, and `unit` is 1. Assumes nothing.
+-- All is exact: a number is its whole multiple of 2^-1074 (`units`), a product of two numbers is over 2^-2148, and `unit` is 1.
 use Prim.Native.Nat.{ℕ, suc, _+_, _≤_, _<_}
 use mathlib.Core.Path.{_≡_}
 use mathlib.Core.Logic.{_↔_}

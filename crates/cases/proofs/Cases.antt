@@ -1,8 +1,8 @@
--- The one lemma that holds the computed cases. Assumes nothing.
+-- The one lemma that holds the computed cases.
 use mathlib.Core.Path.{refl}
 use lib.Ieee.{ofBits, toBits, add, sub, mul, div, lt, le, eq, ofInt, toUnsigned, round}
-use Rattle.bins.specs.Semivariogram.{calculated}
-use Rattle.survey_file.proofs.Cases.{writes-bytes, reads-bytes, reads-noted, writes-models}
+use Rattle.semivariogram_theory.specs.Semivariogram.{calculated}
+use Rattle.survey_file_theory.proofs.Cases.{writes-bytes, reads-bytes, reads-noted, writes-models}
 use Rattle.cases.specs.Cases.{FourBins, Cases}
 use Rattle.cases.proofs.FitCases.{fit-cases}
 use Rattle.cases.proofs.InterpolationCases.{interpolation-cases}

@@ -1,4 +1,4 @@
--- The comparisons, each computed by the definitions. Assumes nothing.
+-- The comparisons, each computed by the definitions.
 use mathlib.Core.Path.{refl}
 use Rattle.words.specs.Words.{reading, half, modulus}
 use Rattle.words.specs.Compared.{wordsTaken}

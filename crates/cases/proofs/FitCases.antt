@@ -1,7 +1,7 @@
--- The cases of fits, each computed by the definitions. Assumes nothing.
+-- The cases of fits, each computed by the definitions.
 use mathlib.Core.Path.{refl}
 use lib.Ieee.{ofBits, toBits, add, sub, mul, div, lt, le, eq, ofInt, toUnsigned, round}
-use Rattle.fit.specs.Fit.{fitted}
+use Rattle.kriging_theory.specs.Fit.{fitted}
 use Rattle.cases.specs.FitCases.{FitCases, TwoExternals, NoNode, LinearDrift, Row1Missed, Row1Met, FigureMissed, WeightInfinite, FigureInfinite}
 
 two-externals : TwoExternals

@@ -1,7 +1,7 @@
--- The cases of interpolations, each computed by the definitions. Assumes nothing.
+-- The cases of interpolations, each computed by the definitions.
 use mathlib.Core.Path.{refl}
 use lib.Ieee.{ofBits, toBits, add, sub, mul, div, lt, le, eq, ofInt, toUnsigned, round}
-use Rattle.interpolation.specs.Interpolation.{interpolated}
+use Rattle.interpolator_theory.specs.Interpolation.{interpolated}
 use Rattle.cases.specs.InterpolationCases.{InterpolationCases, OnALine, InThePlane, InSpace}
 
 on-a-line : OnALine

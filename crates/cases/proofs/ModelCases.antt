@@ -1,9 +1,9 @@
--- The cases of the Exponential and the Gaussian model, each computed by the definitions. Assumes nothing.
+-- The cases of the Exponential and the Gaussian model, each computed by the definitions.
 use mathlib.Core.Path.{refl}
 use lib.Ieee.{ofBits, toBits, add, sub, mul, div, lt, le, eq, ofInt, toUnsigned, round}
 use Rattle.exponential.specs.Exponential.{expNeg}
-use Rattle.interpolation.specs.Refusals.{refusal}
-use Rattle.fit.specs.Fit.{fitted}
+use Rattle.interpolator_theory.specs.Refusals.{refusal}
+use Rattle.kriging_theory.specs.Fit.{fitted}
 use Rattle.cases.specs.ModelCases.{ModelCases}
 
 pub model-cases : ModelCases

@@ -1,12 +1,12 @@
--- Sounding B's wells in exact arithmetic, computed entry by entry. Assumes nothing.
+-- Sounding B's wells in exact arithmetic, computed entry by entry.
 use Prim.Native.Nat.{ℕ, zero, suc, _<_}
 use native.Mathlib.Omega.{arith}
 use mathlib.Core.Path.{_≡_, refl}
 use lib.IntN.{_*ℤ_}
 use lib.Ieee.{ofBits, toBits, add, sub, mul, div, lt, le, eq, ofInt, toUnsigned, round}
 use Rattle.exact.specs.Units.{units}
-use Rattle.fit.specs.System.{Index, Well, Drift, Within, coefficientOf}
-use Rattle.fit.specs.LeastSquares.{exactOf, sumOver, scaled}
+use Rattle.kriging_theory.specs.System.{Index, Well, Drift, Within, coefficientOf}
+use Rattle.kriging_theory.specs.LeastSquares.{exactOf, sumOver, scaled}
 use Rattle.cases.specs.SlopeCases.{twoWells, inverse, over, SlopeCases}
 
 -- there are two wells and one drift function

@@ -1,5 +1,5 @@
 -- Computed cases, their answers worked out outside these definitions: by tools/reading/cases.py, another reading of the paper in Python's floats and whole
--- numbers, and where the original Rust answers, the original's own; those of ModelCases, SlopeCases and ComparisonCases as they say. One record holds them all. Assumes nothing.
+-- numbers, and where the original Rust answers, the original's own; those of ModelCases, SlopeCases and ComparisonCases as they say. One record holds them all.
 use mathlib.Core.Path.{_≡_}
 use mathlib.Core.List.{[], _∷_}
 use mathlib.Core.Option.{some}
@@ -7,11 +7,11 @@ use lib.ListN.{replicate, drop}
 use lib.Ieee.{nan}
 use Rattle.variogram.specs.declared.VariogramModel.the-variants.{Spherical, Exponential, Gaussian, Linear}
 use Rattle.survey.specs.Limits.{base}
-use Rattle.bins.specs.Call.{Samples}
-use Rattle.bins.specs.Semivariogram.{calculated}
-use Rattle.survey_file.specs.File.{baseVersion, writerFile}
-use Rattle.survey_file.specs.Reader.{readBytes}
-use Rattle.survey_file.specs.Cases.{survey, file, noted, bare, withModel}
+use Rattle.semivariogram_theory.specs.Call.{Samples}
+use Rattle.semivariogram_theory.specs.Semivariogram.{calculated}
+use Rattle.survey_file_theory.specs.File.{baseVersion, writerFile}
+use Rattle.survey_file_theory.specs.Reader.{readBytes}
+use Rattle.survey_file_theory.specs.Cases.{survey, file, noted, bare, withModel}
 use Rattle.cases.specs.FitCases.{f, fs, FitCases}
 use Rattle.cases.specs.InterpolationCases.{InterpolationCases}
 use Rattle.cases.specs.ModelCases.{ModelCases}

@@ -1,4 +1,4 @@
--- Pairs of sums in 67 words, by hand from paper 02, "Audit comparison that stops early": their order, and how many words tell it. Assumes nothing.
+-- Pairs of sums in 67 words, by hand from paper 02, "Audit comparison that stops early": their order, and how many words tell it.
 use Prim.Native.Nat.{ℕ, _-_, _^_}
 use mathlib.Core.Path.{_≡_}
 use mathlib.Core.List.{List, _∷_, _++_}

@@ -1,6 +1,6 @@
 -- Fits whose answers were worked out outside these definitions: tools/reading/cases.py has another reading of the paper in Python's floats and whole
 -- numbers, which prints them, and holds figures, variances and multipliers to the original Rust, run. It also tries wrong readings, each of which changes
--- a number here. Assumes nothing.
+-- a number here.
 use Prim.Native.Nat.{ℕ, _*_}
 use mathlib.Core.Path.{_≡_}
 use mathlib.Core.List.{List, [], _∷_, map}
@@ -12,8 +12,8 @@ use Rattle.variogram.specs.declared.VariogramModel.the-variants.{Spherical}
 use Rattle.error.specs.Outcome.{Outcome, outcome}
 use Rattle.survey.specs.Limits.{base}
 use Rattle.survey.specs.Survey.{Survey, wells, nodeCount, columns, size}
-use Rattle.fit.specs.Areas.{Areas}
-use Rattle.fit.specs.Fit.{fitted}
+use Rattle.kriging_theory.specs.Areas.{Areas}
+use Rattle.kriging_theory.specs.Fit.{fitted}
 
 -- numbers by their bit patterns
 abbrev pub f : ℕ → Float

@@ -1,5 +1,5 @@
 -- Interpolations whose answers were worked out outside these definitions, by tools/reading/cases.py, and are the original Rust's: another reading of the paper prints them,
--- holds them to the original, run, and tries wrong readings, each of which changes a number here. Assumes nothing.
+-- holds them to the original, run, and tries wrong readings, each of which changes a number here.
 use Prim.Native.Nat.{ℕ, _*_}
 use mathlib.Core.Path.{_≡_}
 use mathlib.Core.List.{List, [], _∷_}
@@ -9,10 +9,10 @@ use Rattle.variogram.specs.Model.{variogram}
 use Rattle.variogram.specs.declared.VariogramModel.the-variants.{Spherical}
 use Rattle.error.specs.Outcome.{Outcome, outcome}
 use Rattle.survey.specs.Limits.{base}
-use Rattle.interpolation.specs.declared.KrigingType.{KrigingType}
-use Rattle.interpolation.specs.declared.KrigingType.the-variants.{Ordinary, Universal}
-use Rattle.interpolation.specs.Call.{Query, Areas, nodeCount, size}
-use Rattle.interpolation.specs.Interpolation.{interpolated}
+use Rattle.interpolator_theory.specs.declared.KrigingType.{KrigingType}
+use Rattle.interpolator_theory.specs.declared.KrigingType.the-variants.{Ordinary, Universal}
+use Rattle.interpolator_theory.specs.Call.{Query, Areas, nodeCount, size}
+use Rattle.interpolator_theory.specs.Interpolation.{interpolated}
 use Rattle.cases.specs.FitCases.{f, fs}
 
 -- Spherical 0.25, 1.25, 8

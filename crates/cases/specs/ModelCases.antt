@@ -1,5 +1,5 @@
 -- The Exponential and the Gaussian model, and what 12 refuses: paper 02, "Exponential and Gaussian wells". The answers were worked out
--- outside these definitions, from e^−u to 60 digits; at these u the C library's `exp` gives the same f64. Assumes nothing.
+-- outside these definitions, from e^−u to 60 digits; at these u the C library's `exp` gives the same f64.
 use Prim.Native.Nat.{ℕ}
 use mathlib.Core.Path.{_≡_}
 use mathlib.Core.List.{[], _∷_}
@@ -12,9 +12,9 @@ use Rattle.variogram.specs.declared.VariogramModel.the-variants.{Exponential, G
 use Rattle.error.specs.Outcome.{outcome}
 use Rattle.survey.specs.Limits.{base}
 use Rattle.survey.specs.Survey.{Survey}
-use Rattle.interpolation.specs.declared.KrigingType.the-variants.{Ordinary}
-use Rattle.interpolation.specs.Call.{Query}
-use Rattle.interpolation.specs.Refusals.{refusal}
+use Rattle.interpolator_theory.specs.declared.KrigingType.the-variants.{Ordinary}
+use Rattle.interpolator_theory.specs.Call.{Query}
+use Rattle.interpolator_theory.specs.Refusals.{refusal}
 use Rattle.cases.specs.FitCases.{f, areasOf, answerOf, Answers}
 
 -- one well at (0, 0) with 5, Constant, a node at (2, 0), nugget 0.25, sill 1.25, r = t = 0: the model and its range

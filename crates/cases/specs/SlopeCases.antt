@@ -1,4 +1,4 @@
--- Sounding B's wells in exact arithmetic, by hand: its matrix has an exact inverse, and the trend is their mean. Assumes nothing.
+-- Sounding B's wells in exact arithmetic, by hand: its matrix has an exact inverse, and the trend is their mean.
 use Prim.Native.Nat.{ℕ, _*_, _^_}
 use mathlib.Core.Path.{_≡_}
 use mathlib.Core.Bool.{cond}
@@ -9,8 +9,8 @@ use Rattle.ieee.specs.Floats.{zeroFloat, oneFloat}
 use Rattle.variogram.specs.Model.{variogram}
 use Rattle.variogram.specs.declared.VariogramModel.the-variants.{Spherical}
 use Rattle.survey.specs.Survey.{Survey, valueAt}
-use Rattle.fit.specs.System.{Index, Drift}
-use Rattle.fit.specs.LeastSquares.{same, InverseOf, estimateOf}
+use Rattle.kriging_theory.specs.System.{Index, Drift}
+use Rattle.kriging_theory.specs.LeastSquares.{same, InverseOf, estimateOf}
 use Rattle.cases.specs.FitCases.{fs}
 
 -- "(0,0) 2 and (2,0) 6", Constant, Spherical 0, 1, 1, r = 0: the matrix is 0 1 1, 1 0 1, 1 1 0

@@ -1,4 +1,4 @@
--- What the work area held before, and what lies past the matrix, does not count: areas that agree on the matrix agree on it after each step. Assumes nothing.
+-- What the work area held before, and what lies past the matrix, does not count: areas that agree on the matrix agree on it after each step.
 use Prim.Native.Nat.{ℕ, zero, suc, _+_, _-_, _*_, _≤_, _<_}
 use native.Mathlib.Decide.{decLt}
 use native.Mathlib.Omega.{arith}

@@ -1,4 +1,4 @@
--- The identity beside a matrix, by the part that a column stands in. Assumes nothing.
+-- The identity beside a matrix, by the part that a column stands in.
 use Prim.Native.Nat.{ℕ, _+_, _<_, _≤_}
 use mathlib.Core.Path.{_≡_, _∙_}
 use mathlib.Core.Logic.{_≢_}

@@ -1,4 +1,4 @@
--- How a call that eliminates ends, both ways, for every call whose tests tell its rules and whose rules keep the work area long enough. Assumes nothing.
+-- How a call that eliminates ends, both ways, for every call whose tests tell its rules and whose rules keep the work area long enough.
 use Prim.Native.Nat.{ℕ, zero, suc, _*_, _≤_}
 use native.Mathlib.Omega.{arith}
 use mathlib.Core.Path.{_≡_, refl, ap, sym, _∙_, subst}

@@ -1,4 +1,4 @@
--- Clearing the other rows, one row more: row i itself, a row that is skipped, and a row that is cleared. Assumes nothing.
+-- Clearing the other rows, one row more: row i itself, a row that is skipped, and a row that is cleared.
 use Prim.Native.Nat.{ℕ, _+_}
 use native.Mathlib.Numerals.{add-one}
 use mathlib.Core.Path.{_≡_, refl, ap, _∙_, sym}

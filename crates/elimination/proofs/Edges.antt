@@ -1,4 +1,4 @@
--- The definitions at work, each computed: the edges that paper 01 names, and the matrix of its sounding B. Assumes nothing.
+-- The definitions at work, each computed: the edges that paper 01 names, and the matrix of its sounding B.
 use mathlib.Core.Path.{_≡_, refl}
 use mathlib.Core.Bool.{true, false}
 use mathlib.Core.List.{[], _∷_}

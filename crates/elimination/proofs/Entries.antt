@@ -1,4 +1,4 @@
--- Clearing, entry by entry: though it goes row by row, each entry comes from the matrix as it stood, its row's factor and row i among it. Assumes nothing.
+-- Clearing, entry by entry: though it goes row by row, each entry comes from the matrix as it stood, its row's factor and row i among it.
 use Prim.Native.Nat.{ℕ, zero, suc, _+_, _*_, _≤_, _<_}
 use native.Mathlib.Nat.{not-suc-le-zero, suc-mul}
 use native.Mathlib.Decide.{decLt, ℕ-discrete}

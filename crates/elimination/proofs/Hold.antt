@@ -1,4 +1,4 @@
--- Going down a column: one row more, what a test on the way settles, and where the row held lies. Assumes nothing.
+-- Going down a column: one row more, what a test on the way settles, and where the row held lies.
 use Prim.Native.Nat.{ℕ, zero, suc, _+_, _-_, _*_, _<_, _≤_}
 use native.Mathlib.Omega.{arith}
 use mathlib.Core.Path.{_≡_, ap, _∙_, sym}

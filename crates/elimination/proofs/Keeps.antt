@@ -1,4 +1,4 @@
--- Each stage keeps the area's length, and leaves what lies past the matrix as it was. Assumes nothing.
+-- Each stage keeps the area's length, and leaves what lies past the matrix as it was.
 use Prim.Native.Nat.{ℕ, zero, suc, _*_, _≤_, _<_}
 use native.Mathlib.Omega.{arith}
 use mathlib.Core.Bool.{Bool}

@@ -1,4 +1,4 @@
--- A work area with a matrix beside the identity: its entries, and what lies past them. Assumes nothing.
+-- A work area with a matrix beside the identity: its entries, and what lies past them.
 use Prim.Native.Nat.{ℕ, _+_, _*_, _/_, _%_, _≤_, _<_}
 use native.Mathlib.Nat.{zero-add}
 use native.Mathlib.Omega.{arith}

@@ -1,4 +1,4 @@
--- Whether a row lies in its area, and what a call leaves where it does and where it does not. Assumes nothing.
+-- Whether a row lies in its area, and what a call leaves where it does and where it does not.
 use Prim.Native.Nat.{ℕ, _+_, _*_, _^_, _≤_, _<_}
 use native.Mathlib.Nat.{le-trans, mul-le-mul-left, mul-le-mul-right}
 use native.Mathlib.Omega.{arith}

@@ -1,4 +1,4 @@
--- A row of a matrix beside the identity, put together: before the diagonal, from the diagonal on, and the identity's. Assumes nothing.
+-- A row of a matrix beside the identity, put together: before the diagonal, from the diagonal on, and the identity's.
 use Prim.Native.Nat.{ℕ, zero, suc, _+_, _-_, _*_, _≤_, _<_}
 use native.Mathlib.Nat.{not-suc-le-zero}
 use native.Mathlib.Decide.{decLt, ℕ-discrete}

@@ -1,4 +1,4 @@
--- One turn of each loop over a row: what the loop has written so far, with its next store, is what one turn more writes. Assumes nothing.
+-- One turn of each loop over a row: what the loop has written so far, with its next store, is what one turn more writes.
 use Prim.Native.Nat.{ℕ, zero, suc, _+_, _*_, _<_, _≤_}
 use native.Mathlib.Nat.{add-assoc, zero-lt-suc}
 use native.Mathlib.Omega.{arith}

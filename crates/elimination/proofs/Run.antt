@@ -1,4 +1,4 @@
--- The run of steps, one step at a time: how it begins, stops, goes on and ends. Assumes nothing.
+-- The run of steps, one step at a time: how it begins, stops, goes on and ends.
 use Prim.Native.Nat.{ℕ, suc, _+_, _-_, _*_, _<_}
 use native.Mathlib.Nat.{sub-zero}
 use native.Mathlib.Omega.{arith}

@@ -1,5 +1,5 @@
 -- Where an elimination ends, both ways: it stops at step i exactly where the steps before went through and the magnitude that step i holds is below 2^-52;
--- it is done exactly where every step goes through; it is refused exactly where the area is too short. And what the area then holds. Assumes nothing.
+-- it is done exactly where every step goes through; it is refused exactly where the area is too short. And what the area then holds.
 use Prim.Native.Nat.{ℕ, zero, suc, _-_, _*_, _≤_, _<_}
 use native.Mathlib.Nat.{not-suc-le-zero}
 use native.Mathlib.Numerals.{add-one}

@@ -1,4 +1,4 @@
--- A call that eliminates, whichever it is: turned away before, stopped at a step, or gone through. Assumes nothing.
+-- A call that eliminates, whichever it is: turned away before, stopped at a step, or gone through.
 use Prim.Native.Nat.{ℕ, zero, suc, _*_, _<_}
 use mathlib.Core.Path.{_≡_}
 use mathlib.Core.Logic.{_≢_, _↔_}

@@ -1,5 +1,5 @@
 -- Elimination, stage by stage as paper 01 says it, on "the matrix beside the identity, s rows of 2s", which lies in a list row after row.
--- One definition serves both calls: `skip` says whether a row whose factor is zero is passed over. Assumes nothing.
+-- One definition serves both calls: `skip` says whether a row whose factor is zero is passed over.
 use Prim.Native.Nat.{ℕ, zero, suc, _+_, _-_, _*_, _≤_, _<_}
 use mathlib.Core.Path.{_≡_}
 use mathlib.Core.Bool.{Bool, true, false, _&&_, cond}

@@ -1,4 +1,4 @@
--- What goes into an elimination and what comes out of it, for both calls. Assumes nothing.
+-- What goes into an elimination and what comes out of it, for both calls.
 use Prim.Native.Nat.{ℕ, _+_, _*_}
 use mathlib.Core.Bool.{cond}
 use mathlib.Core.List.{List}

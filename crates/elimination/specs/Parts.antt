@@ -1,4 +1,4 @@
--- A part of a row that is cleared. Assumes nothing.
+-- A part of a row that is cleared.
 use Prim.Native.Nat.{ℕ, _+_}
 use mathlib.Core.List.{List}
 use lib.ListN.{getD}

@@ -1,4 +1,4 @@
--- Rows of a matrix that is its own transpose, beside the identity, for whatever area is lent. Assumes nothing.
+-- Rows of a matrix that is its own transpose, beside the identity, for whatever area is lent.
 use Prim.Native.Nat.{ℕ, _+_, _*_}
 use mathlib.Core.Bool.{Bool, _||_, cond}
 use mathlib.Core.List.{List}

@@ -1,4 +1,4 @@
--- The number of the first test that holds, found as code finds it: test after test, and part after part. Assumes nothing.
+-- The number of the first test that holds, found as code finds it: test after test, and part after part.
 use Prim.Native.Nat.{ℕ, _<_}
 use mathlib.Core.Path.{_≡_, refl, sym, ap, _∙_}
 use mathlib.Core.Logic.{_≢_}

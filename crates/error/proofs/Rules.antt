@@ -1,5 +1,5 @@
 -- The one theorem about refusals: a list of tests, each of which tells the condition of the rule at its place, gives the number that the rules give.
--- Whatever the order of the numbers; where they rise, the lowest number whose condition holds is given. Assumes nothing.
+-- Whatever the order of the numbers; where they rise, the lowest number whose condition holds is given.
 use Prim.Native.Nat.{ℕ, _<_}
 use native.Mathlib.Decide.{decLt}
 use native.Mathlib.Omega.{arith}

@@ -1,4 +1,4 @@
--- A test tells a condition: it comes out true exactly where the condition holds. Tests joined by and, or, not; tests of numbers. Assumes nothing.
+-- A test tells a condition: it comes out true exactly where the condition holds. Tests joined by and, or, not; tests of numbers.
 use Prim.Native.Nat.{ℕ, zero, suc, _≤_, _<_}
 use native.Mathlib.Nat.{not-suc-le-zero}
 use native.Mathlib.Decide.{decLt}

@@ -1,4 +1,4 @@
--- The numbers of paper 01, "What turns a call away": a refusal carries only its number. Assumes nothing.
+-- The numbers of paper 01, "What turns a call away": a refusal carries only its number.
 use Prim.Native.Nat.{ℕ}
 use Rattle.error.specs.declared.Judgement.{Judgement}
 use Rattle.error.specs.declared.Judgement.the-variants.{Accepted, Refused}

@@ -1,4 +1,4 @@
--- How a call ends: 0 or the number of its refusal, and what the areas that it was lent hold then. Assumes nothing.
+-- How a call ends: 0 or the number of its refusal, and what the areas that it was lent hold then.
 use Prim.Native.Nat.{ℕ}
 
 pub record Outcome (A : Type 0) : Type 0 where

@@ -1,4 +1,4 @@
--- "What turns a call away", as the papers say it and not as tests: rules in the order in which they count, each a number with its condition. Assumes nothing.
+-- "What turns a call away", as the papers say it and not as tests: rules in the order in which they count, each a number with its condition.
 use Prim.Native.Nat.{ℕ, _<_}
 use mathlib.Core.Path.{_≡_}
 use mathlib.Core.Logic.{_⊎_}

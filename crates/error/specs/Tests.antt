@@ -1,4 +1,4 @@
--- "What turns a call away": the tests of a call in the order in which they are made, each with its number. The first that holds gives the number. Assumes nothing.
+-- "What turns a call away": the tests of a call in the order in which they are made, each with its number. The first that holds gives the number.
 use Prim.Native.Nat.{ℕ, zero, suc}
 use mathlib.Core.Bool.{Bool, true, false, _&&_, _||_, cond}
 use mathlib.Core.List.{List, [], _∷_}

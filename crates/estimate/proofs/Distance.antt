@@ -1,4 +1,4 @@
--- How far apart two whole numbers are, by way of a third, term by term, and in other units. Assumes nothing.
+-- How far apart two whole numbers are, by way of a third, term by term, and in other units.
 use Prim.Native.Nat.{ℕ, _+_, _*_, _≤_}
 use native.Mathlib.Nat.{le-trans, le-of-eq}
 use mathlib.Core.Path.{_≡_, sym, ap, ap₂, _∙_, subst}

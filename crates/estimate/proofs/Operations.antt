@@ -1,4 +1,4 @@
--- A sum and a product of two f64, by how far they are from the exact ones; and that a finite result has finite operands. Assumes nothing.
+-- A sum and a product of two f64, by how far they are from the exact ones; and that a finite result has finite operands.
 use Prim.Native.Nat.{ℕ, zero, suc, _+_, _-_, _*_, _^_, _≤_, _<_}
 use native.Mathlib.Nat.{mul-comm}
 use native.Mathlib.Omega.{arith}

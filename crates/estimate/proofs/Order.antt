@@ -1,4 +1,4 @@
--- What a comparison of two f64 says of their multiples of 2^-1074. Assumes nothing.
+-- What a comparison of two f64 says of their multiples of 2^-1074.
 use Prim.Native.Nat.{ℕ, zero, suc, _+_, _*_, _^_, _≤_, _<_}
 use native.Mathlib.Nat.{le-trans, le-of-eq, le-of-lt, mul-pos, one-mul, mul-right-comm, mul-assoc, mul-comm, mul-le-mul-right, le-of-mul-le-mul-right}
 use native.Mathlib.Omega.{arith}

@@ -1,4 +1,4 @@
--- A magnitude in units of 2^-1074, rounded to an f64: how far it goes, and that it keeps the order. Assumes nothing.
+-- A magnitude in units of 2^-1074, rounded to an f64: how far it goes, and that it keeps the order.
 use Prim.Native.Nat.{ℕ, suc, _+_, _-_, _*_, _^_, _≤_, _<_}
 use native.Mathlib.Nat.{le-of-mul-le-mul-right, mul-assoc}
 use native.Mathlib.Omega.{arith}

@@ -1,5 +1,4 @@
 -- A rounded sum of n products is no further from the exact one than n times 2^-52 of the rounded sum of the terms' magnitudes, and n of the smallest f64.
--- Assumes nothing.
 use Prim.Native.Nat.{ℕ, zero, suc, _+_, _*_, _^_, _≤_, _<_}
 use native.Mathlib.Nat.{le-trans, le-of-eq, le-refl, le-add-right, le-add-left, mul-le-mul-left, mul-le-mul-right}
 use native.Mathlib.Omega.{arith}

@@ -1,4 +1,4 @@
--- A row of the audit by sums that round, where they leave no doubt. Assumes nothing.
+-- A row of the audit by sums that round, where they leave no doubt.
 use Prim.Native.Nat.{ℕ, _*_, _^_, _≤_}
 use mathlib.Core.Bool.{Bool, _&&_}
 use lib.Dec.{leb}

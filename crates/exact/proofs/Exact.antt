@@ -1,4 +1,4 @@
--- No sum of up to 2^80 products of f64 wraps in 67 words: what is read is the exact sum, in units of 2^-2148. Assumes nothing.
+-- No sum of up to 2^80 products of f64 wraps in 67 words: what is read is the exact sum, in units of 2^-2148.
 use Prim.Native.Nat.{ℕ, zero, suc, _+_, _*_, _/_, _%_, _^_, _-_, _≤_, _<_}
 use native.Mathlib.Nat.{le-trans, le-of-lt, le-of-eq, lt-of-le-of-lt, mul-le-mul, mul-le-mul-right, mul-lt-mul-of-pos-right, mul-right-comm, one-mul, zero-mul, zero-div, add-mul, div-lt-iff-lt-mul, add-le-add}
 use native.Mathlib.Omega.{arith}

@@ -1,4 +1,4 @@
--- A product by halves of words, and a shift over words. Assumes nothing.
+-- A product by halves of words, and a shift over words.
 use Prim.Native.Nat.{ℕ, _+_, _-_, _*_, _/_, _%_, _^_, _≤_, _<_}
 use native.Mathlib.Nat.{mul-lt-mul-of-pos-right, mul-div-mul-right, div-add-mod', mod-lt, div-lt-iff-lt-mul, add-mul, mul-assoc, mul-comm}
 use native.Mathlib.Omega.{arith}

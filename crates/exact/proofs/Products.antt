@@ -1,4 +1,4 @@
--- Products added to 67 words in turn: the three words of one, what its carry makes of them, and where a column ends. Assumes nothing.
+-- Products added to 67 words in turn: the three words of one, what its carry makes of them, and where a column ends.
 use Prim.Native.Nat.{ℕ, _+_, _*_, _^_, _≤_, _<_}
 use native.Mathlib.Nat.{zero-add, add-zero, one-mul, mul-le-mul-right}
 use native.Mathlib.Omega.{arith}

@@ -1,4 +1,4 @@
--- Laws of finite sums of whole numbers: linear, two of them change places, the magnitude of a sum. Assumes nothing.
+-- Laws of finite sums of whole numbers: linear, two of them change places, the magnitude of a sum.
 use Prim.Native.Nat.{ℕ, zero, suc, _*_, _≤_, _<_}
 use native.Mathlib.Nat.{suc-mul}
 use native.Mathlib.Omega.{arith}

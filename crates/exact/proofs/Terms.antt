@@ -1,4 +1,4 @@
--- A product of two f64 as a term of three words: its sign, and its place. Assumes nothing.
+-- A product of two f64 as a term of three words: its sign, and its place.
 use Prim.Native.Nat.{ℕ, _+_, _*_, _/_, _%_, _^_}
 use native.Mathlib.Nat.{mul-assoc, mul-mul-mul-comm}
 use native.Mathlib.Omega.{arith}

@@ -1,4 +1,4 @@
--- A finite f64 as a whole number of 2^-1074, by its bits and by the kit's account of its value; and the bound on it. Assumes nothing.
+-- A finite f64 as a whole number of 2^-1074, by its bits and by the kit's account of its value; and the bound on it.
 use Prim.Native.Nat.{ℕ, zero, suc, _+_, _-_, _*_, _/_, _^_, _≤_}
 use native.Mathlib.Nat.{mul-one, zero-mul, zero-div}
 use native.Mathlib.Omega.{arith}

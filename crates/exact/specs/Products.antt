@@ -1,4 +1,4 @@
--- A finite sum of products of f64, as a whole number. Assumes nothing.
+-- A finite sum of products of f64, as a whole number.
 use Prim.Native.Nat.{ℕ, _+_, _*_, _^_, _≤_}
 use mathlib.Core.List.{List}
 use lib.ListN.{length, getD}

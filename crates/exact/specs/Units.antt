@@ -1,4 +1,4 @@
--- A finite f64 as a whole number of the smallest f64 above zero, 2^-1074. Assumes nothing.
+-- A finite f64 as a whole number of the smallest f64 above zero, 2^-1074.
 use Prim.Native.Nat.{ℕ, _/_, _%_, _^_}
 use mathlib.Core.Bool.{Bool, cond}
 use lib.IntN.{ℤ, pos}

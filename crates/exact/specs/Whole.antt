@@ -1,4 +1,4 @@
--- Finite sums of whole numbers. Assumes nothing.
+-- Finite sums of whole numbers.
 use Prim.Native.Nat.{ℕ, zero, suc}
 use lib.IntN.{ℤ, pos, _+ℤ_}
 

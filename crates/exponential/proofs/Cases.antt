@@ -1,4 +1,4 @@
--- e^−u by the ranges of u: from 35 on, from 0 up to 35, and the rest, which is a NaN and what is below 0. Assumes nothing.
+-- e^−u by the ranges of u: from 35 on, from 0 up to 35, and the rest, which is a NaN and what is below 0.
 use Prim.Native.Nat.{_+_, _*_}
 use native.Mathlib.Omega.{arith}
 use mathlib.Core.Path.{_≡_, refl}

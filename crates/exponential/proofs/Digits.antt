@@ -1,5 +1,4 @@
 -- An f64 from 0 up to 35: it is finite and its multiple of 2^-1074 is below that of 35; and its multiple of 2^-57, from the fields of its pattern.
--- Assumes nothing.
 use Prim.Native.Nat.{ℕ, zero, suc, _+_, _*_, _/_, _%_, _^_, _≤_, _<_}
 use native.Mathlib.Nat.{add-comm, mul-assoc, mul-right-comm, mul-lt-mul-of-pos-right, lt-of-mul-lt-mul-right, lt-of-lt-of-le, mod-eq-of-lt}
 use native.Mathlib.Nat.{div-eq-of-lt, div-lt-iff-lt-mul, mul-div-cancel, mul-div-mul-right}

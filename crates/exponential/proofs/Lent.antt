@@ -1,4 +1,4 @@
--- By the table itself, lent, e^−u comes out. Assumes nothing.
+-- By the table itself, lent, e^−u comes out.
 use Prim.Native.Nat.{ℕ, _*_, _/_, _%_, _^_, _≤_, _<_, min}
 use native.Mathlib.Omega.{arith}
 use mathlib.Core.Path.{_≡_, ap, _∙_}

@@ -1,4 +1,4 @@
--- The tables' rule, by one computed test over each of them: every entry lies within one unit of 2^-62 of e^−(i/512), and of e^−k. Assumes nothing.
+-- The tables' rule, by one computed test over each of them: every entry lies within one unit of 2^-62 of e^−(i/512), and of e^−k.
 use Prim.Native.Nat.{ℕ, suc, _+_, _-_, _*_, _^_, _<_}
 use native.Mathlib.Omega.{arith}
 use mathlib.Core.Path.{_≡_, refl, sym, subst}

@@ -1,5 +1,5 @@
 -- The short series for an f below 1/512 lies within 1,100 units of 2^-62 of e^−f: its terms up to the fourth power are an upper sum, those up to the fifth a
--- lower one, and what the products cut off is a few units. Assumes nothing.
+-- lower one, and what the products cut off is a few units.
 use Prim.Native.Nat.{ℕ, _+_, _-_, _*_, _/_, _^_, _≤_, _<_}
 use native.Mathlib.Nat.{mul-add, mul-one, mul-div-le, lt-mul-div-succ, le-of-lt, mul-le-mul}
 use native.Mathlib.Omega.{arith}

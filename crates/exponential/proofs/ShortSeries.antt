@@ -1,4 +1,4 @@
--- The short series for an f below 1/512: its powers fall, so that it stays between 0 and 1. Assumes nothing.
+-- The short series for an f below 1/512: its powers fall, so that it stays between 0 and 1.
 use Prim.Native.Nat.{ℕ, _+_, _/_, _^_, _≤_, _<_}
 use native.Mathlib.Nat.{le-refl}
 use native.Mathlib.Omega.{arith}

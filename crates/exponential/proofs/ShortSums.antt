@@ -1,5 +1,4 @@
 -- The sums for a small f that end at the powers 4 and 5, written out, and how a number c of units is held to them: by the powers of f in units, z to 1.
--- Assumes nothing.
 use Prim.Native.Nat.{ℕ, _+_, _*_, _^_, _≤_}
 use native.Mathlib.Nat.{mul-le-mul, mul-le-mul-left, mul-le-mul-right, one-mul, pow-suc, pow-zero}
 use native.Mathlib.Omega.{arith}

@@ -1,4 +1,4 @@
--- The f64 that y units of 2^-62 are shown as, for y up to 2^62: (y + 2^8) / 2^9 multiples of 2^-53, exactly. Assumes nothing.
+-- The f64 that y units of 2^-62 are shown as, for y up to 2^62: (y + 2^8) / 2^9 multiples of 2^-53, exactly.
 use Prim.Native.Nat.{ℕ, _+_, _*_, _/_, _^_, _≤_, _<_}
 use native.Mathlib.Nat.{lt-of-le-of-lt, mul-le-mul-right, one-mul, mul-assoc, mul-pos, mul-right-comm, eq-or-lt-of-le}
 use native.Mathlib.Omega.{arith}

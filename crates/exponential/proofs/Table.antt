@@ -1,4 +1,4 @@
--- A rule of a table, proved at all of its entries by one test that is computed, one entry after the other. Assumes nothing.
+-- A rule of a table, proved at all of its entries by one test that is computed, one entry after the other.
 use mathlib.Core.Path.{_≡_, refl, _∙_, subst, sym}
 use mathlib.Core.Bool.{Bool, true, false, cond}
 use mathlib.Core.List.{List, [], _∷_}

@@ -1,4 +1,4 @@
--- A product of two multiples of 2^-62: from the two words of the product, by halves of 32 bits, and how large it is. Assumes nothing.
+-- A product of two multiples of 2^-62: from the two words of the product, by halves of 32 bits, and how large it is.
 use Prim.Native.Nat.{ℕ, _+_, _*_, _/_, _%_, _^_, _≤_, _<_}
 use native.Mathlib.Nat.{mul-le-mul, div-add-mod'}
 use native.Mathlib.Omega.{arith}

@@ -1,4 +1,4 @@
--- e^−u in multiples of 2^-62 is at most 2^62, and each of the parts that it is the product of. Assumes nothing.
+-- e^−u in multiples of 2^-62 is at most 2^62, and each of the parts that it is the product of.
 use Prim.Native.Nat.{ℕ, _*_, _/_, _%_, _^_, _≤_, _<_}
 use native.Mathlib.Omega.{arith}
 use lib.Dec.{leb, leb→le}

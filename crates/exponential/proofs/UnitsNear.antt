@@ -1,6 +1,6 @@
 -- The product of the three parts lies within 1,140 units of 2^-62 of e^−u, for every u below 35 whose first digits are w·2^-57. u is (w·32·b + rest) /
 -- (2^62·b), with b
--- left open: 2^1012 where u is a multiple of 2^-1074. Assumes nothing.
+-- left open: 2^1012 where u is a multiple of 2^-1074.
 use Prim.Native.Nat.{ℕ, _+_, _-_, _*_, _/_, _%_, _^_, _≤_, _<_}
 use native.Mathlib.Nat.{le-refl, le-of-lt, mul-one, one-mul, mul-comm, mul-pos, add-mul, mul-le-mul-left, add-zero, zero-add, zero-mul, pow-suc, pow-zero}
 use native.Mathlib.Nat.{sub-add-cancel, div-mul-le-self, lt-div-mul-add}

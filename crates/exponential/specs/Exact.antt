@@ -1,4 +1,4 @@
--- What holds of e^−u and of the table: paper 02, Slip 1. Assumes nothing.
+-- What holds of e^−u and of the table: paper 02, Slip 1.
 use Prim.Native.Nat.{ℕ, _^_, _≤_, _<_}
 use mathlib.Core.Path.{_≡_}
 use mathlib.Core.Bool.{true, false}

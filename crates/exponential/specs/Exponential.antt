@@ -1,4 +1,4 @@
--- e^−u for an f64 u, worked out in whole multiples of 2^-62. How far it lies from the exact value is said in specs/Exact.antt and proved. Assumes nothing.
+-- e^−u for an f64 u, worked out in whole multiples of 2^-62. How far it lies from the exact value is said in specs/Exact.antt and proved.
 use Prim.Native.Nat.{ℕ, _+_, _-_, _*_, _/_, _%_, _^_, min}
 use mathlib.Core.Bool.{cond}
 use mathlib.Core.List.{List}

@@ -1,4 +1,4 @@
--- Laws of numbers as bytes: what is written reads back, and how long it is. Assumes nothing.
+-- Laws of numbers as bytes: what is written reads back, and how long it is.
 use Prim.Native.Nat.{ℕ, zero, suc, _+_, _*_, _/_, _%_, _^_, _<_}
 use native.Mathlib.Nat.{div-lt-iff-lt-mul, pow-suc, mod-lt}
 use native.Mathlib.Omega.{arith}

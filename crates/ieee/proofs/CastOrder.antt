@@ -1,5 +1,5 @@
 -- The cast of an f64 to a whole number: the floor before it changes nothing, and it rises with the number, with a quotient by one divisor,
--- and with the root over one divisor. Assumes nothing.
+-- and with the root over one divisor.
 use Prim.Native.Nat.{ℕ, zero, suc, _+_, _-_, _*_, _/_, _^_, _≤_, _<_, min}
 use native.Mathlib.Nat.{mul-assoc, mul-comm, mul-left-comm, mul-pos, zero-lt-suc, mul-le-mul-right, le-trans, le-of-eq, mul-div-cancel}
 use native.Mathlib.Omega.{arith}

@@ -1,4 +1,4 @@
--- A finite f64 by its bit fields: the multiple of 2^-1074 that it is, its sign, and that these two tell it from every other f64. Assumes nothing.
+-- A finite f64 by its bit fields: the multiple of 2^-1074 that it is, its sign, and that these two tell it from every other f64.
 use Prim.Native.Nat.{ℕ, zero, suc, _+_, _*_, _/_, _%_, _^_}
 use native.Mathlib.Nat.{mul-div-cancel, mul-one}
 use mathlib.Core.Path.{_≡_, refl, ap, sym, _∙_, subst}

@@ -1,4 +1,4 @@
--- The tests of finite numbers come out false exactly where a number is not finite. Assumes nothing.
+-- The tests of finite numbers come out false exactly where a number is not finite.
 use Prim.Native.Nat.{ℕ, zero, suc, _<_}
 use native.Mathlib.Nat.{zero-lt-suc, not-suc-le-zero, le-of-suc-le-suc}
 use native.Mathlib.Omega.{arith}

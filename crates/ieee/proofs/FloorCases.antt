@@ -1,4 +1,4 @@
--- The greatest whole number not above a finite f64: the whole part above zero, and below zero the whole part or 1 more in size. Assumes nothing.
+-- The greatest whole number not above a finite f64: the whole part above zero, and below zero the whole part or 1 more in size.
 use Prim.Native.Nat.{ℕ, zero, suc, _+_, _*_, _/_, _%_, _^_, _<_}
 use native.Mathlib.Nat.{mul-pos, zero-lt-suc, zero-mul, mul-one}
 use native.Mathlib.Omega.{arith}

@@ -1,4 +1,4 @@
--- What `floorOf` gives is the greatest whole number not above a finite f64, over whole multiples of 2^-1074, for both signs. Assumes nothing.
+-- What `floorOf` gives is the greatest whole number not above a finite f64, over whole multiples of 2^-1074, for both signs.
 use Prim.Native.Nat.{ℕ, _+_, _-_, _*_, _/_, _%_, _^_, _<_, _≤_}
 use native.Mathlib.Nat.{lt-of-le-of-lt, lt-of-lt-of-le, mul-one, mul-assoc, mul-right-comm, add-mul, one-mul, eq-of-mul-eq-mul-right, div-add-mod', mod-lt, mul-mod-left, eq-zero-or-pos, eq-or-lt-of-le, div-mul-le-self, div-lt-iff-lt-mul, mul-lt-mul-of-pos-right, le-of-eq, le-of-lt, mul-le-mul-left, lt-of-not-le, add-lt-add-iff-right}
 use native.Mathlib.Omega.{arith}

@@ -1,4 +1,4 @@
--- The greatest whole number not above a negative f64: the number itself, or 1 below its whole part. Assumes nothing.
+-- The greatest whole number not above a negative f64: the number itself, or 1 below its whole part.
 use Prim.Native.Nat.{ℕ, _+_, _-_, _*_, _/_, _%_, _^_, _<_}
 use native.Mathlib.Nat.{mul-one, one-mul, mul-right-comm, add-mul, eq-of-mul-eq-mul-right, div-add-mod', mod-lt, eq-zero-or-pos}
 use native.Mathlib.Omega.{arith}

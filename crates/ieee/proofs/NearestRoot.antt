@@ -1,4 +1,4 @@
--- The root that `rootOf` gives is the f64 nearest the exact root, over whole numbers, and the roots of what is not above zero. Assumes nothing.
+-- The root that `rootOf` gives is the f64 nearest the exact root, over whole numbers, and the roots of what is not above zero.
 use Prim.Native.Nat.{ℕ, zero, suc, _+_, _-_, _*_, _/_, _%_, _^_, _<_, _≤_}
 use native.Mathlib.Nat.{le-refl, lt-of-le-of-lt, lt-of-not-le, le-of-lt, mul-pos, mul-assoc, mul-le-mul, mul-le-mul-right, mul-lt-mul-of-pos-right, mul-mul-mul-comm, lt-of-mul-lt-mul-right, add-mul, one-mul, zero-mul, pow-suc}
 use native.Mathlib.Omega.{arith}

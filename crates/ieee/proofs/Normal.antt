@@ -1,4 +1,4 @@
--- A significand brought up to 53 bits by the count of its leading zeros. Assumes nothing.
+-- A significand brought up to 53 bits by the count of its leading zeros.
 use Prim.Native.Nat.{ℕ, suc, _+_, _-_, _*_, _%_, _^_, _<_, _≤_}
 use native.Mathlib.Nat.{le-trans, lt-of-lt-of-le, lt-of-not-le, lt-irrefl, mul-assoc, mul-le-mul-right, mul-lt-mul-of-pos-right, mod-eq-of-lt}
 use native.Mathlib.Omega.{arith}

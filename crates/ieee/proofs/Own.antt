@@ -1,4 +1,4 @@
--- A finite f64 by its own value: what rounding gives at that value is the f64 itself. Assumes nothing.
+-- A finite f64 by its own value: what rounding gives at that value is the f64 itself.
 use Prim.Native.Nat.{ℕ, zero, suc, _+_, _*_, _/_, _%_, _^_, _<_}
 use native.Mathlib.Nat.{lt-of-lt-of-le, mul-right-comm, eq-of-mul-eq-mul-right}
 use native.Mathlib.Omega.{arith}

@@ -1,4 +1,4 @@
--- Products of numbers below two bounds, and of two that fit half a word. Assumes nothing.
+-- Products of numbers below two bounds, and of two that fit half a word.
 use Prim.Native.Nat.{ℕ, _*_, _^_, _<_}
 use native.Mathlib.Nat.{le-of-lt, lt-of-le-of-lt, mul-le-mul-left, mul-lt-mul-of-pos-right}
 use lib.Pow.{pow-pos}

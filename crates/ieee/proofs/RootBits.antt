@@ -1,4 +1,4 @@
--- The pattern that `nearest_root` puts together is the f64 that `rootOf` gives. Assumes nothing.
+-- The pattern that `nearest_root` puts together is the f64 that `rootOf` gives.
 use Prim.Native.Nat.{ℕ, zero, suc, _+_, _-_, _*_, _/_, _%_, _^_, _<_, _≤_}
 use native.Mathlib.Nat.{le-trans, lt-of-le-of-lt, lt-of-lt-of-le, lt-of-not-le, le-of-eq, mul-pos, mul-assoc, mul-le-mul, mul-le-mul-right, mul-lt-mul-of-pos-right, mul-mul-mul-comm, pow-suc}
 use native.Mathlib.Omega.{arith}

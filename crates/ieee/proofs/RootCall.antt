@@ -1,4 +1,4 @@
--- What `nearest_root` hands on and what it puts together: the fields of a number above zero, and bounds. Assumes nothing.
+-- What `nearest_root` hands on and what it puts together: the fields of a number above zero, and bounds.
 use Prim.Native.Nat.{ℕ, zero, suc, _+_, _-_, _*_, _/_, _%_, _^_, _<_, _≤_}
 use native.Mathlib.Nat.{lt-of-le-of-lt, mul-assoc, mul-le-mul-left}
 use native.Mathlib.Omega.{arith}

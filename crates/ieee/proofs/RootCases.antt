@@ -1,4 +1,4 @@
--- The square root's cases: at zero, above zero, at infinity, and elsewhere. Assumes nothing.
+-- The square root's cases: at zero, above zero, at infinity, and elsewhere.
 use Prim.Native.Nat.{ℕ, zero, suc, _*_, _<_}
 use native.Mathlib.Nat.{mul-pos, zero-lt-suc, zero-mul}
 use native.Mathlib.Omega.{arith}

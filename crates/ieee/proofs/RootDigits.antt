@@ -1,4 +1,4 @@
--- The loop that works a root out digit by digit: what holds after i digits, and one more digit. Assumes nothing.
+-- The loop that works a root out digit by digit: what holds after i digits, and one more digit.
 use Prim.Native.Nat.{ℕ, _+_, _-_, _*_, _/_, _%_, _^_, _<_, _≤_}
 use native.Mathlib.Nat.{mul-assoc, mul-comm, lt-of-lt-of-le, pow-suc}
 use native.Mathlib.Omega.{arith}

@@ -1,4 +1,4 @@
--- Numbers and infinities with a clear sign in their order, and that the root keeps it. Assumes nothing.
+-- Numbers and infinities with a clear sign in their order, and that the root keeps it.
 use Prim.Native.Nat.{ℕ, zero, suc, _+_, _-_, _*_, _^_, _≤_, _<_}
 use native.Mathlib.Nat.{le-antisymm, mul-pos, zero-lt-suc, zero-mul, mul-right-comm, mul-le-mul-right, mul-lt-mul-of-pos-right, le-trans, le-of-eq}
 use native.Mathlib.Omega.{arith}

@@ -1,4 +1,4 @@
--- The root's 54 digits, rounded to 53, are the f64 that `rootOf` gives. Assumes nothing.
+-- The root's 54 digits, rounded to 53, are the f64 that `rootOf` gives.
 use Prim.Native.Nat.{ℕ, zero, suc, _+_, _-_, _*_, _/_, _%_, _^_, _<_, _≤_, compare, Ordering, Ordering·lt, Ordering·eq, Ordering·gt}
 use native.Mathlib.Nat.{le-trans, lt-of-lt-of-le, lt-of-not-le, not-le-of-lt, lt-irrefl, le-of-lt, mul-assoc, mul-comm, mul-le-mul-right, mul-left-comm, add-mul, one-mul, mul-pos, mul-div-mul-right, pow-suc}
 use native.Mathlib.Omega.{arith}

@@ -1,4 +1,4 @@
--- The test of a whole root in one word: the parts of a square by halves, and what its two comparisons say. Assumes nothing.
+-- The test of a whole root in one word: the parts of a square by halves, and what its two comparisons say.
 use Prim.Native.Nat.{ℕ, _+_, _-_, _*_, _/_, _%_, _^_, _≤_, _<_}
 use native.Mathlib.Omega.{arith}
 use mathlib.Core.Path.{_≡_, refl, ap, sym, _∙_, subst}

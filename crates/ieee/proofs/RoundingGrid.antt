@@ -1,4 +1,4 @@
--- A finite value that fits its format is a whole multiple of the format's smallest value, 2 ^ -low: m * 2 ^ j of them, with m below 2 ^ prec. Assumes nothing.
+-- A finite value that fits its format is a whole multiple of the format's smallest value, 2 ^ -low: m * 2 ^ j of them, with m below 2 ^ prec.
 use Prim.Native.Nat.{ℕ, zero, suc, _+_, _-_, _*_, _/_, _%_, _^_, _≤_, _<_}
 use native.Mathlib.Nat.{lt-irrefl, lt-of-lt-of-le, le-of-suc-le-suc, lt-of-not-le, sub-add-cancel, zero-mul, mul-one, one-mul, mul-assoc, mul-comm, mul-right-comm, mul-pos, mul-lt-mul-of-pos-right, lt-of-mul-lt-mul-right, mul-div-cancel}
 use mathlib.Core.Path.{_≡_, sym, ap, _∙_, subst}

@@ -1,4 +1,4 @@
--- The kit's `round` obeys the rule of specs/Ieee754.antt, at every fraction. Assumes nothing.
+-- The kit's `round` obeys the rule of specs/Ieee754.antt, at every fraction.
 use Prim.Native.Nat.{ℕ, zero, suc, _+_, _-_, _*_, _/_, _%_, _^_, _≤_, _<_}
 use native.Mathlib.Nat.{le-trans, le-of-eq, lt-of-lt-of-le, not-le-of-lt, zero-lt-suc, mul-one, mul-assoc, mul-right-comm, mul-le-mul-right, mul-lt-mul-of-pos-right, add-mul}
 use native.Mathlib.Omega.{arith}

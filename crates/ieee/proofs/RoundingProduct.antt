@@ -1,4 +1,4 @@
--- The kit's `mul` and `div` on f64 are the product and the quotient of specs/Ieee754.antt, at every operand that is an f64. Assumes nothing.
+-- The kit's `mul` and `div` on f64 are the product and the quotient of specs/Ieee754.antt, at every operand that is an f64.
 use Prim.Native.Nat.{ℕ, zero, suc, _*_, _/_, _^_, _<_}
 use native.Mathlib.Nat.{zero-lt-suc, pos-of-ne-zero, lt-irrefl, zero-mul, zero-div, mul-assoc, mul-comm, mul-left-comm, mul-mul-mul-comm, mul-pos, eq-of-mul-eq-mul-right}
 use mathlib.Core.Path.{_≡_, refl, sym, ap, _∙_, subst}

@@ -1,4 +1,4 @@
--- Whole numbers with a sign, as `signed` writes them: their products, sums and differences, by the signs. Assumes nothing.
+-- Whole numbers with a sign, as `signed` writes them: their products, sums and differences, by the signs.
 use Prim.Native.Nat.{ℕ, zero, suc, _+_, _-_, _*_, _≤_, _<_}
 use native.Mathlib.Nat.{zero-mul, add-zero, zero-add}
 use native.Mathlib.Omega.{arith}

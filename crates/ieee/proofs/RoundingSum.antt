@@ -1,4 +1,4 @@
--- The kit's `add` and `sub` on f64 are the sum and the difference of specs/Ieee754.antt, at every operand that is an f64. Assumes nothing.
+-- The kit's `add` and `sub` on f64 are the sum and the difference of specs/Ieee754.antt, at every operand that is an f64.
 use Prim.Native.Nat.{ℕ, zero, suc, _+_, _-_, _*_, _^_, _≤_, _<_}
 use native.Mathlib.Nat.{mul-assoc, mul-comm, mul-right-comm, mul-pos, mul-sub, add-mul, mul-lt-mul-of-pos-right, lt-of-mul-lt-mul-right}
 use native.Mathlib.Omega.{arith}

@@ -1,4 +1,4 @@
--- specs/Ieee754.antt forgets no case: its rule of rounding allows one result, `round`'s, and of two operands each of its four records allows one result. Assumes nothing.
+-- specs/Ieee754.antt forgets no case: its rule of rounding allows one result, `round`'s, and of two operands each of its four records allows one result.
 use Prim.Native.Nat.{ℕ, _-_, _*_, _/_, _%_, _^_, _<_}
 use native.Mathlib.Nat.{le-antisymm, pos-of-ne-zero}
 use native.Mathlib.Omega.{arith}

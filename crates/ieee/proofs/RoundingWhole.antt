@@ -1,5 +1,5 @@
 -- Rounding over the whole numbers. `closest a b` is a whole number nearest to a / b, and where another one is as near it is even and the other odd.
--- `kept * 2 ^ drop`, which `round` gives, is nearest to n / den among all c * 2 ^ g with c of p binary digits. Where another one is as near, the last of its p digits is even and the other's is odd. Assumes nothing.
+-- `kept * 2 ^ drop`, which `round` gives, is nearest to n / den among all c * 2 ^ g with c of p binary digits. Where another one is as near, the last of its p digits is even and the other's is odd.
 use Prim.Native.Nat.{ℕ, zero, suc, pred, _+_, _-_, _*_, _/_, _%_, _^_, _≤_, _<_, compare, Ordering, Ordering·lt, Ordering·eq, Ordering·gt}
 use native.Mathlib.Nat.{le-trans, le-of-eq, le-of-lt, le-antisymm, lt-suc-self, lt-of-lt-of-le, lt-of-le-of-lt, lt-of-not-le, not-le-of-lt, zero-lt-suc, suc-pred-eq-of-pos, sub-add-cancel, mul-assoc, mul-right-comm, mul-pos, mul-mod-left, mul-le-mul-right, mul-lt-mul-of-pos-right, div-add-mod', mod-lt, mul-div-cancel, le-div-iff-mul-le, div-div-eq-div-mul, pow-suc}
 use native.Mathlib.Omega.{arith}

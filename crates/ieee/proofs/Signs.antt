@@ -1,4 +1,4 @@
--- Numbers and infinities by their sign: what is rounded keeps its sign. Assumes nothing.
+-- Numbers and infinities by their sign: what is rounded keeps its sign.
 use Prim.Native.Nat.{ℕ, zero, suc, _+_, _-_, _*_, _^_}
 use mathlib.Core.Path.{sym, subst}
 use mathlib.Core.Bool.{Bool, true, false, cond, not, _&&_, Bool·beq}

@@ -1,4 +1,4 @@
--- Sounding H: "root of 2: 3ff6a09e667f3bcd; of 2^-1074: 2^-537". Assumes nothing.
+-- Sounding H: "root of 2: 3ff6a09e667f3bcd; of 2^-1074: 2^-537".
 use mathlib.Core.Path.{_≡_, refl}
 use lib.Ieee.{binary64, toBits, ofBits}
 use Rattle.ieee.specs.Root.{sqrtOf}

@@ -1,4 +1,4 @@
--- Laws of sums in turn: a sum goes on from where its first terms ended, the same terms have the same sum, and a NaN among them leaves a NaN. Assumes nothing.
+-- Laws of sums in turn: a sum goes on from where its first terms ended, the same terms have the same sum, and a NaN among them leaves a NaN.
 use native.Mathlib.Numerals.{add-one}
 use Prim.Native.Nat.{ℕ, zero, suc, _+_, _<_}
 use native.Mathlib.Nat.{add-zero, add-suc, not-suc-le-zero}

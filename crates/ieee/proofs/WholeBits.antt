@@ -1,4 +1,4 @@
--- The pattern of the whole part: below 1, where the pattern is the number's own, and between. Assumes nothing.
+-- The pattern of the whole part: below 1, where the pattern is the number's own, and between.
 use Prim.Native.Nat.{ℕ, zero, suc, _+_, _-_, _*_, _/_, _%_, _^_, _<_, _≤_}
 use native.Mathlib.Nat.{le-refl, lt-of-lt-of-le, mul-assoc, mul-div-cancel, mul-div-mul-right, div-eq-of-lt, div-add-mod', mod-le, mod-eq-of-lt, one-mul}
 use native.Mathlib.Omega.{arith}

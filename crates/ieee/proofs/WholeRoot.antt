@@ -1,4 +1,4 @@
--- Whole square roots, and the root that is worked out digit by digit. Assumes nothing.
+-- Whole square roots, and the root that is worked out digit by digit.
 use Prim.Native.Nat.{ℕ, zero, suc, _+_, _*_, _/_, _^_, _<_, _≤_}
 use native.Mathlib.Nat.{lt-of-le-of-lt, lt-of-lt-of-le, lt-irrefl, mul-le-mul, mul-mul-mul-comm, add-mul, mul-add, div-lt-iff-lt-mul, lt-of-not-le, pow-suc}
 use native.Mathlib.Omega.{arith}

@@ -1,4 +1,4 @@
--- +0 beside a number: added to one with a clear sign, or taken from any, it leaves that number. Assumes nothing.
+-- +0 beside a number: added to one with a clear sign, or taken from any, it leaves that number.
 use Prim.Native.Nat.{_*_}
 use native.Mathlib.Nat.{mul-one, one-mul, zero-mul, zero-add, add-zero, sub-zero}
 use native.Mathlib.Omega.{arith}

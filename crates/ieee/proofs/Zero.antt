@@ -1,4 +1,4 @@
--- A float beside the constant 0.0, and what the language tells of every f64: that it fits its format. Assumes nothing.
+-- A float beside the constant 0.0, and what the language tells of every f64: that it fits its format.
 use Prim.Native.Nat.{ℕ, zero, suc, _+_, _-_, _*_, _^_, _<_, _≤_}
 use native.Mathlib.Nat.{mul-pos, zero-lt-suc, mul-one, one-mul, zero-mul, le-refl}
 use native.Mathlib.Omega.{arith}

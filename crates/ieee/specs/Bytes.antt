@@ -1,4 +1,4 @@
--- Numbers as bytes, "little-endian", the lowest byte first. An f64 is its pattern; every NaN pattern is read as the one NaN. Assumes nothing.
+-- Numbers as bytes, "little-endian", the lowest byte first. An f64 is its pattern; every NaN pattern is read as the one NaN.
 use Prim.Native.Nat.{ℕ, zero, suc, _+_, _*_, _/_, _%_}
 use mathlib.Core.Bool.{Bool, true, _&&_}
 use mathlib.Core.List.{List, [], _∷_, _++_}

@@ -1,4 +1,4 @@
--- Numbers that are not finite, alone and in a list: as a test, and as the papers say it. Assumes nothing.
+-- Numbers that are not finite, alone and in a list: as a test, and as the papers say it.
 use Prim.Native.Nat.{ℕ, _<_}
 use mathlib.Core.Bool.{Bool, true, _&&_}
 use mathlib.Core.List.{List, [], _∷_}

@@ -1,4 +1,4 @@
--- What the Rust's `abs`, `max`, `min` and `floor` on f64 are, as far as its calls need them, at every value. Assumes nothing.
+-- What the Rust's `abs`, `max`, `min` and `floor` on f64 are, as far as its calls need them, at every value.
 use Prim.Native.Nat.{_+_, _-_, _*_, _/_}
 use mathlib.Core.Bool.{true, false, cond}
 use lib.Ieee.{Float, nan, inf, fin, lt, up, down, binary64, ofBits, round}

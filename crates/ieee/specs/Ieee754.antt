@@ -1,6 +1,6 @@
 -- IEEE 754-2019 for f64: its rounding to nearest, ties to even (§4.3.1), and what it asks of a sum, a difference, a product and a quotient (§4.3, §6, §7.2, §7.3).
 -- An exact result is ±num / den, a fraction of two whole numbers, so the rule is said over whole numbers. How a result is worked out is not said here.
--- That the operations of the language obey it is proved in proofs/RoundingSum.antt and proofs/RoundingProduct.antt; that it leaves no other result, in proofs/RoundingUnique.antt. Assumes nothing.
+-- That the operations of the language obey it is proved in proofs/RoundingSum.antt and proofs/RoundingProduct.antt; that it leaves no other result, in proofs/RoundingUnique.antt.
 use Prim.Native.Nat.{ℕ, _-_, _*_, _%_, _^_, _≤_, _<_}
 use mathlib.Core.Path.{_≡_}
 use mathlib.Core.Logic.{_≢_}

@@ -1,4 +1,4 @@
--- What "the f64 nearest the exact root" says over whole numbers, and the roots of what is not above zero. Assumes nothing.
+-- What "the f64 nearest the exact root" says over whole numbers, and the roots of what is not above zero.
 use Prim.Native.Nat.{_+_, _*_, _^_, _<_}
 use mathlib.Core.Path.{_≡_}
 use mathlib.Core.Bool.{true, false}

@@ -1,4 +1,4 @@
--- The square root of an f64: "the f64 nearest the exact root, proved over whole numbers; infinity gives infinity". Assumes nothing.
+-- The square root of an f64: "the f64 nearest the exact root, proved over whole numbers; infinity gives infinity".
 use Prim.Native.Nat.{ℕ, zero, suc, _+_, _*_, _/_, _^_, _≤_, _<_}
 use mathlib.Core.Path.{_≡_}
 use mathlib.Core.Bool.{true, false, cond}

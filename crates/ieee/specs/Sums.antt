@@ -1,4 +1,4 @@
--- Sums of f64 in turn, each operation rounded once. Assumes nothing.
+-- Sums of f64 in turn, each operation rounded once.
 use Prim.Native.Nat.{ℕ, zero, suc}
 use lib.Ieee.{Float, binary64, add, sub}
 use Rattle.ieee.specs.Floats.{zeroFloat}

@@ -1,4 +1,4 @@
--- The whole part of an f64, as its pattern and as its value. Assumes nothing.
+-- The whole part of an f64, as its pattern and as its value.
 use Prim.Native.Nat.{ℕ, _+_, _*_, _/_, _%_, _^_, _≤_, _<_}
 use mathlib.Core.Path.{_≡_}
 use mathlib.Core.Bool.{true, false}

@@ -1,4 +1,4 @@
--- The whole call as the code goes through it: turned away, or eliminated, and then by how the elimination ended. Assumes nothing.
+-- The whole call as the code goes through it: turned away, or eliminated, and then by how the elimination ended.
 use Prim.Native.Nat.{ℕ}
 use native.Mathlib.Omega.{arith}
 use mathlib.Core.Path.{_≡_, ap, sym, _∙_}
@@ -20,13 +20,13 @@ use Rattle.elimination.proofs.Call as Call
 use Rattle.elimination.proofs.Laid.{kept-laid}
 use Rattle.elimination.proofs.Stops.{refused-exactly}
 use Rattle.survey.specs.declared.Limits.{Limits}
-use Rattle.interpolation.specs.Call.{Query, Areas, withWork, areasOf, size}
-use Rattle.interpolation.specs.Rules.{rules}
-use Rattle.interpolation.specs.Refusals.{refusal}
-use Rattle.interpolation.specs.Assembly.{entry}
-use Rattle.interpolation.specs.Interpolation.{answered, interpolationCall, interpolated}
-use Rattle.interpolation.proofs.Told.{all-told}
-use Rattle.interpolation.proofs.Accepted.{accepted}
+use Rattle.interpolator_theory.specs.Call.{Query, Areas, withWork, areasOf, size}
+use Rattle.interpolator_theory.specs.Rules.{rules}
+use Rattle.interpolator_theory.specs.Refusals.{refusal}
+use Rattle.interpolator_theory.specs.Assembly.{entry}
+use Rattle.interpolator_theory.specs.Interpolation.{answered, interpolationCall, interpolated}
+use Rattle.interpolator_theory.proofs.Told.{all-told}
+use Rattle.interpolator_theory.proofs.Accepted.{accepted}
 
 module _ (limits : Limits) (q : Query) (a : Areas) where
   -- "A refusal carries only its number and writes nothing"

@@ -1,4 +1,4 @@
--- The entries of the interpolator's matrix by the part that they stand in. Assumes nothing.
+-- The entries of the interpolator's matrix by the part that they stand in.
 use Prim.Native.Nat.{ℕ, _+_, _*_, _-_, _<_, _≤_}
 use native.Mathlib.Omega.{arith}
 use mathlib.Core.Path.{_≡_, refl, _∙_}
@@ -10,12 +10,12 @@ use lib.ListN.{getD}
 use Rattle.ieee.specs.Floats.{zeroFloat, oneFloat}
 use Rattle.variogram.specs.Model.{semivariance}
 use Rattle.variogram.specs.Distance.{axisFrom, distance}
-use Rattle.interpolation.specs.declared.KrigingType.{KrigingType}
-use Rattle.interpolation.specs.declared.KrigingType.the-variants.{Ordinary, Universal}
+use Rattle.interpolator_theory.specs.declared.KrigingType.{KrigingType}
+use Rattle.interpolator_theory.specs.declared.KrigingType.the-variants.{Ordinary, Universal}
 use Rattle.interpolator.specs.declared.KrigingInterpolator.{KrigingInterpolator}
-use Rattle.interpolation.specs.Call.{Query, wells, added}
+use Rattle.interpolator_theory.specs.Call.{Query, wells, added}
 use Rattle.interpolator.specs.Outcome.{queryOf, known}
-use Rattle.interpolation.specs.Assembly.{covariance, trend, trendAt, column, entry}
+use Rattle.interpolator_theory.specs.Assembly.{covariance, trend, trendAt, column, entry}
 
 -- ---- a term of the trend
 module _ (t : KrigingType) (axis : ℕ → Float) (c : ℕ) where

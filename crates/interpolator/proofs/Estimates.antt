@@ -1,4 +1,4 @@
--- A target's figure and variance as the code has them, b and z in the first places of longer lists: they are the paper's. Assumes nothing.
+-- A target's figure and variance as the code has them, b and z in the first places of longer lists: they are the paper's.
 use Prim.Native.Nat.{ℕ, _+_, _≤_, _<_}
 use native.Mathlib.Numerals.{add-one}
 use native.Mathlib.Omega.{arith}
@@ -13,9 +13,9 @@ use Rattle.ieee.specs.Floats.{notBelowZero}
 use Rattle.ieee.specs.Sums.{runningSum, lessEach}
 use Rattle.ieee.proofs.Sums.{same-sum, same-less}
 use Rattle.elimination.specs.Inverse.{inverseAt, timesInverse}
-use Rattle.interpolation.specs.Call.{Query, Areas, areasOf, wells, nodeCount, size}
-use Rattle.interpolation.specs.Assembly.{rightSide}
-use Rattle.interpolation.specs.Interpolation.{solution, figure, variance, answered}
+use Rattle.interpolator_theory.specs.Call.{Query, Areas, areasOf, wells, nodeCount, size}
+use Rattle.interpolator_theory.specs.Assembly.{rightSide}
+use Rattle.interpolator_theory.specs.Interpolation.{solution, figure, variance, answered}
 
 -- ---- a loop that takes a term away a turn: before its first turn, one turn more, and where it ends
 pub none-taken : (x : Float) (f : ℕ → Float) → x ≡ lessEach x 0 f

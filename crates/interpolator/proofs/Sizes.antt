@@ -1,4 +1,4 @@
--- Counts of a query: of the axes of a point, and of the terms of a trend. Assumes nothing.
+-- Counts of a query: of the axes of a point, and of the terms of a trend.
 use Prim.Native.Nat.{ℕ, _≤_}
 use native.Mathlib.Decide.{decLt}
 use native.Mathlib.Omega.{arith}
@@ -6,9 +6,9 @@ use mathlib.Core.Path.{_≡_, ap, sym, _∙_}
 use mathlib.Core.Bool.{Bool, false, not, _||_, false≢true}
 use Rattle.variogram.specs.Distance.{offered}
 use Rattle.variogram.proofs.Distance.{none-offered}
-use Rattle.interpolation.specs.declared.KrigingType.{KrigingType}
-use Rattle.interpolation.specs.declared.KrigingType.the-variants.{Ordinary, Universal}
-use Rattle.interpolation.specs.Call.{added}
+use Rattle.interpolator_theory.specs.declared.KrigingType.{KrigingType}
+use Rattle.interpolator_theory.specs.declared.KrigingType.the-variants.{Ordinary, Universal}
+use Rattle.interpolator_theory.specs.Call.{added}
 
 -- where 13 does not apply a point has an axis
 pub some-axis : (d : ℕ) (b : Bool) → (not (offered d) || b) ≡ false → 1 ≤ d

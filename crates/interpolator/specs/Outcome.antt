@@ -1,12 +1,12 @@
--- A call by its parameters, and how it ends by its answer. Assumes nothing.
+-- A call by its parameters, and how it ends by its answer.
 use Prim.Native.Nat.{ℕ}
 use mathlib.Core.List.{List, []}
 use lib.Ieee.{Float}
 use Rattle.error.specs.Numbers.{numberOf}
 use Rattle.error.specs.Outcome.{Outcome, outcome}
 use Rattle.variogram.specs.declared.Variogram.{Variogram}
-use Rattle.interpolation.specs.declared.KrigingType.{KrigingType}
-use Rattle.interpolation.specs.Call.{Query, Areas}
+use Rattle.interpolator_theory.specs.declared.KrigingType.{KrigingType}
+use Rattle.interpolator_theory.specs.Call.{Query, Areas}
 use Rattle.interpolator.specs.declared.KrigingInterpolator.{KrigingInterpolator}
 use Rattle.interpolator.specs.declared.Interpolation.{Interpolation}
 use Rattle.interpolator.specs.declared.Interpolation.the-variants.{Done, Refused}

@@ -17,10 +17,10 @@ ghost use Rattle.variogram.specs.Model.{semivariance};
 ghost use Rattle.variogram.specs.Distance.{distance};
 ghost use Rattle.elimination.specs.Elimination.{outcomeOf, eliminated};
 ghost use Rattle.elimination.specs.Inverse.{besideIdentity, laid};
-ghost use Rattle.interpolation.specs.declared.KrigingType.the-variants.{Universal};
-ghost use Rattle.interpolation.specs.Call.{added};
+ghost use Rattle.interpolator_theory.specs.declared.KrigingType.the-variants.{Universal};
+ghost use Rattle.interpolator_theory.specs.Call.{added};
 ghost use Rattle.interpolator.specs.Outcome.{known};
-ghost use Rattle.interpolation.specs.Assembly.{column, entry};
+ghost use Rattle.interpolator_theory.specs.Assembly.{column, entry};
 
 // Sill less the variogram, between the known point i and the point j of a list. On the diagonal too: the variogram is 0 there.
 fn covariance(

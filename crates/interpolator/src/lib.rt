@@ -7,15 +7,15 @@ mod point; // point.rt: one target, and every target
 use elimination::Elimination;
 use error::Judgement;
 use error::Refusal;
-use interpolation::KrigingType;
+use interpolator_theory::KrigingType;
 use survey::Limits;
 use variogram::Variogram;
 ghost use mathlib.Core.Path.{_≡_};
 ghost use Rattle.survey.specs.Limits.{base};
-ghost use Rattle.interpolation.specs.Call.{areasOf};
+ghost use Rattle.interpolator_theory.specs.Call.{areasOf};
 ghost use Rattle.interpolator.specs.Outcome.{interpolator, queryOf, outcomeOf};
-ghost use Rattle.interpolation.specs.Interpolation.{interpolated};
-ghost use Rattle.interpolation.specs.Exit.{Promise};
+ghost use Rattle.interpolator_theory.specs.Interpolation.{interpolated};
+ghost use Rattle.interpolator_theory.specs.Exit.{Promise};
 
 // How a call of the interpolator ends.
 pub enum Interpolation {

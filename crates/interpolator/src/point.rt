@@ -8,11 +8,11 @@ ghost use lib.Ieee.{nan, binary64, mul};
 ghost use Rattle.area.specs.Area.{written};
 ghost use Rattle.ieee.specs.Sums.{lessEach};
 ghost use Rattle.exponential.specs.Exponential.{fractionTable};
-ghost use Rattle.interpolation.specs.declared.KrigingType.the-variants.{Universal};
-ghost use Rattle.interpolation.specs.Call.{areasOf, added};
+ghost use Rattle.interpolator_theory.specs.declared.KrigingType.the-variants.{Universal};
+ghost use Rattle.interpolator_theory.specs.Call.{areasOf, added};
 ghost use Rattle.interpolator.specs.Outcome.{queryOf, known};
-ghost use Rattle.interpolation.specs.Assembly.{column};
-ghost use Rattle.interpolation.specs.Interpolation.{figure, variance, answered};
+ghost use Rattle.interpolator_theory.specs.Assembly.{column};
+ghost use Rattle.interpolator_theory.specs.Interpolation.{figure, variance, answered};
 
 // b of the target t.
 fn fill_right_side(

@@ -3,7 +3,7 @@ use crate::KrigingInterpolator;
 use crate::trend::trend_terms;
 use error::Judgement;
 use error::Refusal;
-use interpolation::KrigingType;
+use interpolator_theory::KrigingType;
 use survey::Limits;
 use variogram::Variogram;
 ghost use mathlib.Core.Path.{_≡_};
@@ -13,9 +13,9 @@ ghost use Rattle.error.specs.Numbers.{judged};
 ghost use Rattle.ieee.specs.Finite.{allFinite};
 ghost use Rattle.variogram.specs.Distance.{offered};
 ghost use Rattle.survey.specs.Refusals.{variogramNotFinite};
-ghost use Rattle.interpolation.specs.Call.{areasOf};
+ghost use Rattle.interpolator_theory.specs.Call.{areasOf};
 ghost use Rattle.interpolator.specs.Outcome.{queryOf};
-ghost use Rattle.interpolation.specs.Refusals.{isUniversal, refusal};
+ghost use Rattle.interpolator_theory.specs.Refusals.{isUniversal, refusal};
 
 // 13: whether d is not 1, 2 or 3, or is 1 with Universal, which takes x and y.
 fn wrong_dimension(kriging_type: KrigingType, d: usize) -> bool

@@ -1,12 +1,12 @@
 // The trend that stands beside and below the covariances: a one, or 1, x, y, xy of the first two axes.
-use interpolation::KrigingType;
+use interpolator_theory::KrigingType;
 ghost use mathlib.Core.Path.{_≡_};
 ghost use Prim.Native.Nat.{_+_, _≤_, _<_};
 ghost use lib.ListN.{length, getD};
 ghost use lib.Ieee.{nan};
 ghost use Rattle.variogram.specs.Distance.{axisFrom};
-ghost use Rattle.interpolation.specs.Call.{added};
-ghost use Rattle.interpolation.specs.Assembly.{trend};
+ghost use Rattle.interpolator_theory.specs.Call.{added};
+ghost use Rattle.interpolator_theory.specs.Assembly.{trend};
 
 // How many terms it has.
 pub(crate) fn trend_terms(kriging_type: KrigingType) -> usize

@@ -1,4 +1,4 @@
--- Laws of the drift columns as they are stored: the columns of one code, and a row of them code after code. Assumes nothing.
+-- Laws of the drift columns as they are stored: the columns of one code, and a row of them code after code.
 use Prim.Native.Nat.{ℕ, _+_, _<_}
 use native.Mathlib.Nat.{add-zero}
 use native.Mathlib.Numerals.{add-one}
@@ -17,9 +17,9 @@ use Rattle.area.specs.Area.{written}
 use Rattle.area.proofs.Turns.{length-written}
 use Rattle.area.proofs.Places.{same-values, written-add}
 use Rattle.survey.specs.Survey.{codeColumns, columnSum, externalCount}
-use Rattle.fit.specs.Drift.{block, driftRow}
-use Rattle.fit.proofs.SystemDrift.{block-length}
-use Rattle.fit.proofs.Nodes.{row-same}
+use Rattle.kriging_theory.specs.Drift.{block, driftRow}
+use Rattle.kriging_theory.proofs.SystemDrift.{block-length}
+use Rattle.kriging_theory.proofs.Nodes.{row-same}
 
 -- a row after the columns of the code c are stored from `col` on
 abbrev pub coded : ℕ → Float → Float → Float → ℕ → List Float → List Float

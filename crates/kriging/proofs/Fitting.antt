@@ -1,4 +1,4 @@
--- The fit stage by stage, as its code goes: F and the matrix are the paper's, and each way in which the call ends is that of its definition. Assumes nothing.
+-- The fit stage by stage, as its code goes: F and the matrix are the paper's, and each way in which the call ends is that of its definition.
 use Prim.Native.Nat.{ℕ, _+_, _-_, _*_, _≤_, _<_}
 use native.Mathlib.Decide.{decLt}
 use native.Mathlib.Omega.{arith}
@@ -24,12 +24,12 @@ use Rattle.solution.specs.Slopes.{slope, estimated}
 use Rattle.solution.proofs.Room.{estimated-is}
 use Rattle.survey.specs.Limits.{base}
 use Rattle.survey.specs.Survey.{Survey, wells, columns, size}
-use Rattle.fit.specs.Areas.{Areas}
-use Rattle.fit.specs.Drift.{DriftIn, drift}
-use Rattle.fit.specs.Assembly.{between, joined, entry, assembled}
-use Rattle.fit.specs.Slopes.{trendOf}
-use Rattle.fit.specs.Refusals.{refusal}
-use Rattle.fit.specs.Fit.{fitCall, fitted}
+use Rattle.kriging_theory.specs.Areas.{Areas}
+use Rattle.kriging_theory.specs.Drift.{DriftIn, drift}
+use Rattle.kriging_theory.specs.Assembly.{between, joined, entry, assembled}
+use Rattle.kriging_theory.specs.Slopes.{trendOf}
+use Rattle.kriging_theory.specs.Refusals.{refusal}
+use Rattle.kriging_theory.specs.Fit.{fitCall, fitted}
 use Rattle.kriging.proofs.MatrixEntries.{upper-left, upper-right, lower-left, lower-right}
 
 module _ (s : Survey) where

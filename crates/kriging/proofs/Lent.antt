@@ -1,4 +1,4 @@
--- A variogram by a table of e^−u that is lent: by the table itself it is the variogram. Assumes nothing.
+-- A variogram by a table of e^−u that is lent: by the table itself it is the variogram.
 use Prim.Native.Nat.{ℕ}
 use mathlib.Core.Path.{_≡_, ap, _∙_}
 use mathlib.Core.List.{List}

@@ -1,4 +1,4 @@
--- The entries of a fit's matrix by the part that they stand in: between wells, F, its transpose, zeros; and the entry across. Assumes nothing.
+-- The entries of a fit's matrix by the part that they stand in: between wells, F, its transpose, zeros; and the entry across.
 use Prim.Native.Nat.{ℕ, _+_, _*_, _-_, _<_, _≤_}
 use mathlib.Core.Path.{_≡_}
 use mathlib.Core.Logic.{_≢_}
@@ -11,8 +11,8 @@ use Rattle.variogram.specs.Model.{semivariance}
 use Rattle.variogram.specs.Distance.{distance2d}
 use Rattle.survey.specs.declared.UniversalKrigingOptions.{UniversalKrigingOptions}
 use Rattle.survey.specs.Survey.{xOf, yOf}
-use Rattle.fit.specs.Assembly.{between, joined}
-use Rattle.fit.proofs.System.{joined-back}
+use Rattle.kriging_theory.specs.Assembly.{between, joined}
+use Rattle.kriging_theory.proofs.System.{joined-back}
 
 -- the matrix of n wells by its entries, where F has p columns and lies row after row
 abbrev pub matrix : List Float → UniversalKrigingOptions → List Float → ℕ → ℕ → ℕ → ℕ → Float

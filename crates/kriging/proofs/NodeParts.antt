@@ -1,5 +1,4 @@
 -- A node's parts as the code has them, z in the first places of a longer list and F row after row in another: they are those of the paper's node.
--- Assumes nothing.
 use Prim.Native.Nat.{ℕ, _+_, _-_, _*_, _≤_, _<_}
 use native.Mathlib.Omega.{arith}
 use mathlib.Core.Path.{_≡_, refl, ap, sym, _∙_, subst}
@@ -18,10 +17,10 @@ use Rattle.audit.specs.Lists.{entryIn, weighedIn, auditedIn}
 use Rattle.audit.proofs.Same.{same-drift, same-given, same-joined}
 use Rattle.audit.proofs.Listed.{unread}
 use Rattle.survey.specs.Survey.{Survey, wells, columns, size}
-use Rattle.fit.specs.Drift.{DriftIn, drift, nodeRow}
-use Rattle.fit.specs.Node.{rightHandOf, rightHand, zOf, varianceOf, figureOf, weighedOf, auditOf, Solution, solutionOf, Node, nodeWith, nodeOf}
-use Rattle.fit.proofs.SystemDrift.{node-row-length}
-use Rattle.fit.proofs.System.{right-length}
+use Rattle.kriging_theory.specs.Drift.{DriftIn, drift, nodeRow}
+use Rattle.kriging_theory.specs.Node.{rightHandOf, rightHand, zOf, varianceOf, figureOf, weighedOf, auditOf, Solution, solutionOf, Node, nodeWith, nodeOf}
+use Rattle.kriging_theory.proofs.SystemDrift.{node-row-length}
+use Rattle.kriging_theory.proofs.System.{right-length}
 
 module _ (s : Survey) (work : List Float) (q : ℕ) where
   -- f0 is what stands in b past the wells

@@ -1,4 +1,4 @@
--- The areas node after node: what q nodes have left in them, one node more, and what all have left is the answer. Assumes nothing.
+-- The areas node after node: what q nodes have left in them, one node more, and what all have left is the answer.
 use Prim.Native.Nat.{ℕ, _+_, _-_, _*_, _/_, _%_, _≤_, _<_}
 use native.Mathlib.Nat.{mul-comm}
 use native.Mathlib.Omega.{arith}
@@ -17,9 +17,9 @@ use Rattle.area.proofs.Rows.{row-end}
 use Rattle.area.proofs.Filled.{next-row, one-fill}
 use Rattle.ieee.specs.Floats.{zeroFloat}
 use Rattle.survey.specs.Survey.{Survey, wells, nodeCount, columns, size}
-use Rattle.fit.specs.Areas.{Areas, areasOf}
-use Rattle.fit.specs.Node.{Node, nodeOf}
-use Rattle.fit.specs.Fit.{multiplier, nodesAnswered}
+use Rattle.kriging_theory.specs.Areas.{Areas, areasOf}
+use Rattle.kriging_theory.specs.Node.{Node, nodeOf}
+use Rattle.kriging_theory.specs.Fit.{multiplier, nodesAnswered}
 
 -- a row of so many of a list's numbers lies inside
 pub row-inside : (w q m len : ℕ) → q < m → w * m ≤ len → q * w + w ≤ len

@@ -1,4 +1,4 @@
--- All that the contract of a fit says, from its equation: the theorems about the definition, joined. Assumes nothing.
+-- All that the contract of a fit says, from its equation: the theorems about the definition, joined.
 use Prim.Native.Nat.{ℕ}
 use mathlib.Core.Path.{_≡_, refl, sym, subst}
 use mathlib.Core.Logic.{_≢_, _↔_}
@@ -8,16 +8,16 @@ use Rattle.error.specs.Outcome.{Outcome}
 use Rattle.elimination.specs.Elimination.{stepped, StopsAt, Through}
 use Rattle.survey.specs.Limits.{base}
 use Rattle.survey.specs.Survey.{Survey, size}
-use Rattle.fit.specs.Areas.{Areas, withWork}
-use Rattle.fit.specs.Assembly.{assembled}
-use Rattle.fit.specs.Rules.{rules}
-use Rattle.fit.specs.Fit.{fitted}
-use Rattle.fit.specs.Untouched.{Untouched}
-use Rattle.fit.specs.System.{Kriged}
-use Rattle.fit.specs.Trend.{TrendKept}
-use Rattle.fit.proofs.Endings.{fit-ends, untouched}
-use Rattle.fit.proofs.SystemNode.{kriged}
-use Rattle.fit.proofs.Trend.{trend-in-the-base}
+use Rattle.kriging_theory.specs.Areas.{Areas, withWork}
+use Rattle.kriging_theory.specs.Assembly.{assembled}
+use Rattle.kriging_theory.specs.Rules.{rules}
+use Rattle.kriging_theory.specs.Fit.{fitted}
+use Rattle.kriging_theory.specs.Untouched.{Untouched}
+use Rattle.kriging_theory.specs.System.{Kriged}
+use Rattle.kriging_theory.specs.Trend.{TrendKept}
+use Rattle.kriging_theory.proofs.Endings.{fit-ends, untouched}
+use Rattle.kriging_theory.proofs.SystemNode.{kriged}
+use Rattle.kriging_theory.proofs.Trend.{trend-in-the-base}
 
 module _ (s : Survey) (a : Areas) where
   -- the clauses, in their order: equation, ruled, stopped, accepted, kept, kriged, trend

@@ -1,4 +1,4 @@
--- The right-hand side as two fills leave it, the variogram and then f0: the list of b, place by place. Assumes nothing.
+-- The right-hand side as two fills leave it, the variogram and then f0: the list of b, place by place.
 use Prim.Native.Nat.{ℕ, _+_, _-_, _≤_, _<_}
 use native.Mathlib.Decide.{decLt}
 use native.Mathlib.Omega.{arith}
@@ -12,7 +12,7 @@ use Rattle.area.proofs.Turns.{length-written}
 use Rattle.area.proofs.Places.{at-place, other-place}
 use Rattle.area.proofs.Start.{from-start}
 use Rattle.area.proofs.Tables.{table-length, joined-at, joined-past}
-use Rattle.fit.specs.Node.{rightHandOf}
+use Rattle.kriging_theory.specs.Node.{rightHandOf}
 
 module _ (n p : ℕ) (gamma : ℕ → Float) (f0 b : List Float) (width : length f0 ≡ p) (long : n + p ≤ length b) where
   abbrev first : List Float

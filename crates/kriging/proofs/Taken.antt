@@ -1,4 +1,4 @@
--- What a fit that no rule of the base turns away has been tested for, as its code uses it: the lengths of its lists and areas, and its counts. Assumes nothing.
+-- What a fit that no rule of the base turns away has been tested for, as its code uses it: the lengths of its lists and areas, and its counts.
 use Prim.Native.Nat.{ℕ, _+_, _*_, _^_, _≤_, _<_}
 use native.Mathlib.Decide.{decLt}
 use native.Mathlib.Omega.{arith}
@@ -11,10 +11,10 @@ use Rattle.error.proofs.Rules.{none-exactly, no-condition}
 use Rattle.survey.specs.Limits.{base}
 use Rattle.survey.specs.Survey.{Survey, wells, nodeCount, columns, externals, size, columnsHeld}
 use Rattle.survey.proofs.Codes.{held-exact}
-use Rattle.fit.specs.Areas.{Areas}
-use Rattle.fit.specs.Rules.{rules}
-use Rattle.fit.specs.Refusals.{tests, refusal}
-use Rattle.fit.proofs.Endings.{told}
+use Rattle.kriging_theory.specs.Areas.{Areas}
+use Rattle.kriging_theory.specs.Rules.{rules}
+use Rattle.kriging_theory.specs.Refusals.{tests, refusal}
+use Rattle.kriging_theory.proofs.Endings.{told}
 
 module _ (s : Survey) (a : Areas) (taken : refusal base s a ≡ 0) where
   none-applies : NoneApplies (rules base s a)

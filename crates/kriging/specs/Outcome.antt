@@ -1,7 +1,7 @@
--- The answer of a fit by the paper's number. Assumes nothing.
+-- The answer of a fit by the paper's number.
 use Rattle.error.specs.Numbers.{numberOf}
 use Rattle.error.specs.Outcome.{Outcome, outcome}
-use Rattle.fit.specs.Areas.{Areas}
+use Rattle.kriging_theory.specs.Areas.{Areas}
 use Rattle.kriging.specs.declared.Fit.{Fit}
 use Rattle.kriging.specs.declared.Fit.the-variants.{Done, Refused}
 

@@ -10,10 +10,10 @@ ghost use Rattle.area.specs.Area.{written};
 ghost use Rattle.ieee.specs.Floats.{zeroFloat};
 ghost use Rattle.exponential.specs.Exponential.{fractionTable};
 ghost use Rattle.survey.specs.Survey.{surveyOf, columnSum, externalCount};
-ghost use Rattle.fit.specs.Areas.{areasOf};
-ghost use Rattle.fit.specs.Drift.{DriftIn};
-ghost use Rattle.fit.specs.Node.{nodeOf};
-ghost use Rattle.fit.specs.Fit.{nodesAnswered};
+ghost use Rattle.kriging_theory.specs.Areas.{areasOf};
+ghost use Rattle.kriging_theory.specs.Drift.{DriftIn};
+ghost use Rattle.kriging_theory.specs.Node.{nodeOf};
+ghost use Rattle.kriging_theory.specs.Fit.{nodesAnswered};
 
 // Numbers, stored to an area from place `at` on.
 fn store(numbers: &[f64], area: &mut [f64], at: usize)

@@ -9,7 +9,7 @@ ghost use lib.Ieee.{nan};
 ghost use Rattle.area.specs.Area.{written};
 ghost use Rattle.exponential.specs.Exponential.{fractionTable};
 ghost use Rattle.elimination.specs.Inverse.{besideIdentity, laid};
-ghost use Rattle.fit.specs.Assembly.{between, joined};
+ghost use Rattle.kriging_theory.specs.Assembly.{between, joined};
 
 // The entry between wells i and j: 0 + r on the diagonal, else the variogram.
 fn gamma(

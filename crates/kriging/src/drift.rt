@@ -6,7 +6,7 @@ ghost use lib.ListN.{length, getD};
 ghost use lib.Ieee.{nan};
 ghost use Rattle.area.specs.Area.{written, filled};
 ghost use Rattle.survey.specs.Survey.{codeColumns, columnSum, externalCount, xOf, yOf};
-ghost use Rattle.fit.specs.Drift.{block, driftRow};
+ghost use Rattle.kriging_theory.specs.Drift.{block, driftRow};
 
 // 1, x, y
 fn fill_linear(row: &mut [f64], col: usize, x: f64, y: f64)

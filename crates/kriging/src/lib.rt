@@ -22,15 +22,15 @@ ghost use Rattle.error.specs.Rules.{Ruled, NoneApplies};
 ghost use Rattle.elimination.specs.Elimination.{stepped, StopsAt, Through};
 ghost use Rattle.survey.specs.Limits.{base};
 ghost use Rattle.survey.specs.Survey.{surveyOf, size};
-ghost use Rattle.fit.specs.Areas.{areasOf, withWork};
-ghost use Rattle.fit.specs.Assembly.{assembled};
-ghost use Rattle.fit.specs.Rules.{rules};
-ghost use Rattle.fit.specs.Refusals.{refusal};
-ghost use Rattle.fit.specs.Fit.{fitted};
+ghost use Rattle.kriging_theory.specs.Areas.{areasOf, withWork};
+ghost use Rattle.kriging_theory.specs.Assembly.{assembled};
+ghost use Rattle.kriging_theory.specs.Rules.{rules};
+ghost use Rattle.kriging_theory.specs.Refusals.{refusal};
+ghost use Rattle.kriging_theory.specs.Fit.{fitted};
 ghost use Rattle.kriging.specs.Outcome.{outcomeOf};
-ghost use Rattle.fit.specs.Untouched.{Untouched};
-ghost use Rattle.fit.specs.System.{Kriged};
-ghost use Rattle.fit.specs.Trend.{TrendKept};
+ghost use Rattle.kriging_theory.specs.Untouched.{Untouched};
+ghost use Rattle.kriging_theory.specs.System.{Kriged};
+ghost use Rattle.kriging_theory.specs.Trend.{TrendKept};
 
 // How a fit ends.
 pub enum Fit {

@@ -11,8 +11,8 @@ ghost use Rattle.exponential.specs.Exponential.{fractionTable};
 ghost use Rattle.audit.specs.Audit.{driftFinite, columnVerdictGiven};
 ghost use Rattle.audit.specs.Lists.{entryIn, weighedIn};
 ghost use Rattle.survey.specs.Survey.{surveyOf, columnSum, externalCount, size, xOf, yOf};
-ghost use Rattle.fit.specs.Drift.{driftRow, DriftIn};
-ghost use Rattle.fit.specs.Node.{gammaTo, rightHandOf, zOf, varianceOf, nodeOf};
+ghost use Rattle.kriging_theory.specs.Drift.{driftRow, DriftIn};
+ghost use Rattle.kriging_theory.specs.Node.{gammaTo, rightHandOf, zOf, varianceOf, nodeOf};
 
 // The variogram from a place to each of the n wells.
 fn fill_gamma(

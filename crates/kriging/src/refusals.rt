@@ -9,8 +9,8 @@ ghost use Prim.Native.Nat.{_*_};
 ghost use lib.Dec.{ltb};
 ghost use Rattle.error.specs.Numbers.{judged};
 ghost use Rattle.survey.specs.Survey.{surveyOf};
-ghost use Rattle.fit.specs.Areas.{areasOf};
-ghost use Rattle.fit.specs.Refusals.{refusal};
+ghost use Rattle.kriging_theory.specs.Areas.{areasOf};
+ghost use Rattle.kriging_theory.specs.Refusals.{refusal};
 
 // Whether `len` numbers are fewer than n * m, which need not fit a word: by division.
 fn below_product(len: usize, n: usize, m: usize) -> bool

@@ -1,9 +1,9 @@
--- A call by a code: what it comes to where the code stands for nothing, and where it stands for something. Assumes nothing.
+-- A call by a code: what it comes to where the code stands for nothing, and where it stands for something.
 use mathlib.Core.Path.{_≡_, refl, ap, sym}
 use Rattle.variogram.specs.declared.VariogramModel.{VariogramModel}
 use Rattle.variogram.specs.declared.VariogramModel.the-variants.{Spherical, Exponential, Gaussian, Linear}
-use Rattle.interpolation.specs.declared.KrigingType.{KrigingType}
-use Rattle.survey_file.specs.File.{modelNumber}
+use Rattle.interpolator_theory.specs.declared.KrigingType.{KrigingType}
+use Rattle.survey_file_theory.specs.File.{modelNumber}
 use Rattle.nakwemol.specs.declared.codes.CodedModel.{CodedModel}
 use Rattle.nakwemol.specs.declared.codes.CodedType.{CodedType}
 use Rattle.nakwemol.specs.Codes.{modelOf, byModel, byType}

@@ -1,4 +1,4 @@
--- The numbers of the refusals, beside 0 and beside the number of a code that is none. Assumes nothing.
+-- The numbers of the refusals, beside 0 and beside the number of a code that is none.
 use Prim.Native.Nat.{ℕ, zero, suc}
 use mathlib.Core.Path.{_≡_, refl}
 use mathlib.Core.Logic.{_≢_}

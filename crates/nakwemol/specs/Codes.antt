@@ -1,12 +1,12 @@
--- What the codes of an exported call stand for, and how a call ends whose code stands for nothing. Assumes nothing.
+-- What the codes of an exported call stand for, and how a call ends whose code stands for nothing.
 use Prim.Native.Nat.{ℕ, zero, suc}
 use lib.Ieee.{Float}
 use Rattle.variogram.specs.Model.{variogram}
 use Rattle.variogram.specs.declared.VariogramModel.{VariogramModel}
 use Rattle.variogram.specs.declared.VariogramModel.the-variants.{Spherical, Exponential, Gaussian, Linear}
 use Rattle.survey.specs.declared.UniversalKrigingOptions.{UniversalKrigingOptions}
-use Rattle.interpolation.specs.declared.KrigingType.{KrigingType}
-use Rattle.interpolation.specs.declared.KrigingType.the-variants.{Ordinary, Universal}
+use Rattle.interpolator_theory.specs.declared.KrigingType.{KrigingType}
+use Rattle.interpolator_theory.specs.declared.KrigingType.the-variants.{Ordinary, Universal}
 use Rattle.nakwemol.specs.declared.codes.CodedModel.{CodedModel}
 use Rattle.nakwemol.specs.declared.codes.CodedType.{CodedType}
 

@@ -1,14 +1,14 @@
--- How an exported call ends that tells something beside its number and its areas: it goes to a place that the caller lends. Assumes nothing.
+-- How an exported call ends that tells something beside its number and its areas: it goes to a place that the caller lends.
 use Prim.Native.Nat.{ℕ, zero, suc}
 use mathlib.Core.List.{List, [], _∷_}
 use mathlib.Core.Option.{Option, none, some}
 use lib.Ieee.{Float}
-use Rattle.bins.specs.Call as Bins
-use Rattle.survey_file.specs.declared.Header.{Header}
-use Rattle.survey_file.specs.Areas as File
-use Rattle.survey_file.specs.File.{modelNumber}
-use Rattle.survey_file.specs.Reader as Reader
-use Rattle.survey_file.specs.Writer as Writer
+use Rattle.semivariogram_theory.specs.Call as Bins
+use Rattle.survey_file_theory.specs.declared.Header.{Header}
+use Rattle.survey_file_theory.specs.Areas as File
+use Rattle.survey_file_theory.specs.File.{modelNumber}
+use Rattle.survey_file_theory.specs.Reader as Reader
+use Rattle.survey_file_theory.specs.Writer as Writer
 
 -- the answer's number, what the place holds at exit, and the areas at exit
 pub record Ending (P A : Type 0) : Type 0 where

@@ -1,8 +1,8 @@
 // The codes of models and kriging types.
-use interpolation::KrigingType;
+use interpolator_theory::KrigingType;
 use variogram::VariogramModel;
 ghost use mathlib.Core.Path.{_≡_};
-ghost use Rattle.survey_file.specs.File.{modelNumber};
+ghost use Rattle.survey_file_theory.specs.File.{modelNumber};
 ghost use Rattle.nakwemol.specs.Codes.{modelOf, typeOf};
 
 // The number of a call that names a model or a kriging type by a code that is none. No refusal has it.

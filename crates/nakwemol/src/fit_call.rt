@@ -10,8 +10,8 @@ ghost use mathlib.Core.Path.{_≡_};
 ghost use Rattle.error.specs.Outcome.{outcome};
 ghost use Rattle.survey.specs.Limits.{base};
 ghost use Rattle.survey.specs.Survey.{surveyOf};
-ghost use Rattle.fit.specs.Areas.{Areas, areasOf};
-ghost use Rattle.fit.specs.Fit.{fitted};
+ghost use Rattle.kriging_theory.specs.Areas.{Areas, areasOf};
+ghost use Rattle.kriging_theory.specs.Fit.{fitted};
 ghost use Rattle.kriging.specs.Outcome.{outcomeOf};
 ghost use Rattle.nakwemol.specs.Codes.{modelOf, byModel, unknownCode, optionsOf};
 

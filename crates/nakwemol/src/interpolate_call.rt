@@ -11,8 +11,8 @@ ghost use mathlib.Core.Path.{_≡_};
 ghost use Rattle.error.specs.Outcome.{outcome};
 ghost use Rattle.variogram.specs.Model.{variogram};
 ghost use Rattle.survey.specs.Limits.{base};
-ghost use Rattle.interpolation.specs.Call.{Areas, areasOf};
-ghost use Rattle.interpolation.specs.Interpolation.{interpolated};
+ghost use Rattle.interpolator_theory.specs.Call.{Areas, areasOf};
+ghost use Rattle.interpolator_theory.specs.Interpolation.{interpolated};
 ghost use Rattle.interpolator.specs.Outcome.{interpolator, queryOf, outcomeOf};
 ghost use Rattle.nakwemol.specs.Codes.{modelOf, typeOf, byModel, byType, unknownCode};
 

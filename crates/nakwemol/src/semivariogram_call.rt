@@ -3,8 +3,8 @@ use semivariogram::Semivariogram;
 use semivariogram::SemivariogramCalculator;
 ghost use mathlib.Core.Path.{_≡_};
 ghost use Rattle.survey.specs.Limits.{base};
-ghost use Rattle.bins.specs.Call.{Areas, samplesOf, areasOf};
-ghost use Rattle.bins.specs.Semivariogram.{calculated};
+ghost use Rattle.semivariogram_theory.specs.Call.{Areas, samplesOf, areasOf};
+ghost use Rattle.semivariogram_theory.specs.Semivariogram.{calculated};
 ghost use Rattle.semivariogram.specs.Outcome.{outcomeOf};
 ghost use Rattle.nakwemol.specs.Told.{ending, binsTold};
 

@@ -1,4 +1,4 @@
--- Laws of a word's bytes and of the patterns of floats. Assumes nothing.
+-- Laws of a word's bytes and of the patterns of floats.
 use Prim.Native.Nat.{ℕ, suc, _+_, _*_, _%_, _^_, _<_, _≤_}
 use native.Mathlib.Omega.{arith}
 use native.Mathlib.Numerals.{add-one}

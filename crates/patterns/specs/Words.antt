@@ -1,4 +1,4 @@
--- Numbers in bytes, words of 64 bits among them. Assumes nothing.
+-- Numbers in bytes, words of 64 bits among them.
 use Prim.Native.Nat.{ℕ}
 use mathlib.Core.List.{List}
 use lib.ListN.{take, drop}

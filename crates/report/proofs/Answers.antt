@@ -1,4 +1,4 @@
--- A text in its area: without room, and with it. Assumes nothing.
+-- A text in its area: without room, and with it.
 use Prim.Native.Nat.{ℕ, _≤_, _<_}
 use native.Mathlib.Nat.{zero-add}
 use mathlib.Core.Path.{_≡_, ap₂, sym, _∙_}

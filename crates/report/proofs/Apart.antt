@@ -1,4 +1,4 @@
--- What is printed tells one ending from another: no two refusals have one line, and no listing is a refusal's line. Assumes nothing.
+-- What is printed tells one ending from another: no two refusals have one line, and no listing is a refusal's line.
 use Prim.Native.Nat.{ℕ, _+_, _*_}
 use native.Mathlib.Omega.{arith}
 use mathlib.Core.Path.{_≡_, refl, ap}

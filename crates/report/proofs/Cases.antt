@@ -1,4 +1,4 @@
--- The cases, each by computation. Assumes nothing.
+-- The cases, each by computation.
 use mathlib.Core.Path.{refl}
 use lib.Ieee.{ofBits, toBits}
 use Rattle.report.specs.Numerals.{digit, inTens, decimalText, inSixteens, hexText, bitsOf, bitsText}

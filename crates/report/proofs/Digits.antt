@@ -1,4 +1,4 @@
--- One digit: the byte that stands for it, and what it means when it is read. Assumes nothing.
+-- One digit: the byte that stands for it, and what it means when it is read.
 use Prim.Native.Nat.{ℕ, _+_, _<_, _≤_}
 use native.Mathlib.Omega.{arith}
 use native.Mathlib.Decide.{decLt}

@@ -1,4 +1,4 @@
--- How long lines and listings are, and that no listing of an accepted fit is longer than the longest. Assumes nothing.
+-- How long lines and listings are, and that no listing of an accepted fit is longer than the longest.
 use Prim.Native.Nat.{ℕ, zero, suc, _+_, _*_, _≤_}
 use native.Mathlib.Nat.{le-refl, mul-zero}
 use native.Mathlib.Decide.{decLt}

@@ -1,4 +1,4 @@
--- Lines put into an area one after another, for loops that put one a turn. Assumes nothing.
+-- Lines put into an area one after another, for loops that put one a turn.
 use Prim.Native.Nat.{ℕ, suc, _+_, _<_}
 use native.Mathlib.Numerals.{add-one}
 use native.Mathlib.Omega.{arith}

@@ -1,4 +1,4 @@
--- No listing of an accepted fit, and no refusal, is longer than the longest. Assumes nothing.
+-- No listing of an accepted fit, and no refusal, is longer than the longest.
 use Prim.Native.Nat.{ℕ, zero, suc, _+_, _≤_, _<_}
 use native.Mathlib.Omega.{arith}
 use mathlib.Core.Path.{_≡_, refl}

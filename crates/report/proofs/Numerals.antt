@@ -1,4 +1,4 @@
--- Texts of numbers: they are what the kit's digits are, and how long they are. Assumes nothing.
+-- Texts of numbers: they are what the kit's digits are, and how long they are.
 use Prim.Native.Nat.{ℕ, zero, suc, _+_, _-_, _/_, _%_, _^_, _≤_, _<_, min, max}
 use native.Mathlib.Nat.{not-suc-le-zero, pow-suc, pow-le-pow-right}
 use native.Mathlib.Numerals.{add-one}

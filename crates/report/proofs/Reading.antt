@@ -1,4 +1,4 @@
--- The texts of numbers read as the numbers, for every number: decimal without a zero in front, hexadecimal for every word. Assumes nothing.
+-- The texts of numbers read as the numbers, for every number: decimal without a zero in front, hexadecimal for every word.
 use Prim.Native.Nat.{ℕ, zero, suc, _+_, _*_, _/_, _%_, _^_, _≤_, _<_}
 use native.Mathlib.Nat.{not-suc-le-zero, pow-suc, zero-add}
 use native.Mathlib.Decide.{decLt}

@@ -1,4 +1,4 @@
--- What a number's text must be leaves one text: whatever reads so is what is printed. Assumes nothing.
+-- What a number's text must be leaves one text: whatever reads so is what is printed.
 use Prim.Native.Nat.{ℕ, _+_, _-_, _*_, _/_, _%_, _^_, _≤_, _<_}
 use native.Mathlib.Nat.{mul-assoc, mul-comm, mul-le-mul-right, one-mul, pow-suc, pow-le-pow-right, le-trans, lt-of-lt-of-le}
 use native.Mathlib.Decide.{decLt}

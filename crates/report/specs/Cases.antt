@@ -1,4 +1,4 @@
--- Cases of what is printed, each by its text. Assumes nothing.
+-- Cases of what is printed, each by its text.
 use Prim.Native.Nat.{ℕ}
 use mathlib.Core.Path.{_≡_}
 use mathlib.Core.List.{List, [], _∷_, _++_}

@@ -1,5 +1,5 @@
 -- What `wellmap` prints: "node count; node number from 1, figure bits, variance bits, verdict; one coef line a column", then "`trend` lines after the
--- coef lines", or "only `refused N`". Each line ends in a line feed. Assumes nothing.
+-- coef lines", or "only `refused N`". Each line ends in a line feed.
 use Prim.Native.Nat.{ℕ, zero, suc, _+_, _*_}
 use mathlib.Core.List.{List, [], _++_}
 use lib.ListN.{length, getD}

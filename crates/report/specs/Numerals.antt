@@ -1,4 +1,4 @@
--- Numbers in ASCII: "Bits are 16 hexadecimal digits in small letters, any NaN as 7ff8000000000000; the other figures are decimal". Assumes nothing.
+-- Numbers in ASCII: "Bits are 16 hexadecimal digits in small letters, any NaN as 7ff8000000000000; the other figures are decimal".
 use Prim.Native.Nat.{ℕ, zero, suc, _/_, _%_}
 use Prim.Native.Char.{code}
 use Prim.Native.String.{String, [] as no-more, _∷_ as _then_}

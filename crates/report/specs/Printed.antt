@@ -1,4 +1,4 @@
--- What printing into a lent area answers, and what the area holds then. Assumes nothing.
+-- What printing into a lent area answers, and what the area holds then.
 use Prim.Native.Nat.{ℕ}
 use mathlib.Core.Bool.{cond, _&&_}
 use mathlib.Core.List.{List}

@@ -1,4 +1,4 @@
--- Printed numbers by reading them, and not by how they are made: what a text of digits must be to be a number's. Assumes nothing.
+-- Printed numbers by reading them, and not by how they are made: what a text of digits must be to be a number's.
 use Prim.Native.Nat.{ℕ, _+_, _-_, _*_, _≤_, _<_}
 use mathlib.Core.Path.{_≡_}
 use mathlib.Core.Logic.{_⊎_}

@@ -1,4 +1,4 @@
--- The bounds of the bins: what makes a squared distance one, and what they tell of a pair's. Assumes nothing.
+-- The bounds of the bins: what makes a squared distance one, and what they tell of a pair's.
 use Prim.Native.Nat.{ℕ, _+_, _-_, _≤_, _<_}
 use native.Mathlib.Decide.{decLt}
 use native.Mathlib.Omega.{arith}

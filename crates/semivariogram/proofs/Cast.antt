@@ -1,4 +1,4 @@
--- A float as a whole number, where it is not above -1, and where it is 2^64 or more. Assumes nothing.
+-- A float as a whole number, where it is not above -1, and where it is 2^64 or more.
 use Prim.Native.Nat.{_+_, _-_, _*_, _/_, _^_, _≤_}
 use native.Mathlib.Nat.{le-div-iff-mul-le}
 use native.Mathlib.Omega.{arith}

@@ -1,4 +1,4 @@
--- The kept bins as code writes them: bin after bin, from the sums and counts of one pass. Assumes nothing.
+-- The kept bins as code writes them: bin after bin, from the sums and counts of one pass.
 use Prim.Native.Nat.{ℕ, zero, suc, _+_, _≤_, _<_}
 use native.Mathlib.Nat.{zero-add}
 use native.Mathlib.Omega.{arith}
@@ -14,11 +14,11 @@ use Rattle.area.specs.Area.{written}
 use Rattle.area.proofs.Start.{next-start}
 use Rattle.area.proofs.Places.{same-values}
 use Rattle.ieee.specs.Floats.{zeroFloat}
-use Rattle.bins.specs.Pairs.{rising, pairs, filtered}
-use Rattle.bins.specs.Call.{Samples, Areas, samples, areasOf}
-use Rattle.bins.specs.Bins.{asFloat, half, width, countIn, sumIn, count, average, centre, keptBins, filled}
+use Rattle.semivariogram_theory.specs.Pairs.{rising, pairs, filtered}
+use Rattle.semivariogram_theory.specs.Call.{Samples, Areas, samples, areasOf}
+use Rattle.semivariogram_theory.specs.Bins.{asFloat, half, width, countIn, sumIn, count, average, centre, keptBins, filled}
 use Rattle.semivariogram.specs.Parts.{Left}
-use Rattle.bins.proofs.Lists.{rising-add, filtered-append, from-rank}
+use Rattle.semivariogram_theory.proofs.Lists.{rising-add, filtered-append, from-rank}
 
 -- ---- the numbers that pass a test, one more looked at
 module _ (keep : ℕ → Bool) (i : ℕ) where

@@ -1,5 +1,5 @@
 -- One pass over the pairs fills every bin: after some pairs, each bin's sum and count are those over the pairs so far whose bin it is, so that with the pairs
--- that are left they come to those over all pairs. Assumes nothing.
+-- that are left they come to those over all pairs.
 use Prim.Native.Nat.{ℕ, suc, _+_, _-_, _≤_, _<_, min}
 use native.Mathlib.Decide.{decLt}
 use native.Mathlib.Numerals.{add-one}
@@ -14,9 +14,9 @@ use lib.ListN.{length, getD, set}
 use lib.Seq.{getD-set-same, getD-set-other}
 use lib.Ieee.{Float, nan, binary64, add, div, toUnsigned}
 use Rattle.ieee.specs.Floats.{floorOf}
-use Rattle.bins.specs.Pairs.{Pair, pair, pairsFrom, pairs}
-use Rattle.bins.specs.Call.{Samples, samples}
-use Rattle.bins.specs.Bins.{lag, halfSquare, width, binOf, countIn, sumIn, count}
+use Rattle.semivariogram_theory.specs.Pairs.{Pair, pair, pairsFrom, pairs}
+use Rattle.semivariogram_theory.specs.Call.{Samples, samples}
+use Rattle.semivariogram_theory.specs.Bins.{lag, halfSquare, width, binOf, countIn, sumIn, count}
 use Rattle.semivariogram.specs.Parts.{Left}
 use Rattle.semivariogram.proofs.Passes.{laterFrom, next-sample, no-sample, next-later, no-later}
 use Rattle.semivariogram.proofs.Places.{few-pairs}

@@ -1,4 +1,4 @@
--- One pass over the pairs, as code makes it: sample after sample, and of each the later ones. Assumes nothing.
+-- One pass over the pairs, as code makes it: sample after sample, and of each the later ones.
 use Prim.Native.Nat.{ℕ, suc, _+_, _-_, _≤_, _<_}
 use native.Mathlib.Numerals.{add-one}
 use native.Mathlib.Omega.{arith}
@@ -6,8 +6,8 @@ use mathlib.Core.Path.{_≡_, refl, ap, sym, _∙_}
 use mathlib.Core.List.{List, [], _∷_, _++_, map, map-append}
 use lib.Ieee.{Float}
 use Rattle.ieee.specs.Floats.{maxOf}
-use Rattle.bins.specs.Pairs.{Pair, pair, rising, pairsFrom, pairs}
-use Rattle.bins.specs.Bins.{greatest}
+use Rattle.semivariogram_theory.specs.Pairs.{Pair, pair, rising, pairsFrom, pairs}
+use Rattle.semivariogram_theory.specs.Bins.{greatest}
 
 -- the pairs of the sample i with each later one of n
 abbrev pub later : ℕ → ℕ → List Pair

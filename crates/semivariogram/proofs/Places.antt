@@ -1,4 +1,4 @@
--- The numbers of the pairs in a list, each at its pair's place in their order, as code writes and reads them: sample after sample. Assumes nothing.
+-- The numbers of the pairs in a list, each at its pair's place in their order, as code writes and reads them: sample after sample.
 use Prim.Native.Nat.{ℕ, zero, suc, _+_, _-_, _*_, _≤_, _<_}
 use native.Mathlib.Nat.{mul-le-mul, mul-suc}
 use native.Mathlib.Numerals.{add-one}
@@ -9,8 +9,8 @@ use mathlib.Core.List.{List, [], _∷_, _++_}
 use lib.ListN.{length, getD, set, drop, length-drop}
 use lib.Seq.{drop-cons, getD-set-same, getD-set-other}
 use lib.Ieee.{Float, nan}
-use Rattle.bins.specs.Pairs.{Pair, pair, pairsFrom, pairs}
-use Rattle.bins.proofs.Pairs.{twice}
+use Rattle.semivariogram_theory.specs.Pairs.{Pair, pair, pairsFrom, pairs}
+use Rattle.semivariogram_theory.proofs.Pairs.{twice}
 use Rattle.semivariogram.specs.Parts.{Reached, Stored}
 use Rattle.semivariogram.proofs.Passes.{laterFrom, next-sample, no-sample, next-later, no-later, all-pairs}
 

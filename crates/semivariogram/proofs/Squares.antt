@@ -1,4 +1,4 @@
--- The squared distances of a call that is not refused: their signs, their roots, and the root of the greatest. Assumes nothing.
+-- The squared distances of a call that is not refused: their signs, their roots, and the root of the greatest.
 use Prim.Native.Nat.{ℕ, zero, suc, _+_, _*_, _<_}
 use native.Mathlib.Nat.{mul-pos, zero-mul}
 use native.Mathlib.Omega.{arith}
@@ -22,12 +22,12 @@ use Rattle.ieee.proofs.Signs.{round-signed}
 use Rattle.variogram.specs.Distance.{squares, axisFrom, distance}
 use Rattle.variogram.proofs.Distance.{is-offered, distance-offered}
 use Rattle.variogram.proofs.Signs.{squares-clear}
-use Rattle.bins.specs.Pairs.{Pair, pair, pairs}
-use Rattle.bins.specs.Call.{Samples, Areas, samples}
-use Rattle.bins.specs.Bins.{asFloat, lag, greatest, longest, width}
-use Rattle.bins.proofs.Accepted.{Accepted}
-use Rattle.bins.proofs.Farthest.{longest-clear}
-use Rattle.bins.proofs.Pairs.{every-pair}
+use Rattle.semivariogram_theory.specs.Pairs.{Pair, pair, pairs}
+use Rattle.semivariogram_theory.specs.Call.{Samples, Areas, samples}
+use Rattle.semivariogram_theory.specs.Bins.{asFloat, lag, greatest, longest, width}
+use Rattle.semivariogram_theory.proofs.Accepted.{Accepted}
+use Rattle.semivariogram_theory.proofs.Farthest.{longest-clear}
+use Rattle.semivariogram_theory.proofs.Pairs.{every-pair}
 use Rattle.semivariogram.specs.Parts.{Taken, squareIn}
 
 -- ---- each of them

@@ -1,4 +1,4 @@
--- The call's parts put together: what it starts from, and what it comes to, refused or not. Assumes nothing.
+-- The call's parts put together: what it starts from, and what it comes to, refused or not.
 use Prim.Native.Nat.{ℕ, zero, suc, _+_, _≤_}
 use native.Mathlib.Nat.{zero-add}
 use native.Mathlib.Omega.{arith}
@@ -10,15 +10,15 @@ use Rattle.error.specs.declared.Refusal.{Refusal}
 use Rattle.error.proofs.First.{numbers}
 use Rattle.ieee.specs.Floats.{zeroFloat}
 use Rattle.survey.specs.declared.Limits.{Limits}
-use Rattle.bins.specs.Pairs.{pairs}
-use Rattle.bins.specs.Call.{Samples, Areas, Outcome, samples}
-use Rattle.bins.specs.Refusals.{refusal}
-use Rattle.bins.specs.Bins.{sumIn, count, keptBins, filled}
+use Rattle.semivariogram_theory.specs.Pairs.{pairs}
+use Rattle.semivariogram_theory.specs.Call.{Samples, Areas, Outcome, samples}
+use Rattle.semivariogram_theory.specs.Refusals.{refusal}
+use Rattle.semivariogram_theory.specs.Bins.{sumIn, count, keptBins, filled}
 use Rattle.semivariogram.specs.Parts.{Taken, Left}
-use Rattle.bins.specs.Semivariogram.{callWhere, calculated}
-use Rattle.bins.specs.Binned.{Ends}
-use Rattle.bins.proofs.Accepted.{Accepted}
-use Rattle.bins.proofs.Calculated.{is-done, ends}
+use Rattle.semivariogram_theory.specs.Semivariogram.{callWhere, calculated}
+use Rattle.semivariogram_theory.specs.Binned.{Ends}
+use Rattle.semivariogram_theory.proofs.Accepted.{Accepted}
+use Rattle.semivariogram_theory.proofs.Calculated.{is-done, ends}
 
 -- ---- the start
 -- what is known of a call that is not refused

@@ -1,6 +1,6 @@
--- How a call ends by its answer. Assumes nothing.
+-- How a call ends by its answer.
 use Rattle.error.specs.Numbers.{numberOf}
-use Rattle.bins.specs.Call.{Areas, Outcome}
+use Rattle.semivariogram_theory.specs.Call.{Areas, Outcome}
 use Rattle.semivariogram.specs.declared.Semivariogram.{Semivariogram}
 use Rattle.semivariogram.specs.declared.Semivariogram.the-variants.{Bins, Refused}
 

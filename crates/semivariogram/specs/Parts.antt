@@ -1,5 +1,4 @@
 -- What the parts of the call's code have worked out: the squared distances of a list of points, the bounds of the bins, and the bins while pairs are left.
--- Assumes nothing.
 use Prim.Native.Nat.{ℕ, _+_, _-_, _*_, _≤_, _<_, min}
 use mathlib.Core.Path.{_≡_}
 use mathlib.Core.Bool.{false}
@@ -12,9 +11,9 @@ use Rattle.ieee.specs.Floats.{zeroFloat, floorOf}
 use Rattle.ieee.specs.Root.{sqrtOf}
 use Rattle.ieee.specs.Values.{Signed}
 use Rattle.variogram.specs.Distance.{squares, axisFrom}
-use Rattle.bins.specs.Pairs.{Pair, pair, pairs}
-use Rattle.bins.specs.Call.{Samples, samples}
-use Rattle.bins.specs.Bins.{countIn, sumIn, count}
+use Rattle.semivariogram_theory.specs.Pairs.{Pair, pair, pairs}
+use Rattle.semivariogram_theory.specs.Call.{Samples, samples}
+use Rattle.semivariogram_theory.specs.Bins.{countIn, sumIn, count}
 
 -- what is known of a call that is not refused
 pub record Taken (q : Samples) : Type 0 where

@@ -5,9 +5,9 @@ ghost use mathlib.Core.List.{[]};
 ghost use Prim.Native.Nat.{suc, _+_, _-_, _≤_, _<_};
 ghost use lib.ListN.{length};
 ghost use lib.Ieee.{toUnsigned};
-ghost use Rattle.bins.specs.Pairs.{pairsFrom, pairs};
-ghost use Rattle.bins.specs.Call.{Samples, samplesOf, areasOf};
-ghost use Rattle.bins.specs.Bins.{width, keptBins, filled};
+ghost use Rattle.semivariogram_theory.specs.Pairs.{pairsFrom, pairs};
+ghost use Rattle.semivariogram_theory.specs.Call.{Samples, samplesOf, areasOf};
+ghost use Rattle.semivariogram_theory.specs.Bins.{width, keptBins, filled};
 ghost use Rattle.semivariogram.specs.Parts.{Taken, squareIn, Reached, Stored, binAt, Bounds, Left};
 
 // x as a whole number, as the Rust's cast has it at every x: without its fraction, 0 for a NaN and below zero, and the greatest there is where x is above that.

@@ -4,8 +4,8 @@ ghost use mathlib.Core.List.{map};
 ghost use Prim.Native.Nat.{suc, _+_, _-_, _*_, _≤_, _<_};
 ghost use lib.ListN.{length};
 ghost use Rattle.ieee.specs.Floats.{zeroFloat};
-ghost use Rattle.bins.specs.Pairs.{pair, rising, pairsFrom, pairs};
-ghost use Rattle.bins.specs.Bins.{greatest};
+ghost use Rattle.semivariogram_theory.specs.Pairs.{pair, rising, pairsFrom, pairs};
+ghost use Rattle.semivariogram_theory.specs.Bins.{greatest};
 ghost use Rattle.semivariogram.specs.Parts.{squareIn, Reached, Stored};
 
 // The squared distances of the point i from each later one, from the place `at` on, and the greatest of them and of `most`.

@@ -15,12 +15,12 @@ use survey::Limits;
 ghost use mathlib.Core.Path.{_≡_};
 ghost use lib.ListN.{length};
 ghost use Rattle.survey.specs.Limits.{base};
-ghost use Rattle.bins.specs.Refusals.{refusal};
-ghost use Rattle.bins.specs.Bins.{keptBins, filled};
-ghost use Rattle.bins.specs.Call.{samplesOf, areasOf};
+ghost use Rattle.semivariogram_theory.specs.Refusals.{refusal};
+ghost use Rattle.semivariogram_theory.specs.Bins.{keptBins, filled};
+ghost use Rattle.semivariogram_theory.specs.Call.{samplesOf, areasOf};
 ghost use Rattle.semivariogram.specs.Outcome.{outcomeOf};
-ghost use Rattle.bins.specs.Semivariogram.{calculated};
-ghost use Rattle.bins.specs.Binned.{Ends};
+ghost use Rattle.semivariogram_theory.specs.Semivariogram.{calculated};
+ghost use Rattle.semivariogram_theory.specs.Binned.{Ends};
 
 // How a call of the calculator ends.
 pub enum Semivariogram {

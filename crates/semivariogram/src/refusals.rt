@@ -6,8 +6,8 @@ ghost use mathlib.Core.Path.{_≡_};
 ghost use mathlib.Core.Bool.{_||_};
 ghost use lib.Dec.{ltb};
 ghost use Rattle.error.specs.Numbers.{judged};
-ghost use Rattle.bins.specs.Call.{samplesOf, areasOf};
-ghost use Rattle.bins.specs.Refusals.{refusal};
+ghost use Rattle.semivariogram_theory.specs.Call.{samplesOf, areasOf};
+ghost use Rattle.semivariogram_theory.specs.Refusals.{refusal};
 
 // The most bins.
 const MOST_BINS: usize = 64;

@@ -1,5 +1,5 @@
 -- A fraction below e^−u, and one above it: held to the sums of positive terms, where products are easy, and to the alternating sums, by which the statements
--- are made; each leads to the other. So every lower sum is below every upper one. Assumes nothing.
+-- are made; each leads to the other. So every lower sum is below every upper one.
 use Prim.Native.Nat.{ℕ, zero, suc, _+_, _-_, _*_, _≤_, _<_}
 use native.Mathlib.Nat.{le-refl, le-trans, le-dest, mul-add, add-mul, mul-assoc, mul-comm, mul-le-mul-left, mul-le-mul-right, le-of-mul-le-mul-right}
 use native.Mathlib.Omega.{arith}

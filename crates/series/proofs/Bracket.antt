@@ -1,4 +1,4 @@
--- The alternating sums bracket each other, so the statement by them cannot be empty: every lower sum past u is at most every upper one. Assumes nothing.
+-- The alternating sums bracket each other, so the statement by them cannot be empty: every lower sum past u is at most every upper one.
 use Prim.Native.Nat.{ℕ, _+_, _-_, _*_, _≤_, _<_}
 use native.Mathlib.Nat.{mul-comm, sub-add-cancel, add-mul, zero-mul, le-of-lt, le-of-eq, lt-of-not-le}
 use native.Mathlib.Omega.{arith}

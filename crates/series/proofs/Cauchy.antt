@@ -1,4 +1,4 @@
--- The product of two series of positive terms: its terms, by the sum of the two powers, are those of the series of a + b. Assumes nothing.
+-- The product of two series of positive terms: its terms, by the sum of the two powers, are those of the series of a + b.
 use Prim.Native.Nat.{ℕ, zero, suc, _+_, _-_, _*_, _≤_, _<_}
 use native.Mathlib.Nat.{le-trans, le-of-lt, le-of-suc-le-suc, mul-add, add-mul, mul-assoc, mul-comm, mul-left-comm, mul-pos, mul-zero, zero-mul, add-zero}
 use native.Mathlib.Nat.{zero-add, suc-add, sub-zero, sub-self, suc-sub-suc, eq-of-mul-eq-mul-left, zero-lt-suc, mul-le-mul-left, add-sub-of-le}

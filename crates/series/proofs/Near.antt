@@ -1,4 +1,4 @@
--- Numbers of units near e^−u, q units to 1: how far a product of two lies from e^−(u + v). Assumes nothing.
+-- Numbers of units near e^−u, q units to 1: how far a product of two lies from e^−(u + v).
 use Prim.Native.Nat.{ℕ, _+_, _-_, _*_, _≤_, _<_}
 use native.Mathlib.Nat.{le-trans, le-of-eq, mul-add, add-mul, mul-assoc, mul-comm, mul-left-comm, mul-pos, mul-le-mul, mul-le-mul-left, mul-le-mul-right}
 use native.Mathlib.Nat.{le-of-mul-le-mul-left, sub-add-cancel, zero-mul}

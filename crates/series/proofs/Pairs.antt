@@ -1,4 +1,4 @@
--- The product of two terms of one series is a whole multiple of the term of the sum of their powers. Assumes nothing.
+-- The product of two terms of one series is a whole multiple of the term of the sum of their powers.
 use Prim.Native.Nat.{ℕ, zero, suc, _+_, _*_, _^_, _≤_, _<_}
 use native.Mathlib.Nat.{le-trans, le-add-right, le-add-left, mul-add, add-mul, mul-comm, mul-pos, mul-one, one-mul, add-zero, zero-add, add-suc, suc-add}
 use native.Mathlib.Nat.{add-comm, eq-of-mul-eq-mul-left, eq-of-mul-eq-mul-right, zero-lt-suc}

@@ -1,5 +1,5 @@
 -- The functional equation for sums of positive terms, E_n(u) = 1 + u + u²/2 + .. + u^n/n!, with no rest to bound: E_n(a + b) ≤ E_n(a)·E_n(b), and
--- E_n(a)·E_m(b) ≤ E_(n+m)(a + b). Numbers are over d. Assumes nothing.
+-- E_n(a)·E_m(b) ≤ E_(n+m)(a + b). Numbers are over d.
 use Prim.Native.Nat.{ℕ, suc, _+_, _*_, _≤_, _<_}
 use native.Mathlib.Nat.{le-refl, le-of-suc-le-suc, le-add-right, le-add-left, mul-assoc, mul-left-comm, mul-pos, mul-le-mul-left, le-of-mul-le-mul-left}
 use mathlib.Core.Path.{_≡_, ap, ap₂, sym, _∙_, subst₂}

@@ -1,4 +1,4 @@
--- a / d and k·a / k·d are one number: what is below and above e^−(a/d) is so of the other. Assumes nothing.
+-- a / d and k·a / k·d are one number: what is below and above e^−(a/d) is so of the other.
 use Prim.Native.Nat.{ℕ, zero, suc, _+_, _-_, _*_, _^_}
 use native.Mathlib.Nat.{le-trans, le-of-eq, mul-add, mul-left-comm, mul-one, pow-suc, pow-zero, mul-le-mul-left}
 use mathlib.Core.Path.{_≡_, ap, ap₂, sym, _∙_}

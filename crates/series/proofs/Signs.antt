@@ -1,4 +1,4 @@
--- The two parts of a sum, added and taken, are those of the alternating series with its signs. Assumes nothing.
+-- The two parts of a sum, added and taken, are those of the alternating series with its signs.
 use Prim.Native.Nat.{ℕ, zero, suc, _+_, _*_, _^_}
 use native.Mathlib.Nat.{add-zero, mul-comm, pow-suc, pow-zero}
 use mathlib.Core.Path.{_≡_, refl, ap, ap₂, sym, _∙_}

@@ -1,5 +1,5 @@
 -- The alternating sum that ends at the power n times the sum of the positive terms, (added − taken)·(added + taken), is at least 1 for an even n and at most 1
--- for an odd one: with P and M the two parts, P² − M² differs from 1 by terms of one sign. For every u, and with no limit. Assumes nothing.
+-- for an odd one: with P and M the two parts, P² − M² differs from 1 by terms of one sign. For every u, and with no limit.
 use Prim.Native.Nat.{ℕ, zero, suc, _+_, _*_, _≤_, _<_}
 use native.Mathlib.Nat.{le-refl, le-of-mul-le-mul-left, le-add-right, mul-add, add-mul, mul-assoc, mul-comm, mul-pos, mul-zero, zero-mul, two-mul, add-zero}
 use native.Mathlib.Nat.{zero-add}

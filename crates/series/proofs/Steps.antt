@@ -1,5 +1,5 @@
 -- From the sum that ends at a power to the next one, and to the one after that: the sums of positive terms rise, and so do the lower ones of the alternating
--- series past u. A fraction c / q is held to them. Assumes nothing.
+-- series past u. A fraction c / q is held to them.
 use Prim.Native.Nat.{ℕ, zero, suc, _+_, _*_, _^_, _≤_, _<_}
 use native.Mathlib.Nat.{le-trans, le-of-eq, le-of-lt, le-step, mul-add, add-mul, mul-assoc, mul-comm, mul-pos, mul-le-mul-left, mul-le-mul-right}
 use native.Mathlib.Nat.{le-of-mul-le-mul-right, add-zero, add-suc, pow-suc, zero-lt-suc}

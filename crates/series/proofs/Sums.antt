@@ -1,4 +1,4 @@
--- Sums of whole numbers, f 0 + f 1 + .. + f (n - 1), and what holds of them. Assumes nothing.
+-- Sums of whole numbers, f 0 + f 1 + .. + f (n - 1), and what holds of them.
 use Prim.Native.Nat.{ℕ, zero, suc, _+_, _*_, _≤_, _<_}
 use native.Mathlib.Nat.{le-refl, le-step, add-le-add, mul-zero, mul-add, add-suc, add-zero, lt-suc-self}
 use native.Mathlib.Omega.{arith}

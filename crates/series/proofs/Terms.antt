@@ -1,4 +1,4 @@
--- The terms u^i / i! of the series for u = a / d, in one unit for all of them up to the power K: whole numbers x i with x i / x 0 = u^i / i!. Assumes nothing.
+-- The terms u^i / i! of the series for u = a / d, in one unit for all of them up to the power K: whole numbers x i with x i / x 0 = u^i / i!.
 use Prim.Native.Nat.{ℕ, zero, suc, _+_, _-_, _*_, _^_, _≤_, _<_}
 use native.Mathlib.Nat.{le-of-lt, le-of-suc-le, mul-add, mul-assoc, mul-comm, mul-left-comm, mul-pos, one-mul, mul-one, mul-zero, zero-mul, add-zero, add-suc}
 use native.Mathlib.Nat.{zero-add, sub-zero, add-sub-of-le, pow-suc, pow-zero, eq-of-mul-eq-mul-left, zero-lt-suc}

@@ -1,4 +1,4 @@
--- Paper 02, Slip 1: "The exact value is bracketed by partial sums of the alternating series, .. each sum ending at a power above u". Assumes nothing.
+-- Paper 02, Slip 1: "The exact value is bracketed by partial sums of the alternating series, .. each sum ending at a power above u".
 use Prim.Native.Nat.{ℕ, _+_, _*_, _≤_, _<_}
 use mathlib.Core.Path.{_≡_}
 use mathlib.Core.Bool.{true, false}

@@ -1,4 +1,4 @@
--- Paper 02, Slip 1: "partial sums of the alternating series, as fractions of whole numbers", for u = a / d. Assumes nothing.
+-- Paper 02, Slip 1: "partial sums of the alternating series, as fractions of whole numbers", for u = a / d.
 use Prim.Native.Nat.{ℕ, zero, suc, _+_, _*_, _^_}
 use mathlib.Core.Bool.{Bool, true, false, not, cond}
 use lib.IntN.{ℤ, pos, negℤ, pow, _+ℤ_, _*ℤ_}

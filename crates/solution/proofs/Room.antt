@@ -1,4 +1,4 @@
--- z and the trend where there is room, and where there is none. Assumes nothing.
+-- z and the trend where there is room, and where there is none.
 use Prim.Native.Nat.{ℕ, _-_, _*_, _≤_, _<_}
 use native.Mathlib.Omega.{arith}
 use mathlib.Core.Path.{_≡_, refl, ap, _∙_}

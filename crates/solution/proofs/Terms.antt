@@ -1,4 +1,4 @@
--- A row of the inverse times b, term by term: where its numbers lie, one term more, and the whole row. Assumes nothing.
+-- A row of the inverse times b, term by term: where its numbers lie, one term more, and the whole row.
 use Prim.Native.Nat.{ℕ, _+_, _*_, _<_}
 use native.Mathlib.Nat.{le-refl}
 use native.Mathlib.Omega.{arith}

@@ -1,4 +1,4 @@
--- The trend's estimate from a finished elimination: "Trend slopes on the report", for whatever lists are lent. Assumes nothing.
+-- The trend's estimate from a finished elimination: "Trend slopes on the report", for whatever lists are lent.
 use Prim.Native.Nat.{ℕ, _+_, _-_, _*_}
 use mathlib.Core.Bool.{Bool, cond, _||_}
 use mathlib.Core.List.{List}

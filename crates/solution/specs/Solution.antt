@@ -1,4 +1,4 @@
--- z from a finished elimination: paper 01, "Node", for whatever lists are lent. Assumes nothing.
+-- z from a finished elimination: paper 01, "Node", for whatever lists are lent.
 use Prim.Native.Nat.{ℕ, _*_}
 use mathlib.Core.Bool.{Bool, cond, _||_}
 use mathlib.Core.List.{List}

@@ -1,11 +1,11 @@
--- The one lemma that holds the soundings: each is computed by the definitions. Assumes nothing.
+-- The one lemma that holds the soundings: each is computed by the definitions.
 use mathlib.Core.Path.{refl}
 use lib.Ieee.{ofBits, toBits, add, sub, mul, div, lt, le, eq, ofInt, toUnsigned, round}
 use Rattle.ieee.specs.Root.{sqrtOf}
 use Rattle.variogram.specs.Model.{semivariance}
-use Rattle.fit.specs.Fit.{fitted}
-use Rattle.interpolation.specs.Interpolation.{interpolated}
-use Rattle.bins.specs.Semivariogram.{calculated}
+use Rattle.kriging_theory.specs.Fit.{fitted}
+use Rattle.interpolator_theory.specs.Interpolation.{interpolated}
+use Rattle.semivariogram_theory.specs.Semivariogram.{calculated}
 use Rattle.soundings.specs.Soundings.{Soundings}
 
 pub soundings : Soundings

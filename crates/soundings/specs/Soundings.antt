@@ -1,4 +1,4 @@
--- Paper 01, "Soundings marked for proof", A to H: each line of the paper is a field. Assumes nothing.
+-- Paper 01, "Soundings marked for proof", A to H: each line of the paper is a field.
 use Prim.Native.Nat.{ℕ, suc, _-_, _*_, _^_}
 use mathlib.Core.Path.{_≡_}
 use mathlib.Core.List.{List, [], _∷_}
@@ -11,13 +11,13 @@ use Rattle.variogram.specs.declared.VariogramModel.the-variants.{Spherical, Lin
 use Rattle.error.specs.Outcome.{Outcome, outcome}
 use Rattle.survey.specs.Limits.{base}
 use Rattle.survey.specs.Survey.{Survey}
-use Rattle.fit.specs.Areas.{Areas}
-use Rattle.fit.specs.Fit.{fitted}
-use Rattle.interpolation.specs.declared.KrigingType.the-variants.{Ordinary}
-use Rattle.interpolation.specs.Call as interpolator
-use Rattle.interpolation.specs.Interpolation.{interpolated}
-use Rattle.bins.specs.Call as semivariogram
-use Rattle.bins.specs.Semivariogram.{calculated}
+use Rattle.kriging_theory.specs.Areas.{Areas}
+use Rattle.kriging_theory.specs.Fit.{fitted}
+use Rattle.interpolator_theory.specs.declared.KrigingType.the-variants.{Ordinary}
+use Rattle.interpolator_theory.specs.Call as interpolator
+use Rattle.interpolator_theory.specs.Interpolation.{interpolated}
+use Rattle.semivariogram_theory.specs.Call as semivariogram
+use Rattle.semivariogram_theory.specs.Semivariogram.{calculated}
 
 -- ---- numbers by their bit patterns
 abbrev pub f : ℕ → Float

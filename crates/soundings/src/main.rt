@@ -1,8 +1,8 @@
 // The soundings that are marked for proof. specs/ has their numbers, and proofs/ the one lemma that holds them all by the definitions.
 // This program runs A to H through the functions: it writes each number that comes out, and beside it the one that the scope expects.
-use interpolation::KrigingType;
 use interpolator::Interpolation;
 use interpolator::KrigingInterpolator;
+use interpolator_theory::KrigingType;
 use kriging::Fit;
 use libc::STDOUT_FILENO;
 use semivariogram::Semivariogram;

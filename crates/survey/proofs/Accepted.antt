@@ -1,4 +1,4 @@
--- What a survey that no rule turns away has, as the calls that take it use it. Assumes nothing.
+-- What a survey that no rule turns away has, as the calls that take it use it.
 use Prim.Native.Nat.{_^_, _≤_, _<_}
 use native.Mathlib.Omega.{arith}
 use mathlib.Core.Path.{_≡_, refl}

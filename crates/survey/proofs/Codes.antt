@@ -1,4 +1,4 @@
--- Laws of the counts that basis codes give, as a pass over the codes uses them. Assumes nothing.
+-- Laws of the counts that basis codes give, as a pass over the codes uses them.
 use Prim.Native.Nat.{ℕ, _+_, _*_, _/_, _%_, _^_, _≤_, _<_}
 use native.Mathlib.Nat.{min-eq-left, min-eq-right, div-add-mod', mul-div-cancel, mul-mod-left}
 use native.Mathlib.Numerals.{add-one}

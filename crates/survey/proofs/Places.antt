@@ -1,4 +1,4 @@
--- Where each number of a survey stands, by a case written out from the paper: three wells and two nodes, two external columns, every number another one. Assumes nothing.
+-- Where each number of a survey stands, by a case written out from the paper: three wells and two nodes, two external columns, every number another one.
 use Prim.Native.Nat.{ℕ}
 use mathlib.Core.Path.{_≡_, refl}
 use mathlib.Core.Bool.{false}

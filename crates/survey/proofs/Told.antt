@@ -1,4 +1,4 @@
--- Each test of a survey tells its rule's condition. Assumes nothing.
+-- Each test of a survey tells its rule's condition.
 use Prim.Native.Nat.{ℕ, zero, suc, _*_, _%_, _<_}
 use native.Mathlib.Nat.{not-suc-le-zero, le-of-suc-le-suc}
 use native.Mathlib.Omega.{arith}

@@ -1,4 +1,4 @@
--- "9 n > 48, p > 12 or m > 100". Assumes nothing.
+-- "9 n > 48, p > 12 or m > 100".
 use Rattle.survey.specs.declared.Limits.{Limits}
 
 -- the limits of every call of the base

@@ -1,4 +1,4 @@
--- "Named default options: Constant, Spherical 0, 1, 1, r = 1e-10." Assumes nothing.
+-- "Named default options: Constant, Spherical 0, 1, 1, r = 1e-10."
 use Prim.Native.Nat.{ℕ}
 use mathlib.Core.List.{List, [], _∷_}
 use lib.Ieee.{binary64, ofBits}

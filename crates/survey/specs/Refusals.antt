@@ -1,4 +1,4 @@
--- What turns a survey away, as tests that compute: paper 01, "What turns a call away", 1 to 12, in the parts of `Rules`. Assumes nothing.
+-- What turns a survey away, as tests that compute: paper 01, "What turns a call away", 1 to 12, in the parts of `Rules`.
 use Prim.Native.Nat.{ℕ, _*_, _%_}
 use mathlib.Core.Bool.{Bool, not, _&&_, _||_}
 use mathlib.Core.List.{List, [], _∷_, _++_}

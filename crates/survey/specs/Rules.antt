@@ -1,5 +1,5 @@
 -- What turns a survey away, as the paper says it and not as tests: paper 01, "What turns a call away", 1 to 12, each from its own line.
--- The rules come in parts, which the calls join. How many nodes there are, m, and their externals, e, stand apart from the survey's own lists. Assumes nothing.
+-- The rules come in parts, which the calls join. How many nodes there are, m, and their externals, e, stand apart from the survey's own lists.
 use Prim.Native.Nat.{ℕ, _*_, _%_, _<_}
 use mathlib.Core.Path.{_≡_}
 use mathlib.Core.Logic.{_≢_, _⊎_}

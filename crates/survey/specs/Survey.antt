@@ -1,4 +1,4 @@
--- A survey: paper 01, "Lists". Every function here speaks of lists of any length. Assumes nothing.
+-- A survey: paper 01, "Lists". Every function here speaks of lists of any length.
 use Prim.Native.Nat.{ℕ, _+_, _*_, _/_, _^_, min}
 use mathlib.Core.Bool.{cond}
 use mathlib.Core.List.{List, [], _∷_}

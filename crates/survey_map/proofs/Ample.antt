@@ -1,4 +1,4 @@
--- No area of the program is too short, whatever it reads: 17 and 18 never show. Assumes nothing.
+-- No area of the program is too short, whatever it reads: 17 and 18 never show.
 use Prim.Native.Nat.{ℕ, zero, suc, _*_, _≤_, _<_}
 use native.Mathlib.Nat.{mul-le-mul}
 use native.Mathlib.Omega.{arith}
@@ -11,15 +11,15 @@ use Rattle.error.specs.Rules.{Lowest}
 use Rattle.error.proofs.Rules.{ruled-exactly}
 use Rattle.survey.specs.Limits.{base}
 use Rattle.survey.specs.Survey.{Survey, wells, nodeCount, columns, size}
-use Rattle.fit.specs.Areas.{Areas}
-use Rattle.fit.specs.Rules.{ShortAnswer, rules}
-use Rattle.fit.specs.Refusals.{refusal}
-use Rattle.fit.specs.Fit.{fitted}
-use Rattle.fit.proofs.Endings.{told, fit-ends, lowest-in-a-fit}
-use Rattle.survey_file.specs.File.{baseVersion}
-use Rattle.survey_file.specs.Refusals.{malformed}
-use Rattle.survey_file.specs.Reader.{surveyIn}
-use Rattle.survey_file.proofs.Reader.{eighteen-exactly}
+use Rattle.kriging_theory.specs.Areas.{Areas}
+use Rattle.kriging_theory.specs.Rules.{ShortAnswer, rules}
+use Rattle.kriging_theory.specs.Refusals.{refusal}
+use Rattle.kriging_theory.specs.Fit.{fitted}
+use Rattle.kriging_theory.proofs.Endings.{told, fit-ends, lowest-in-a-fit}
+use Rattle.survey_file_theory.specs.File.{baseVersion}
+use Rattle.survey_file_theory.specs.Refusals.{malformed}
+use Rattle.survey_file_theory.specs.Reader.{surveyIn}
+use Rattle.survey_file_theory.proofs.Reader.{eighteen-exactly}
 use Rattle.report.specs.Listing.{refusedText}
 use Rattle.report.proofs.Apart.{refusals-apart, listing-apart}
 use Rattle.survey_map.specs.Areas.{ownLists, ownAreas}

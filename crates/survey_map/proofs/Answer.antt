@@ -1,4 +1,4 @@
--- What an accepted fit leaves in the program's own areas: they are as long as they were, and as long as its listing needs. Assumes nothing.
+-- What an accepted fit leaves in the program's own areas: they are as long as they were, and as long as its listing needs.
 use Prim.Native.Nat.{_≤_}
 use native.Mathlib.Omega.{arith}
 use mathlib.Core.Path.{_≡_, ap, sym, subst}
@@ -6,10 +6,10 @@ use lib.ListN.{length}
 use Rattle.error.specs.Outcome.{Outcome, outcome}
 use Rattle.survey.specs.Limits.{base}
 use Rattle.survey.specs.Survey.{Survey, nodeCount, columns}
-use Rattle.fit.specs.Areas.{Areas}
-use Rattle.fit.specs.Fit.{fitted}
-use Rattle.fit.specs.Untouched.{Untouched}
-use Rattle.fit.proofs.Endings.{untouched, few-columns, predicted-long}
+use Rattle.kriging_theory.specs.Areas.{Areas}
+use Rattle.kriging_theory.specs.Fit.{fitted}
+use Rattle.kriging_theory.specs.Untouched.{Untouched}
+use Rattle.kriging_theory.proofs.Endings.{untouched, few-columns, predicted-long}
 use Rattle.survey_map.specs.Areas.{ownAreas}
 use Rattle.survey_map.proofs.Own.{own-predicted, own-variance, own-verdicts, own-multipliers, own-trend}
 

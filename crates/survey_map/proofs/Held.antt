@@ -1,4 +1,4 @@
--- The survey that the reader read lies in the first places of the areas that it filled. Assumes nothing.
+-- The survey that the reader read lies in the first places of the areas that it filled.
 use Prim.Native.Nat.{ℕ, _*_, _≤_}
 use native.Mathlib.Omega.{arith}
 use mathlib.Core.Path.{_≡_, refl, ap, sym, subst, _∙_}
@@ -6,13 +6,13 @@ use mathlib.Core.List.{List, _++_}
 use lib.ListN.{length, take, length-append}
 use lib.Seq.{take-at}
 use Rattle.survey.specs.Survey.{surveyOf, externalCount}
-use Rattle.survey_file.specs.declared.Header.{Header}
-use Rattle.survey_file.specs.declared.Read.{Read}
-use Rattle.survey_file.specs.File.{baseVersion}
-use Rattle.survey_file.specs.Areas.{Areas}
-use Rattle.survey_file.specs.Rules.{WellFormed}
-use Rattle.survey_file.specs.Trailer.{wellsIn, nodesIn, basesIn, externalsIn}
-use Rattle.survey_file.specs.Reader.{surveyIn, headerOf, outcomeOf, ListLengths, Filled, Ends}
+use Rattle.survey_file_theory.specs.declared.Header.{Header}
+use Rattle.survey_file_theory.specs.declared.Read.{Read}
+use Rattle.survey_file_theory.specs.File.{baseVersion}
+use Rattle.survey_file_theory.specs.Areas.{Areas}
+use Rattle.survey_file_theory.specs.Rules.{WellFormed}
+use Rattle.survey_file_theory.specs.Trailer.{wellsIn, nodesIn, basesIn, externalsIn}
+use Rattle.survey_file_theory.specs.Reader.{surveyIn, headerOf, outcomeOf, ListLengths, Filled, Ends}
 use Rattle.survey_map.specs.Areas.{externalsHeld, Holding, surveyHeld}
 
 -- a list in the first places of an area

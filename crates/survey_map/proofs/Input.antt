@@ -1,4 +1,4 @@
--- What is printed of a file's first 65,537 bytes is what is printed of all of it. Assumes nothing.
+-- What is printed of a file's first 65,537 bytes is what is printed of all of it.
 use Prim.Native.Nat.{ℕ, _<_}
 use native.Mathlib.Decide.{decLt}
 use native.Mathlib.Omega.{arith}
@@ -7,7 +7,7 @@ use mathlib.Core.Logic.{inl, inr}
 use mathlib.Core.List.{List}
 use lib.ListN.{length, take}
 use lib.Seq.{length-take-le, take-all}
-use Rattle.survey_file.specs.File.{longestFile}
+use Rattle.survey_file_theory.specs.File.{longestFile}
 use Rattle.report.specs.Listing.{refusedText}
 use Rattle.survey_map.specs.Text.{fileText, bytesRead, FirstBytes}
 use Rattle.survey_map.proofs.Texts.{malformed-text}

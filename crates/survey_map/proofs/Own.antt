@@ -1,4 +1,4 @@
--- The program's own areas are as long as they can be needed: no file's list and no fit's answer is longer. Assumes nothing.
+-- The program's own areas are as long as they can be needed: no file's list and no fit's answer is longer.
 use Prim.Native.Nat.{ℕ, _+_, _*_, _≤_}
 use native.Mathlib.Decide.{decLt}
 use native.Mathlib.Omega.{arith}
@@ -6,9 +6,9 @@ use mathlib.Core.Path.{_≡_}
 use mathlib.Core.List.{List}
 use lib.ListN.{length, length-replicate}
 use Rattle.ieee.specs.Floats.{zeroFloat}
-use Rattle.survey_file.specs.File.{baseVersion}
-use Rattle.survey_file.specs.Trailer.{startIn, wellsIn, nodesIn, basesIn, externalsIn}
-use Rattle.survey_file.specs.Rules.{WellFormed, Room}
+use Rattle.survey_file_theory.specs.File.{baseVersion}
+use Rattle.survey_file_theory.specs.Trailer.{startIn, wellsIn, nodesIn, basesIn, externalsIn}
+use Rattle.survey_file_theory.specs.Rules.{WellFormed, Room}
 use Rattle.survey_map.specs.Areas.{mostNumbers, mostCodes, ownLists, mostNodes, mostColumns, mostWork, mostWeights, ownAreas}
 
 -- ---- the lists

@@ -1,4 +1,4 @@
--- The text of a fit by how it ended, and that of a file by how it was read. Assumes nothing.
+-- The text of a fit by how it ended, and that of a file by how it was read.
 use Prim.Native.Nat.{ℕ, zero, suc, _≤_}
 use mathlib.Core.Path.{_≡_, refl, ap, sym, subst, _∙_}
 use mathlib.Core.Logic.{_≢_, inl, inr}
@@ -14,13 +14,13 @@ use Rattle.error.proofs.First.{numbers}
 use Rattle.error.proofs.Tells.{affirm, refute}
 use Rattle.survey.specs.Limits.{base}
 use Rattle.survey.specs.Survey.{Survey}
-use Rattle.fit.specs.Areas.{Areas}
-use Rattle.fit.specs.Fit.{fitted}
-use Rattle.survey_file.specs.File.{baseVersion}
-use Rattle.survey_file.specs.Rules.{WellFormed, readerRules, Malformed}
-use Rattle.survey_file.specs.Reader.{surveyIn}
-use Rattle.survey_file.proofs.Told.{malformed-told}
-use Rattle.survey_file.proofs.WellFormed.{well-formed-exactly, room-exactly}
+use Rattle.kriging_theory.specs.Areas.{Areas}
+use Rattle.kriging_theory.specs.Fit.{fitted}
+use Rattle.survey_file_theory.specs.File.{baseVersion}
+use Rattle.survey_file_theory.specs.Rules.{WellFormed, readerRules, Malformed}
+use Rattle.survey_file_theory.specs.Reader.{surveyIn}
+use Rattle.survey_file_theory.proofs.Told.{malformed-told}
+use Rattle.survey_file_theory.proofs.WellFormed.{well-formed-exactly, room-exactly}
 use Rattle.report.specs.Listing.{listing, refusedText, longest}
 use Rattle.report.specs.Printed.{Outcome as Printing, printed, listed}
 use Rattle.report.proofs.Answers.{even-listed}

@@ -1,12 +1,12 @@
--- The areas that the program has of its own: for a file's lists, and for a fit. Assumes nothing.
+-- The areas that the program has of its own: for a file's lists, and for a fit.
 use Prim.Native.Nat.{ℕ, _*_, _≤_}
 use lib.ListN.{length, take, replicate}
 use Rattle.ieee.specs.Floats.{zeroFloat}
 use Rattle.survey.specs.Survey.{Survey, surveyOf, externalCount}
-use Rattle.fit.specs.Areas as fit
-use Rattle.survey_file.specs.Areas as file
-use Rattle.survey_file.specs.declared.Header.{Header}
-use Rattle.file_reader.specs.Counts as reader
+use Rattle.kriging_theory.specs.Areas as fit
+use Rattle.survey_file_theory.specs.Areas as file
+use Rattle.survey_file_theory.specs.declared.Header.{Header}
+use Rattle.survey_file_reader.specs.Counts as reader
 
 -- the most numbers of a file's list: 65,536 bytes have room for 8,190 before the trailer, five of them are in no list, and nodes are an even count
 abbrev pub mostNumbers : ℕ

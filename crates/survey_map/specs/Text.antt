@@ -1,4 +1,4 @@
--- What is printed for a survey file: paper 01, "Program `wellmap` reads one from standard input". Assumes nothing.
+-- What is printed for a survey file: paper 01, "Program `wellmap` reads one from standard input".
 use Prim.Native.Nat.{ℕ, zero, suc}
 use mathlib.Core.Path.{_≡_}
 use mathlib.Core.Logic.{_≢_}
@@ -7,11 +7,11 @@ use mathlib.Core.List.{List}
 use lib.ListN.{take}
 use Rattle.survey.specs.Limits.{base}
 use Rattle.survey.specs.Survey.{Survey, nodeCount, columns}
-use Rattle.fit.specs.Areas.{Areas}
-use Rattle.fit.specs.Fit.{fitted}
-use Rattle.survey_file.specs.File.{baseVersion}
-use Rattle.survey_file.specs.Refusals.{malformed}
-use Rattle.survey_file.specs.Reader.{surveyIn, reader}
+use Rattle.kriging_theory.specs.Areas.{Areas}
+use Rattle.kriging_theory.specs.Fit.{fitted}
+use Rattle.survey_file_theory.specs.File.{baseVersion}
+use Rattle.survey_file_theory.specs.Refusals.{malformed}
+use Rattle.survey_file_theory.specs.Reader.{surveyIn, reader}
 use Rattle.report.specs.Listing.{listing, refusedText}
 use Rattle.survey_map.specs.Areas.{ownLists, ownAreas}
 

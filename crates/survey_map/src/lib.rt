@@ -1,5 +1,4 @@
 // From the bytes of a survey file to the text that `wellmap` prints: the reader, the fit and the report, one after another.
-use file_reader::read_survey;
 use kriging::Fit;
 use kriging::universal_kriging_fit;
 use report::Printed;
@@ -8,13 +7,14 @@ use report::write_refusal;
 use survey::UniversalKrigingOptions;
 use survey_checks::counts::drift_columns;
 use survey_checks::counts::external_columns;
-use survey_file::Header;
-use survey_file::Read;
+use survey_file_reader::read_survey;
+use survey_file_theory::Header;
+use survey_file_theory::Read;
 ghost use mathlib.Core.Path.{_≡_};
 ghost use Prim.Native.Nat.{_≤_};
 ghost use lib.ListN.{length, take, replicate};
 ghost use Rattle.survey.specs.Survey.{surveyOf, columnSum};
-ghost use Rattle.file_reader.specs.Counts.{areasOf};
+ghost use Rattle.survey_file_reader.specs.Counts.{areasOf};
 ghost use Rattle.report.specs.Listing.{listing, longest};
 ghost use Rattle.report.specs.Printed.{outcomeOf, printed};
 ghost use Rattle.survey_map.specs.Areas.{Holding, surveyHeld};

@@ -1,4 +1,4 @@
--- The numbers by which `timed` tells an order to other languages. Assumes nothing.
+-- The numbers by which `timed` tells an order to other languages.
 use Prim.Native.Nat.{ℕ}
 use Rattle.words.specs.declared.Order.{Order}
 use Rattle.words.specs.declared.Order.the-variants.{Below, Same, Above}

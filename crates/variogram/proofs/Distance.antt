@@ -1,4 +1,4 @@
--- Laws of the distances: which dimensions are offered, a point past the end of its list, the distance back, and that the two distances agree. Assumes nothing.
+-- Laws of the distances: which dimensions are offered, a point past the end of its list, the distance back, and that the two distances agree.
 use Prim.Native.Nat.{ℕ, zero, suc, _+_, _*_, _≤_, _<_}
 use native.Mathlib.Nat.{mul-le-mul-left, mul-one}
 use native.Mathlib.Omega.{arith}

@@ -1,5 +1,4 @@
 -- The u of e^−u in a variogram: past 12 it is never below zero, so that what stands for e^−u there never shows in a call; and it is the source's −u, negated.
--- Assumes nothing.
 use Prim.Native.Nat.{ℕ, zero, suc, _+_, _*_, _^_}
 use native.Mathlib.Nat.{zero-mul}
 use native.Mathlib.Omega.{arith}

@@ -1,4 +1,4 @@
--- A point with finite coordinates is at distance +0 from itself, and so its variogram with itself is +0. Assumes nothing.
+-- A point with finite coordinates is at distance +0 from itself, and so its variogram with itself is +0.
 use Prim.Native.Nat.{ℕ, zero, suc, _*_, _<_}
 use native.Mathlib.Omega.{arith}
 use mathlib.Core.Path.{_≡_, refl, ap, _∙_}

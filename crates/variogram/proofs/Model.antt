@@ -1,4 +1,4 @@
--- Laws of the variogram: what it is below 2^-52, past it by its model, and sounding F. Assumes nothing.
+-- Laws of the variogram: what it is below 2^-52, past it by its model, and sounding F.
 use Prim.Native.Nat.{ℕ, zero, suc, _*_, _≤_, _<_}
 use native.Mathlib.Nat.{mul-pos, zero-lt-suc, zero-mul}
 use native.Mathlib.Omega.{arith}

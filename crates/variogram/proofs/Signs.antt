@@ -1,4 +1,4 @@
--- The distance of two points with finite coordinates is a number or infinity with a clear sign. Assumes nothing.
+-- The distance of two points with finite coordinates is a number or infinity with a clear sign.
 use Prim.Native.Nat.{ℕ, zero, suc, _*_, _<_}
 use native.Mathlib.Omega.{arith}
 use mathlib.Core.Path.{_≡_, sym, subst}

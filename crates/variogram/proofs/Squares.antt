@@ -1,4 +1,4 @@
--- The square of a difference is that of the opposite difference, bit for bit, and has a clear sign: what rounding does to a magnitude does not look at its sign. Assumes nothing.
+-- The square of a difference is that of the opposite difference, bit for bit, and has a clear sign: what rounding does to a magnitude does not look at its sign.
 use Prim.Native.Nat.{ℕ, zero, suc, _+_, _-_, _*_, _≤_, _<_}
 use native.Mathlib.Nat.{mul-comm, add-comm}
 use native.Mathlib.Omega.{arith}

@@ -1,4 +1,4 @@
--- Distances: paper 01, "Distance" (of the fit) and "Interpolator" (of the older calls). Assumes nothing.
+-- Distances: paper 01, "Distance" (of the fit) and "Interpolator" (of the older calls).
 use Prim.Native.Nat.{ℕ, _+_, _*_}
 use mathlib.Core.Bool.{Bool, cond, _&&_}
 use mathlib.Core.List.{List}

@@ -1,5 +1,5 @@
 -- The variogram at a distance: paper 01, "Variogram", and paper 02, "Exponential and Gaussian wells". Each operation is rounded once, in the order
--- in which it stands there. Assumes nothing.
+-- in which it stands there.
 use Prim.Native.Nat.{ℕ}
 use mathlib.Core.Path.{_≡_}
 use mathlib.Core.Bool.{Bool, true, false, not, cond}

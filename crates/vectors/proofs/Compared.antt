@@ -1,4 +1,4 @@
--- One turn of a loop that compares place after place. Assumes nothing.
+-- One turn of a loop that compares place after place.
 use Prim.Native.Nat.{ℕ, _+_}
 use native.Mathlib.Numerals.{add-one}
 use mathlib.Core.Path.{_≡_, _∙_}

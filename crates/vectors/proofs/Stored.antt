@@ -1,4 +1,4 @@
--- A store before the place that an area is kept from, and as much of a list as there is. Assumes nothing.
+-- A store before the place that an area is kept from, and as much of a list as there is.
 use Prim.Native.Nat.{ℕ, zero, suc, _<_, min}
 use native.Mathlib.Nat.{zero-min, min-zero, suc-min-suc}
 use mathlib.Core.Path.{_≡_, ap, _∙_}

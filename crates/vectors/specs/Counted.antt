@@ -1,5 +1,4 @@
 -- What a replay of whole calls counts: how they ended, and of each part of an answer how many places were compared and how many of them differ.
--- Assumes nothing.
 use Prim.Native.Nat.{ℕ}
 use mathlib.Core.Bool.{Bool, cond}
 use mathlib.Core.List.{List}

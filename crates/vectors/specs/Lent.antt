@@ -1,4 +1,4 @@
--- What the places of a lent area are held to: what is told of the call's answer, and past what is written a mark. Assumes nothing.
+-- What the places of a lent area are held to: what is told of the call's answer, and past what is written a mark.
 use Prim.Native.Nat.{ℕ, zero, suc, _+_, _-_, _%_, _^_}
 use mathlib.Core.Bool.{cond, _||_}
 use mathlib.Core.List.{List, []}

@@ -1,4 +1,4 @@
--- The tally of what was replayed. Assumes nothing.
+-- The tally of what was replayed.
 use Prim.Native.Nat.{ℕ, _+_, _%_, _^_}
 use mathlib.Core.Bool.{Bool, true, cond}
 use Rattle.vectors.specs.declared.Tally.{Tally}

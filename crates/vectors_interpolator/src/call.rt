@@ -1,8 +1,8 @@
 // The call of a record, and the number that it ends by.
 use crate::record::Head;
-use interpolation::KrigingType;
 use interpolator::Interpolation;
 use interpolator::KrigingInterpolator;
+use interpolator_theory::KrigingType;
 use vectors::areas::part;
 
 // The type of a number: 1 Ordinary, 2 Universal, and no record has another.

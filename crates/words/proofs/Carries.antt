@@ -1,4 +1,4 @@
--- Words added or taken away from a place on, with the carry or the borrow passed up: one step, and the end. One law for both, by the sign. Assumes nothing.
+-- Words added or taken away from a place on, with the carry or the borrow passed up: one step, and the end. One law for both, by the sign.
 use Prim.Native.Nat.{ℕ, _+_, _-_, _*_, _^_, _≤_}
 use native.Mathlib.Nat.{mul-assoc, zero-mul, add-zero}
 use native.Mathlib.Omega.{arith}

@@ -1,4 +1,4 @@
--- Two sums compared by their words: the highest that differ decide, and how many words a walk down to them looks at. Assumes nothing.
+-- Two sums compared by their words: the highest that differ decide, and how many words a walk down to them looks at.
 use Prim.Native.Nat.{ℕ, zero, suc, _+_, _-_, _%_, _^_, _≤_, _<_, suc-le-suc}
 use native.Mathlib.Nat.{not-suc-le-zero, le-of-suc-le-suc, le-of-lt, le-of-eq, le-refl, le-antisymm}
 use native.Mathlib.Omega.{arith}

@@ -1,4 +1,4 @@
--- What 67 words hold: `held` and `reading` undo each other, modulo 2^4288 always and entirely below 2^4287. Assumes nothing.
+-- What 67 words hold: `held` and `reading` undo each other, modulo 2^4288 always and entirely below 2^4287.
 use Rattle.words.proofs.Whole.{pos--ℤ-pos, subℕ-lt}
 use Prim.Native.Nat.{ℕ, suc, _-_, _*_, _^_, _≤_, _<_}
 use native.Mathlib.Nat.{mod-eq-of-lt, one-mul, zero-mul}

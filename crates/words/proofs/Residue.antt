@@ -1,4 +1,4 @@
--- Laws of what a whole number leaves modulo 2^4288: only its class counts. Assumes nothing.
+-- Laws of what a whole number leaves modulo 2^4288: only its class counts.
 use Prim.Native.Nat.{ℕ, zero, suc, _+_, _-_, _*_, _/_, _%_, _≤_, _<_}
 use native.Mathlib.Nat.{add-mod-right, mod-eq-of-lt, mod-eq-sub-mod, mod-lt, suc-mul, suc-sub-suc, div-add-mod', zero-mul}
 use native.Mathlib.Omega.{arith}

@@ -1,4 +1,4 @@
--- The sign of what 67 words hold, from their words. Assumes nothing.
+-- The sign of what 67 words hold, from their words.
 use Prim.Native.Nat.{ℕ, zero, suc, _+_, _-_, _*_, _^_, _≤_, _<_}
 use native.Mathlib.Nat.{not-suc-le-zero, le-of-suc-le-suc, mul-le-mul-right, le-trans, le-refl}
 use native.Mathlib.Omega.{arith}

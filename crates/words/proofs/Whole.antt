@@ -1,4 +1,4 @@
--- Laws of whole numbers that the kit lacks: sums and products, the order, the magnitude. Assumes nothing.
+-- Laws of whole numbers that the kit lacks: sums and products, the order, the magnitude.
 use Prim.Native.Nat.{ℕ, zero, suc, _+_, _-_, _*_, _≤_, _<_, suc-le-suc}
 use native.Mathlib.Nat.{le-of-lt, le-antisymm, not-suc-le-zero, le-of-suc-le-suc}
 use native.Mathlib.Omega.{arith}

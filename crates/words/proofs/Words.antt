@@ -1,4 +1,4 @@
--- Laws of words in base 2^64: a word stored at a place, the bound, and that words and number tell each other. Assumes nothing.
+-- Laws of words in base 2^64: a word stored at a place, the bound, and that words and number tell each other.
 use Prim.Native.Nat.{ℕ, zero, suc, _+_, _*_, _/_, _%_, _^_, _<_}
 use native.Mathlib.Nat.{mul-suc, mul-comm, add-comm, mod-one, not-suc-le-zero, le-of-suc-le-suc}
 use native.Mathlib.Omega.{arith}

@@ -1,4 +1,4 @@
--- Two exact sums compared: paper 02, "Audit comparison that stops early". Assumes nothing.
+-- Two exact sums compared: paper 02, "Audit comparison that stops early".
 use Prim.Native.Nat.{ℕ, suc, _-_, _^_, _<_}
 use mathlib.Core.Path.{_≡_}
 use mathlib.Core.Bool.{Bool, true, false, cond}

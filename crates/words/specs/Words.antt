@@ -1,4 +1,4 @@
--- Whole numbers in words of 64 bits, lowest first, and in two's complement in 67 of them. Assumes nothing.
+-- Whole numbers in words of 64 bits, lowest first, and in two's complement in 67 of them.
 use Prim.Native.Nat.{ℕ, zero, suc, _+_, _-_, _*_, _/_, _%_, _^_}
 use mathlib.Core.Bool.{cond}
 use mathlib.Core.List.{List, [], _∷_}

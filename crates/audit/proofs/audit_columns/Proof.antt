@@ -1,5 +1,5 @@
 -- `audit::audit_columns` meets its contract. The invariant: the verdict is that of the rows from row j + 1 on, since those before it are met.
--- The measure is what is left of f0. Assumes nothing.
+-- The measure is what is left of f0.
 use Prim.Native.Nat.{ℕ, _+_, _-_, _≤_}
 use native.Mathlib.Omega.{arith}
 use mathlib.Core.Path.{_≡_, refl, sym, ap, ap₂, _∙_}

@@ -1,4 +1,4 @@
--- `audit::audit_figure` meets its contract, by what each test that came before leaves of the verdict. Assumes nothing.
+-- `audit::audit_figure` meets its contract, by what each test that came before leaves of the verdict.
 use Prim.Native.Nat.{_+_}
 use mathlib.Core.Path.{_≡_, refl, sym, ap, ap₂, _∙_}
 use mathlib.Core.Bool.{Bool, true, false, cond}

@@ -1,4 +1,4 @@
--- `audit::clearly_met` meets its contract: test by test. Assumes nothing.
+-- `audit::clearly_met` meets its contract: test by test.
 use Prim.Native.Nat.{ℕ}
 use mathlib.Core.Path.{_≡_, refl, sym, ap, _∙_}
 use mathlib.Core.Bool.{Bool, true, false, _&&_}
@@ -45,15 +45,12 @@ finite-margin c = sym (c .before .is-finite .ensures) ∙ not-false (c .before .
 finite-size : (c : tie.Else3) → finite (at-first c .before .before .before .args .sums .size) ≡ true
 finite-size c = sym (c .before .is-finite2 .ensures) ∙ not-false (c .before .is-finite2 .result) (c .if3 .left)
 
--- src/lib.rt:89:40
 abs-requires : tie.Need-abs-requires
 abs-requires c κs = search needs
 
--- src/lib.rt:89:30
 max-requires : tie.Need-max-requires
 max-requires c κs = search needs
 
--- src/lib.rt:91:9
 returns : tie.Need-returns
 returns c =
     let m = c .before in
@@ -61,11 +58,9 @@ returns c =
     sym (by-tests (a .n) (a .sums .sum) (a .sums .size) (a .target) (a .tolerance) _ _ false _ _ _ _ _ (margin-is m) refl (lt-leb _ _
     (c .if1 .taken)) refl refl refl refl refl)
 
--- src/lib.rt:93:9
 is-finite-requires : tie.Need-is-finite-requires
 is-finite-requires c κs = search needs
 
--- src/lib.rt:94:9
 returns-2 : tie.Need-returns-2
 returns-2 c =
     let f = c .before in
@@ -74,11 +69,9 @@ returns-2 c =
     sym (by-tests (a .n) (a .sums .sum) (a .sums .size) (a .target) (a .tolerance) _ _ true false _ _ _ _ (margin-is m) refl (few (f .before))
     (sym (f .is-finite .ensures) ∙ not-true (f .is-finite .result) (c .if2 .taken)) refl refl refl refl)
 
--- src/lib.rt:96:9
 is-finite-requires-2 : tie.Need-is-finite-requires-2
 is-finite-requires-2 c κs = search needs
 
--- src/lib.rt:97:9
 returns-3 : tie.Need-returns-3
 returns-3 c =
     let f = c .before in
@@ -88,7 +81,6 @@ returns-3 c =
     sym (by-tests (a .n) (a .sums .sum) (a .sums .size) (a .target) (a .tolerance) _ _ true true false _ _ _ (margin-is m) refl (few (e .before .before))
     (finite-margin e) (sym (f .is-finite2 .ensures) ∙ not-true (f .is-finite2 .result) (c .if3 .taken)) refl refl refl)
 
--- src/lib.rt:100:9
 returns-4 : tie.Need-returns-4
 returns-4 c =
     let e = c .before in
@@ -97,11 +89,9 @@ returns-4 c =
     sym (by-tests (a .n) (a .sums .sum) (a .sums .size) (a .target) (a .tolerance) _ _ true true true false _ _ (margin-is m) refl (few (at-first e))
     (finite-margin (e .before .before)) (finite-size e) (not-true _ (c .if4 .taken)) refl refl)
 
--- src/lib.rt:102:17
 abs-requires-2 : tie.Need-abs-requires-2
 abs-requires-2 c κs = search needs
 
--- src/lib.rt:103:9
 returns-5 : tie.Need-returns-5
 returns-5 c =
     let d = c .before in
@@ -113,7 +103,6 @@ returns-5 c =
     (at-first e))
     (finite-margin (e .before .before)) (finite-size e) (not-false _ (l .if4 .left)) (not-true _ (c .if5 .taken)) refl)
 
--- src/lib.rt:86:1
 returns-6 : tie.Need-returns-6
 returns-6 c =
     let q = c .before in

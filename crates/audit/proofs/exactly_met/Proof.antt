@@ -1,4 +1,4 @@
--- `audit::exactly_met` meets its contract: a slice has too few numbers for its exact sum to wrap. Assumes nothing.
+-- `audit::exactly_met` meets its contract: a slice has too few numbers for its exact sum to wrap.
 use Prim.Native.Nat.{_*_, _^_, _<_}
 use native.Mathlib.Omega.{arith}
 use mathlib.Core.Path.{_∙_, sym, ap}

@@ -1,4 +1,4 @@
--- `audit::finite_at` meets its contract: past the list's end there is no number. Assumes nothing.
+-- `audit::finite_at` meets its contract: past the list's end there is no number.
 use mathlib.Core.Path.{sym, ap}
 use borrow.Author.Needs.{needs}
 use lib.Ieee.{nan}

@@ -1,4 +1,4 @@
--- `audit::rounded_sums` meets its contract: after i turns both sums have i terms. Assumes nothing.
+-- `audit::rounded_sums` meets its contract: after i turns both sums have i terms.
 use Prim.Native.Nat.{ℕ, _+_, _-_, _*_, _≤_, _<_}
 use native.Mathlib.Omega.{arith}
 use mathlib.Core.Path.{_≡_, refl, sym, ap, _∙_}
@@ -26,11 +26,9 @@ Inv-loop weights numbers column width sum₀ size₀ at₀ i₀ i-end sum size a
 abbrev μ-loop : tie.MeasureT-loop
 μ-loop weights numbers column width sum₀ size₀ at₀ i₀ i-end sum size at i = length weights - i
 
--- src/lib.rt:61:5
 loop-holds : tie.Need-loop-holds Inv-loop μ-loop
 loop-holds c = (omega arith, refl, omega arith, no-terms _, no-terms _)
 
--- src/lib.rt:63:13
 -- the numbers end: the term is none, and so are the sums
 ended : (weights numbers : List Float) (column width at i : ℕ) → at ≡ column + i * width → length numbers ≤ at → terms weights numbers column width i ≡ nan
 ended weights numbers column width at i e h =
@@ -45,39 +43,30 @@ returns c =
     let none = ended (a .weights .now) (a .numbers .now) (a .column) (a .width) (l .at) (l .i) (l .inv .2) (c .if1 .taken) in
     (sym (none-from _ (l .i) (length (a .weights .now)) none (omega arith)), sym (none-from _ (l .i) (length (a .weights .now)) (ap absOf none) (omega arith)))
 
--- src/lib.rt:68:20
 mul-term : tie.Need-mul-term Inv-loop μ-loop
 mul-term c = omega arith
 
--- src/lib.rt:68:20
 shared-slice-read-term : tie.Need-shared-slice-read-term Inv-loop μ-loop
 shared-slice-read-term c = omega arith
 
--- src/lib.rt:68:33
 mul-term-2 : tie.Need-mul-term-2 Inv-loop μ-loop
 mul-term-2 c = omega arith
 
--- src/lib.rt:68:33
 shared-slice-read-term-2 : tie.Need-shared-slice-read-term-2 Inv-loop μ-loop
 shared-slice-read-term-2 c = omega arith
 
--- src/lib.rt:70:17
 abs-requires : tie.Need-abs-requires Inv-loop μ-loop
 abs-requires c κs = search needs
 
--- src/lib.rt:71:9
 add-at : tie.Need-add-at Inv-loop μ-loop
 add-at c = omega arith
 
--- src/lib.rt:61:9
 add-i : tie.Need-add-i Inv-loop μ-loop
 add-i c = omega arith
 
--- src/lib.rt:61:5
 loop-less : tie.Need-loop-less Inv-loop μ-loop
 loop-less c = omega arith
 
--- src/lib.rt:61:5
 loop-again : tie.Need-loop-again Inv-loop μ-loop
 loop-again c =
     let g = c .before .before .before .before .before in
@@ -94,7 +83,6 @@ loop-again c =
       sum-turn (l .i) _ (l .size) _ (c .abs .ensures ∙ ap absOf is) (l .inv .4),
     )
 
--- src/lib.rt:51:1
 returns-2 : tie.Need-returns-2 Inv-loop μ-loop
 unfolding roundedSum roundedSize
 returns-2 c =

@@ -1,4 +1,4 @@
--- `audit::row_met` meets its contract: what sums with rounding show is so, and else the exact sums are asked. Assumes nothing.
+-- `audit::row_met` meets its contract: what sums with rounding show is so, and else the exact sums are asked.
 use mathlib.Core.Path.{_≡_, sym, ap₂, _∙_}
 use borrow.Author.Needs.{needs}
 use lib.ListN.{length}

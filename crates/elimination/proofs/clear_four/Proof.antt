@@ -1,4 +1,4 @@
--- `elimination::clear_four` meets its contract: all is read before it is written, so that each number stored is made of what was there. Assumes nothing.
+-- `elimination::clear_four` meets its contract: all is read before it is written, so that each number stored is made of what was there.
 use native.Mathlib.Nat.{add-zero}
 use native.Mathlib.Omega.{arith}
 use lib.ListN.{length-set}

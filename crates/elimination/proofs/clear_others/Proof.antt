@@ -1,4 +1,4 @@
--- `elimination::clear_others` meets its contract: after k turns the first k rows are cleared. Assumes nothing.
+-- `elimination::clear_others` meets its contract: after k turns the first k rows are cleared.
 use Prim.Native.Nat.{ℕ, _≤_, _<_, _*_, _+_, _-_}
 use mathlib.Core.Path.{_≡_, refl, ap, _∙_}
 use mathlib.Core.Logic.{_≢_, ⊎-elim, inl, inr}

@@ -1,4 +1,4 @@
--- `elimination::clear_row` meets its contract: after t turns 4 * t numbers of the row are cleared. Assumes nothing.
+-- `elimination::clear_row` meets its contract: after t turns 4 * t numbers of the row are cleared.
 use Prim.Native.Nat.{_≤_, _*_, _+_, _-_, _/_}
 use mathlib.Core.Path.{_≡_, refl, _∙_}
 use native.Mathlib.Omega.{arith}

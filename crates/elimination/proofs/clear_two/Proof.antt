@@ -1,4 +1,4 @@
--- `elimination::clear_two` meets its contract, as `clear_four` does. Assumes nothing.
+-- `elimination::clear_two` meets its contract, as `clear_four` does.
 use native.Mathlib.Nat.{add-zero}
 use native.Mathlib.Omega.{arith}
 use lib.ListN.{length-set}

@@ -1,5 +1,5 @@
 -- `elimination::eliminate` meets its contract. The invariant: the run from step i on makes of the area in hand what the whole elimination makes of the
--- area that came. The measure is the steps left. Assumes nothing.
+-- area that came. The measure is the steps left.
 use Prim.Native.Nat.{ℕ, _≤_, _<_, _*_, _+_, _-_}
 use mathlib.Core.Path.{_≡_, refl, ap, sym, _∙_}
 use mathlib.Core.Bool.{Bool, true, false}

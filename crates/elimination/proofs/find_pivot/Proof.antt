@@ -1,4 +1,4 @@
--- `elimination::find_pivot` meets its contract: the row in hand is the one held once the rows above row k are passed. Assumes nothing.
+-- `elimination::find_pivot` meets its contract: the row in hand is the one held once the rows above row k are passed.
 use Prim.Native.Nat.{ℕ, _≤_, _<_, _*_, _+_, _-_}
 use mathlib.Core.Path.{_≡_, refl, ap, sym, _∙_}
 use mathlib.Core.Logic.{⊎-elim}

@@ -1,4 +1,4 @@
--- `elimination::swap_rows` meets its contract: after j turns each row is what j stores write. Assumes nothing.
+-- `elimination::swap_rows` meets its contract: after j turns each row is what j stores write.
 use Prim.Native.Nat.{_≤_, _*_, _+_, _-_}
 use mathlib.Core.Path.{_≡_, refl}
 use native.Mathlib.Omega.{arith}

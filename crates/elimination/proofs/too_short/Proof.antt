@@ -1,4 +1,4 @@
--- `elimination::too_short` meets its contract: a quotient is below where the product is above. Assumes nothing.
+-- `elimination::too_short` meets its contract: a quotient is below where the product is above.
 use Prim.Native.Nat.{ℕ, _*_, _/_, _<_, _≤_}
 use native.Mathlib.Nat.{div-lt-iff-lt-mul, le-div-iff-mul-le}
 use native.Mathlib.Decide.{decLt}

@@ -1,4 +1,4 @@
--- `error::kind` meets its contract: each arm is given that the refusal is its case, at which `kindOf` computes. Assumes nothing.
+-- `error::kind` meets its contract: each arm is given that the refusal is its case, at which `kindOf` computes.
 use mathlib.Core.Path.{sym, ap}
 use borrow.Author.Needs.{needs}
 use Rattle.error.specs.Kinds.{kindOf}

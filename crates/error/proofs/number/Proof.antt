@@ -1,4 +1,4 @@
--- `error::number` meets its contract: each arm is given that the refusal is its case, at which `numberOf` computes. Assumes nothing.
+-- `error::number` meets its contract: each arm is given that the refusal is its case, at which `numberOf` computes.
 use mathlib.Core.Path.{sym, ap}
 use borrow.Author.Needs.{needs}
 use Rattle.error.specs.Numbers.{numberOf}

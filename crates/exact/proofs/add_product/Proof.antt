@@ -1,4 +1,4 @@
--- `exact::add_product` meets its contract: a sum of one product. Assumes nothing.
+-- `exact::add_product` meets its contract: a sum of one product.
 use mathlib.Core.Path.{ap, _∙_}
 use borrow.Author.Needs.{needs}
 use lib.IntN.{ℤ, _+ℤ_, _*ℤ_, +ℤ-idl}

@@ -1,5 +1,5 @@
 -- `exact::add_products` meets its contract. The invariant: the words hold the sum and the first i products, and at is the place in f of the next.
--- The measure is what is left of z. Assumes nothing.
+-- The measure is what is left of z.
 use Prim.Native.Nat.{ℕ, _+_, _-_, _*_, _≤_, _<_}
 use mathlib.Core.Path.{_≡_, sym, ap, _∙_, subst}
 use native.Mathlib.Omega.{arith}

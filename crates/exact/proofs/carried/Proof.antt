@@ -1,5 +1,5 @@
 -- `exact::carried` meets its contract. The invariant: the words so far, and at place i the carry that is left, make up the sum and what was passed up.
--- The measure is what is left of the 67 words. Assumes nothing.
+-- The measure is what is left of the 67 words.
 use Prim.Native.Nat.{ℕ, _+_, _-_, _*_, _^_, _≤_, _<_}
 use mathlib.Core.Path.{_≡_, sym, ap, _∙_, subst}
 use mathlib.Core.Logic.{inl, inr}

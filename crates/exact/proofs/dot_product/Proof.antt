@@ -1,4 +1,4 @@
--- `exact::dot_product` meets its contract: the products are added to 0. Assumes nothing.
+-- `exact::dot_product` meets its contract: the products are added to 0.
 use mathlib.Core.Path.{ap, _∙_}
 use mathlib.Core.List.{List}
 use Prim.Native.Nat.{ℕ}

@@ -1,4 +1,4 @@
--- `exact::multiply` meets its contract: the product by halves. What is carried fits, since the high halves are below 2^21. Assumes nothing.
+-- `exact::multiply` meets its contract: the product by halves. What is carried fits, since the high halves are below 2^21.
 use Prim.Native.Nat.{ℕ, _+_, _*_, _/_, _%_, _^_, _<_}
 use native.Mathlib.Nat.{div-add-mod'}
 use native.Mathlib.Omega.{arith}

@@ -1,4 +1,4 @@
--- `exact::parts_of` meets its contract: the bits' fields, as a significand and a shift. Assumes nothing.
+-- `exact::parts_of` meets its contract: the bits' fields, as a significand and a shift.
 use Prim.Native.Nat.{ℕ}
 use native.Mathlib.Omega.{arith}
 use mathlib.Core.Path.{_≡_, sym, ap, _∙_}

@@ -1,4 +1,4 @@
--- `exact::shifted` meets its contract: what leaves a word at the top goes to the next. Assumes nothing.
+-- `exact::shifted` meets its contract: what leaves a word at the top goes to the next.
 use Prim.Native.Nat.{ℕ, _+_, _*_, _^_}
 use native.Mathlib.Nat.{mul-one, add-zero}
 use native.Mathlib.Omega.{arith}

@@ -1,4 +1,4 @@
--- `exact::step_word` meets its contract: a word added or taken away, by the sign. Assumes nothing.
+-- `exact::step_word` meets its contract: a word added or taken away, by the sign.
 use Prim.Native.Nat.{_+_, _*_, _^_}
 use mathlib.Core.Path.{_≡_, sym, subst}
 use mathlib.Core.Bool.{Bool, true, false}

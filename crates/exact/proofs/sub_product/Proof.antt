@@ -1,4 +1,4 @@
--- `exact::sub_product` meets its contract: minus x times y is added. Assumes nothing.
+-- `exact::sub_product` meets its contract: minus x times y is added.
 use mathlib.Core.Path.{ap, _∙_}
 use borrow.Author.Needs.{needs}
 use lib.Ieee.{fits, binary64}

@@ -1,4 +1,4 @@
--- `exact::term_of` meets its contract: the product of the significands, at the place and with the shift that the sum of the two shifts gives. Assumes nothing.
+-- `exact::term_of` meets its contract: the product of the significands, at the place and with the shift that the sum of the two shifts gives.
 use Prim.Native.Nat.{ℕ, _+_, _*_, _^_}
 use mathlib.Core.Path.{sym, ap, ap₂, _∙_}
 use mathlib.Core.Bool.{Bool}

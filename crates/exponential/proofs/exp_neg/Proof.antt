@@ -1,4 +1,4 @@
--- `exponential::exp_neg` meets its contract: by the table itself, lent, e^−u comes out. Assumes nothing.
+-- `exponential::exp_neg` meets its contract: by the table itself, lent, e^−u comes out.
 use mathlib.Core.Path.{ap, _∙_}
 use mathlib.Core.List.{List}
 use Prim.Native.Nat.{ℕ}

@@ -1,4 +1,4 @@
--- `exponential::exp_neg_by` meets its contract: from 35 on, from 0 up to 35, and the rest. Assumes nothing.
+-- `exponential::exp_neg_by` meets its contract: from 35 on, from 0 up to 35, and the rest.
 use Prim.Native.Nat.{ℕ, _+_, _*_, _/_, _^_, _≤_, _<_}
 use native.Mathlib.Omega.{arith}
 use mathlib.Core.Path.{ap, sym, _∙_, subst}

@@ -1,4 +1,4 @@
--- `exponential::exp_neg_each` meets its contract: after i turns the area is what i stores write. Assumes nothing.
+-- `exponential::exp_neg_each` meets its contract: after i turns the area is what i stores write.
 use Prim.Native.Nat.{ℕ, _≤_, _-_, min}
 use mathlib.Core.Path.{_≡_, refl, ap, _∙_}
 use mathlib.Core.List.{List}

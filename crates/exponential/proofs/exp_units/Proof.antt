@@ -1,4 +1,4 @@
--- `exponential::exp_units` meets its contract: the three parts of e^−u are at most 1, so that their products may be asked for. Assumes nothing.
+-- `exponential::exp_units` meets its contract: the three parts of e^−u are at most 1, so that their products may be asked for.
 use Prim.Native.Nat.{ℕ, _^_, _≤_}
 use native.Mathlib.Omega.{arith}
 use mathlib.Core.Path.{sym, subst}

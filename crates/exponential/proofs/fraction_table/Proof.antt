@@ -1,4 +1,4 @@
--- `exponential::fraction_table` meets its contract: its 512 entries, one after another, are computed. Assumes nothing.
+-- `exponential::fraction_table` meets its contract: its 512 entries, one after another, are computed.
 use mathlib.Core.Path.{refl}
 use Rattle.exponential.specs.Exponential.{fraction, fractionTable}
 use Rattle.exponential.proofs.fraction_table.Statement.{statement}

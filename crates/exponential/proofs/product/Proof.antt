@@ -1,4 +1,4 @@
--- `exponential::product` meets its contract: no product of two halves passes a word, and of the two words the highest bits are left. Assumes nothing.
+-- `exponential::product` meets its contract: no product of two halves passes a word, and of the two words the highest bits are left.
 use Prim.Native.Nat.{ℕ, _+_, _*_, _/_, _%_, _^_, _≤_, _<_}
 use native.Mathlib.Omega.{arith}
 use borrow.Author.Needs.{needs}

@@ -1,4 +1,4 @@
--- `exponential::scaled` meets its contract, by the three ranges of the exponent field (proofs/Digits.antt). Assumes nothing.
+-- `exponential::scaled` meets its contract, by the three ranges of the exponent field (proofs/Digits.antt).
 use Prim.Native.Nat.{ℕ, _-_, _*_, _/_, _%_, _^_, _<_}
 use native.Mathlib.Omega.{arith}
 use mathlib.Core.Path.{_≡_, ap, sym, _∙_, subst}

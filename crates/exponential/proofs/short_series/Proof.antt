@@ -1,4 +1,4 @@
--- `exponential::short_series` meets its contract: the powers of f are small, so that nothing falls below zero. Assumes nothing.
+-- `exponential::short_series` meets its contract: the powers of f are small, so that nothing falls below zero.
 use Prim.Native.Nat.{_^_, _≤_}
 use native.Mathlib.Omega.{arith}
 use borrow.Author.Needs.{needs}

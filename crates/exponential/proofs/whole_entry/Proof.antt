@@ -1,4 +1,4 @@
--- `exponential::whole_entry` meets its contract, by one computed test over the entries of each of its two tables. Assumes nothing.
+-- `exponential::whole_entry` meets its contract, by one computed test over the entries of each of its two tables.
 use Prim.Native.Nat.{ℕ, _+_, _-_}
 use native.Mathlib.Nat.{sub-add-cancel}
 use native.Mathlib.Omega.{arith}

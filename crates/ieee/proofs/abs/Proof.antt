@@ -1,4 +1,4 @@
--- `ieee::abs` meets its contract, by what a float below zero, at zero and elsewhere is. Assumes nothing.
+-- `ieee::abs` meets its contract, by what a float below zero, at zero and elsewhere is.
 use mathlib.Core.Path.{sym, _∙_}
 use lib.Ieee.{lt, eq, ofBits, binary64, fits}
 use Rattle.ieee.proofs.Zero.{holds, fails, zero-is, eq-zero, negative, not-below-zero}

@@ -1,4 +1,4 @@
--- `ieee::all_finite` meets its contract. The invariant: the list is finite exactly when what is left of it from i on is. Assumes nothing.
+-- `ieee::all_finite` meets its contract. The invariant: the list is finite exactly when what is left of it from i on is.
 use Prim.Native.Nat.{ℕ, _+_, _-_, _≤_, _<_}
 use native.Mathlib.Numerals.{add-one}
 use native.Mathlib.Omega.{arith}

@@ -1,4 +1,4 @@
--- `ieee::floor` meets its contract, by the cases of its tests. Assumes nothing.
+-- `ieee::floor` meets its contract, by the cases of its tests.
 use mathlib.Core.Path.{sym, _∙_}
 use borrow.Author.Needs.{needs}
 use lib.Dec.{T}

@@ -1,4 +1,4 @@
--- `ieee::floor_negative` meets its contract: the number is its own whole part, or the answer is 1 below it. Assumes nothing.
+-- `ieee::floor_negative` meets its contract: the number is its own whole part, or the answer is 1 below it.
 use lib.Dec.{T}
 use lib.Ieee.{binary64, fits, eq, neg}
 use Rattle.ieee.proofs.Zero.{holds, fails}

@@ -1,4 +1,4 @@
--- `ieee::is_finite` meets its contract: a finite number less itself is +0, and an infinity less itself is a NaN. Assumes nothing.
+-- `ieee::is_finite` meets its contract: a finite number less itself is +0, and an infinity less itself is a NaN.
 use mathlib.Core.Path.{_≡_, refl}
 use mathlib.Core.Bool.{true, false}
 use lib.Ieee.{Float, nan, inf, fin, eq, sub, ofBits, binary64}

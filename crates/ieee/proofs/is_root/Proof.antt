@@ -1,4 +1,4 @@
--- `ieee::is_root` meets its contract: the square is compared first, and then the next one. Assumes nothing.
+-- `ieee::is_root` meets its contract: the square is compared first, and then the next one.
 use Prim.Native.Nat.{ℕ, _<_, _≤_}
 use mathlib.Core.Path.{ap, sym, _∙_, subst}
 use lib.Dec.{leb}

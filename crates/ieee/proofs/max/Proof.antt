@@ -1,4 +1,4 @@
--- `ieee::max` meets its contract: each arm returns what `cond` picks where the test is as the arm found it. Assumes nothing.
+-- `ieee::max` meets its contract: each arm returns what `cond` picks where the test is as the arm found it.
 use Rattle.ieee.proofs.max.Statement.{statement}
 use Rattle.ieee.proofs.max.Tie as tie
 

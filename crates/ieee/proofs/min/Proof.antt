@@ -1,4 +1,4 @@
--- `ieee::min` meets its contract: each arm returns what `cond` picks where the test is as the arm found it. Assumes nothing.
+-- `ieee::min` meets its contract: each arm returns what `cond` picks where the test is as the arm found it.
 use Rattle.ieee.proofs.min.Statement.{statement}
 use Rattle.ieee.proofs.min.Tie as tie
 

@@ -1,4 +1,4 @@
--- `ieee::nearest_root` meets its contract: the fields of the pattern, the digits of the root, and the pattern put together. Assumes nothing.
+-- `ieee::nearest_root` meets its contract: the fields of the pattern, the digits of the root, and the pattern put together.
 use Prim.Native.Nat.{ℕ, _<_, _≤_, _+_, _-_, _*_, _/_, _%_, _^_}
 use mathlib.Core.Path.{ap, sym, _∙_, subst}
 use native.Mathlib.Omega.{arith}

@@ -1,4 +1,4 @@
--- `ieee::normalised` meets its contract: a subnormal significand by the place of its leading one, any other as it is. Assumes nothing.
+-- `ieee::normalised` meets its contract: a subnormal significand by the place of its leading one, any other as it is.
 use Prim.Native.Nat.{ℕ, zero, suc, _+_, _-_, _*_, _%_, _^_, _<_}
 use mathlib.Core.Path.{_≡_, refl, sym, subst}
 use native.Mathlib.Omega.{arith}

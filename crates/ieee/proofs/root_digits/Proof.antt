@@ -1,4 +1,4 @@
--- `ieee::root_digits` meets its contract. The invariant is `Digits`: after i digits the root is that of the operand's first 2i digits. Assumes nothing.
+-- `ieee::root_digits` meets its contract. The invariant is `Digits`: after i digits the root is that of the operand's first 2i digits.
 use Prim.Native.Nat.{ℕ, _-_, _^_, _<_}
 use mathlib.Core.Path.{_≡_, subst}
 use mathlib.Core.Logic.{⊎-elim}

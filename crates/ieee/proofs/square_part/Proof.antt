@@ -1,4 +1,4 @@
--- `ieee::square_part` meets its contract: no product of the halves passes a word. Assumes nothing.
+-- `ieee::square_part` meets its contract: no product of the halves passes a word.
 use Prim.Native.Nat.{_*_, _/_, _%_, _^_, _<_}
 use native.Mathlib.Omega.{arith}
 use lib.Pow.{pow-pos}

@@ -1,4 +1,4 @@
--- `ieee::whole_bits` meets its contract, by the three ranges of the exponent field. Assumes nothing.
+-- `ieee::whole_bits` meets its contract, by the three ranges of the exponent field.
 use Prim.Native.Nat.{ℕ, _-_, _*_, _/_, _%_, _^_}
 use native.Mathlib.Nat.{mod-le}
 use native.Mathlib.Omega.{arith}

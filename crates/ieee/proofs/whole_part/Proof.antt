@@ -1,4 +1,4 @@
--- `ieee::whole_part` meets its contract: the pattern that `whole_bits` gives is that of the whole part. Assumes nothing.
+-- `ieee::whole_part` meets its contract: the pattern that `whole_bits` gives is that of the whole part.
 use Prim.Native.Nat.{_*_, _^_, _<_}
 use native.Mathlib.Nat.{lt-of-le-of-lt}
 use lib.Dec.{T}

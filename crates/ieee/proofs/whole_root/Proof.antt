@@ -1,4 +1,4 @@
--- `ieee::whole_root` meets its contract: a number that passes the test is the root, whatever it was guessed from. Assumes nothing.
+-- `ieee::whole_root` meets its contract: a number that passes the test is the root, whatever it was guessed from.
 use Prim.Native.Nat.{_+_, _*_, _^_}
 use mathlib.Core.Path.{sym, _∙_}
 use borrow.Author.Needs.{needs}

@@ -1,4 +1,4 @@
--- `kriging::fit_taken` meets its contract: F and the matrix are the paper's, and the call ends as its elimination does. Assumes nothing.
+-- `kriging::fit_taken` meets its contract: F and the matrix are the paper's, and the call ends as its elimination does.
 use Prim.Native.Nat.{ℕ, _+_, _*_, _≤_, _<_}
 use mathlib.Core.Path.{_≡_, ap, sym, _∙_, subst}
 use mathlib.Core.Bool.{true}
@@ -18,11 +18,11 @@ use Rattle.elimination.specs.Call.{afterElimination}
 use Rattle.elimination.proofs.Laid.{kept-laid}
 use Rattle.elimination.proofs.Stops.{refused-exactly}
 use Rattle.survey.specs.Survey.{Survey, wells, columns, size}
-use Rattle.fit.specs.Drift.{DriftIn, drift}
-use Rattle.fit.specs.Assembly.{between, joined, entry, assembled}
-use Rattle.fit.specs.Areas.{withTrend}
-use Rattle.fit.specs.Node.{nodeOf}
-use Rattle.fit.specs.Fit.{nodesAnswered, answered}
+use Rattle.kriging_theory.specs.Drift.{DriftIn, drift}
+use Rattle.kriging_theory.specs.Assembly.{between, joined, entry, assembled}
+use Rattle.kriging_theory.specs.Areas.{withTrend}
+use Rattle.kriging_theory.specs.Node.{nodeOf}
+use Rattle.kriging_theory.specs.Fit.{nodesAnswered, answered}
 use Rattle.kriging.proofs.Taken.{few-wells, few-columns, columns-counted, coords-twice, externals-whole, node-externals}
 use Rattle.kriging.proofs.Taken.{work-long, predicted-long, variance-long, verdicts-long, weights-long, multipliers-long, trend-long}
 use Rattle.kriging.proofs.Fitting.{drift-laid, matrix-laid, trend-is, taken-there}

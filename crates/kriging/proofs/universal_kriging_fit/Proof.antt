@@ -1,12 +1,12 @@
--- `kriging::universal_kriging_fit` meets its contract: turned away by its rules, or fitted; all that it says follows from the equation. Assumes nothing.
+-- `kriging::universal_kriging_fit` meets its contract: turned away by its rules, or fitted; all that it says follows from the equation.
 use mathlib.Core.Path.{_≡_, ap, sym, _∙_}
 use borrow.Author.Needs.{needs}
 use Rattle.error.specs.Numbers.{judged}
 use Rattle.survey.specs.declared.Limits.{Limits}
 use Rattle.survey.specs.Limits.{base}
 use Rattle.survey.specs.Survey.{Survey, surveyOf}
-use Rattle.fit.specs.Areas.{Areas, areasOf}
-use Rattle.fit.specs.Refusals.{refusal}
+use Rattle.kriging_theory.specs.Areas.{Areas, areasOf}
+use Rattle.kriging_theory.specs.Refusals.{refusal}
 use Rattle.kriging.proofs.Fitting.{refused-there}
 use Rattle.kriging.proofs.Promised.{promised}
 use Rattle.kriging.proofs.universal_kriging_fit.Statement.{statement}

@@ -1,4 +1,4 @@
--- `patterns::byte` meets its contract: past the end the list's own default is 0. Assumes nothing.
+-- `patterns::byte` meets its contract: past the end the list's own default is 0.
 use Prim.Native.Nat.{_+_}
 use native.Mathlib.Omega.{arith}
 use borrow.Author.Needs.{needs}

@@ -1,4 +1,4 @@
--- `patterns::float` meets its contract: past the test no pattern is a NaN's, and what the test takes is. Assumes nothing.
+-- `patterns::float` meets its contract: past the test no pattern is a NaN's, and what the test takes is.
 use mathlib.Core.Path.{sym}
 use borrow.Author.Needs.{needs}
 use lib.Ieee.{ofBits, div}

@@ -1,4 +1,4 @@
--- `patterns::number` meets its contract: its two cases are those of the least of the width and 8. Assumes nothing.
+-- `patterns::number` meets its contract: its two cases are those of the least of the width and 8.
 use native.Mathlib.Nat.{min-eq-left, min-eq-right}
 use native.Mathlib.Omega.{arith}
 use borrow.Author.Needs.{needs}

@@ -1,4 +1,4 @@
--- `patterns::number_of` meets its contract. The loop's invariant: the number has the last k of the bytes, and is below 256^k. Assumes nothing.
+-- `patterns::number_of` meets its contract. The loop's invariant: the number has the last k of the bytes, and is below 256^k.
 use Prim.Native.Nat.{ℕ, suc, _+_, _-_, _*_, _^_, _≤_, _<_}
 use mathlib.Core.Path.{_≡_, refl, ap, sym, _∙_}
 use native.Mathlib.Omega.{arith}

@@ -1,4 +1,4 @@
--- `patterns::pattern` meets its contract: only the NaN differs from itself. Assumes nothing.
+-- `patterns::pattern` meets its contract: only the NaN differs from itself.
 use mathlib.Core.Path.{refl}
 use lib.Ieee.{toBits}
 use Rattle.patterns.proofs.Words.{differs, same}

@@ -1,4 +1,4 @@
--- `report::write_listing` meets its contract: even lists, then room, then four texts, each past the one before. Assumes nothing.
+-- `report::write_listing` meets its contract: even lists, then room, then four texts, each past the one before.
 use Prim.Native.Nat.{ℕ, _≤_}
 use native.Mathlib.Omega.{arith}
 use mathlib.Core.Path.{_≡_, refl, sym, _∙_}

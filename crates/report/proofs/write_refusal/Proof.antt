@@ -1,4 +1,4 @@
--- `report::write_refusal` meets its contract: the line is put only where it has room. Assumes nothing.
+-- `report::write_refusal` meets its contract: the line is put only where it has room.
 use Prim.Native.Nat.{ℕ, _≤_}
 use native.Mathlib.Omega.{arith}
 use mathlib.Core.Path.{_≡_, ap, subst}

@@ -1,13 +1,13 @@
--- `semivariogram::kept_bins` meets its contract: its parts are those of the definition, one after the other. Assumes nothing.
+-- `semivariogram::kept_bins` meets its contract: its parts are those of the definition, one after the other.
 use mathlib.Core.Path.{_≡_, refl, sym, subst}
 use mathlib.Core.Bool.{false}
 use native.Mathlib.Omega.{arith}
 use lib.Ieee.{binary64, div}
 use Rattle.ieee.specs.Values.{Signed}
 use Rattle.survey.specs.Limits.{base}
-use Rattle.bins.specs.Call.{Samples, Areas, samplesOf, areasOf}
-use Rattle.bins.specs.Bins.{width}
-use Rattle.bins.proofs.Accepted.{Accepted, accepted, few-samples}
+use Rattle.semivariogram_theory.specs.Call.{Samples, Areas, samplesOf, areasOf}
+use Rattle.semivariogram_theory.specs.Bins.{width}
+use Rattle.semivariogram_theory.proofs.Accepted.{Accepted, accepted, few-samples}
 use Rattle.semivariogram.specs.Parts.{Taken}
 use Rattle.semivariogram.proofs.Squares.{width-is, width-clear}
 use Rattle.semivariogram.proofs.Whole.{taken-is, none-added}

@@ -1,4 +1,4 @@
--- `solution::fill_last_rows` meets its contract: where z began as the first rows are written, it has i of them. Assumes nothing.
+-- `solution::fill_last_rows` meets its contract: where z began as the first rows are written, it has i of them.
 use Prim.Native.Nat.{ℕ, _*_, _-_, _≤_}
 use mathlib.Core.Path.{_≡_, refl, _∙_}
 use mathlib.Core.List.{List}
@@ -22,31 +22,24 @@ Inv-loop work size b from z₀ i₀ z i =
 abbrev μ-loop : tie.MeasureT-loop
 μ-loop work size b from z₀ i₀ z i = size - i
 
--- src/lib.rt:72:5
 loop-holds : tie.Need-loop-holds Inv-loop μ-loop
 loop-holds c = (omega arith, refl, λ xs h. h)
 
--- src/lib.rt:73:16
 one-row-requires : tie.Need-one-row-requires Inv-loop μ-loop
 one-row-requires c κs = let p = c .before .before .before .before .before .pre in (omega arith, omega arith, p .1, p .2)
 
--- src/lib.rt:73:9
 mul-z : tie.Need-mul-z Inv-loop μ-loop
 mul-z c = omega arith
 
--- src/lib.rt:73:9
 slice-write-z : tie.Need-slice-write-z Inv-loop μ-loop
 slice-write-z c = omega arith
 
--- src/lib.rt:72:9
 add-i : tie.Need-add-i Inv-loop μ-loop
 add-i c = omega arith
 
--- src/lib.rt:72:5
 loop-less : tie.Need-loop-less Inv-loop μ-loop
 loop-less c = omega arith
 
--- src/lib.rt:72:5
 loop-again : tie.Need-loop-again Inv-loop μ-loop
 unfolding timesInverse
 loop-again c =
@@ -56,11 +49,9 @@ loop-again c =
       λ xs h. next-start (l .i) _ _ (l .z) _ (c .one-row .ensures) (l .inv .2 xs h),
     )
 
--- src/lib.rt:67:1
 same-length : tie.Need-same-length Inv-loop μ-loop
 same-length c = search needs
 
--- src/lib.rt:67:1
 returns : tie.Need-returns Inv-loop μ-loop
 returns c =
     let l = c .before .loop in

@@ -1,4 +1,4 @@
--- `solution::fill_rows` meets its contract: after a turn z has four rows more. Assumes nothing.
+-- `solution::fill_rows` meets its contract: after a turn z has four rows more.
 use Prim.Native.Nat.{ℕ, _+_, _*_, _-_, _≤_}
 use mathlib.Core.Path.{_≡_, refl, _∙_}
 use native.Mathlib.Omega.{arith}
@@ -16,88 +16,68 @@ Inv-loop work size b z₀ i₀ z i = (i ≤ size) × (length z ≡ length z₀) 
 abbrev μ-loop : tie.MeasureT-loop
 μ-loop work size b z₀ i₀ z i = size - i
 
--- src/lib.rt:83:5
 loop-holds : tie.Need-loop-holds Inv-loop μ-loop
 loop-holds c = (omega arith, refl, refl)
 
--- src/lib.rt:83:11
 sub-loop : tie.Need-sub-loop Inv-loop μ-loop
 sub-loop c = omega arith
 
--- src/lib.rt:84:13
 four-rows-requires : tie.Need-four-rows-requires Inv-loop μ-loop
 four-rows-requires c κs = let p = c .before .before .before .before .before .pre in (omega arith, p .0, p .1)
 
--- src/lib.rt:85:9
 mul-z : tie.Need-mul-z Inv-loop μ-loop
 mul-z c = omega arith
 
--- src/lib.rt:85:9
 slice-write-z : tie.Need-slice-write-z Inv-loop μ-loop
 slice-write-z c = omega arith
 
--- src/lib.rt:86:11
 add-z : tie.Need-add-z Inv-loop μ-loop
 add-z c = omega arith
 
--- src/lib.rt:86:9
 mul-z-2 : tie.Need-mul-z-2 Inv-loop μ-loop
 mul-z-2 c = omega arith
 
--- src/lib.rt:86:9
 slice-write-z-2 : tie.Need-slice-write-z-2 Inv-loop μ-loop
 slice-write-z-2 c = simp length-set (omega arith)
 
--- src/lib.rt:87:11
 add-z-2 : tie.Need-add-z-2 Inv-loop μ-loop
 add-z-2 c = omega arith
 
--- src/lib.rt:87:9
 mul-z-3 : tie.Need-mul-z-3 Inv-loop μ-loop
 mul-z-3 c = omega arith
 
--- src/lib.rt:87:9
 slice-write-z-3 : tie.Need-slice-write-z-3 Inv-loop μ-loop
 slice-write-z-3 c = simp length-set (omega arith)
 
--- src/lib.rt:88:11
 add-z-3 : tie.Need-add-z-3 Inv-loop μ-loop
 add-z-3 c = omega arith
 
--- src/lib.rt:88:9
 mul-z-4 : tie.Need-mul-z-4 Inv-loop μ-loop
 mul-z-4 c = omega arith
 
--- src/lib.rt:88:9
 slice-write-z-4 : tie.Need-slice-write-z-4 Inv-loop μ-loop
 slice-write-z-4 c = simp length-set (omega arith)
 
--- src/lib.rt:89:9
 add-i : tie.Need-add-i Inv-loop μ-loop
 add-i c = omega arith
 
--- src/lib.rt:83:5
 loop-less : tie.Need-loop-less Inv-loop μ-loop
 loop-less c = omega arith
 
--- src/lib.rt:83:5
 loop-again : tie.Need-loop-again Inv-loop μ-loop
 loop-again c =
     let l = c .before .before .loop in
     let e = c .four-rows .ensures in
     (omega arith, simp length-set (l .inv .1), next-four (l .i) _ _ (l .z) _ _ _ _ (e .0) (e .1 .0) (e .1 .1 .0) (e .1 .1 .1) (l .inv .2))
 
--- src/lib.rt:91:5
 fill-last-rows-requires : tie.Need-fill-last-rows-requires Inv-loop μ-loop
 fill-last-rows-requires c κs =
     let p = c .before .before .before .before .before .before .pre in
     (c .before .before .loop .inv .0, p .0, p .1, omega arith)
 
--- src/lib.rt:78:1
 same-length : tie.Need-same-length Inv-loop μ-loop
 same-length c = search needs
 
--- src/lib.rt:78:1
 returns : tie.Need-returns Inv-loop μ-loop
 returns c =
     let t = c .before .before in

@@ -1,4 +1,4 @@
--- `solution::fill_trend` meets its contract: test by test, then row after row. Assumes nothing.
+-- `solution::fill_trend` meets its contract: test by test, then row after row.
 use Prim.Native.Nat.{ℕ, _+_, _-_, _*_, _≤_, _<_}
 use mathlib.Core.Path.{_≡_, refl, sym, _∙_}
 use mathlib.Core.Bool.{false}

@@ -1,4 +1,4 @@
--- `solution::fill_z` meets its contract: test by test, then every row. Assumes nothing.
+-- `solution::fill_z` meets its contract: test by test, then every row.
 use Prim.Native.Nat.{ℕ, _*_, _≤_}
 use mathlib.Core.Path.{_≡_, sym, _∙_}
 use mathlib.Core.Bool.{false}
@@ -11,11 +11,9 @@ use Rattle.solution.proofs.Room.{solved-is, short-work, short-right, sh
 use Rattle.solution.proofs.fill_z.Statement.{statement}
 use Rattle.solution.proofs.fill_z.Tie as tie
 
--- src/lib.rt:98:8
 too-short-requires : tie.Need-too-short-requires
 too-short-requires c κs = search needs
 
--- src/lib.rt:99:9
 returns : tie.Need-returns
 returns c =
     let a = c .before .before .before .before .before .args in
@@ -28,27 +26,22 @@ at-entry c = c .before .before .before .before .before
 long : (c : tie.Else1) → let a = at-entry c .args in ltb (length (a .work .now)) (2 * a .size * a .size) ≡ false
 long c = sym (c .before .too-short .ensures) ∙ c .if1 .left
 
--- src/lib.rt:102:9
 returns-2 : tie.Need-returns-2
 returns-2 c =
     let a = at-entry (c .before) .args in
     sym (short-right (a .size) (a .work .now) (a .b .now) (a .z .now) (long (c .before)) (c .if2 .taken))
 
--- src/lib.rt:105:9
 returns-3 : tie.Need-returns-3
 returns-3 c =
     let a = at-entry (c .before .before) .args in
     sym (short-z (a .size) (a .work .now) (a .b .now) (a .z .now) (long (c .before .before)) (omega arith) (c .if3 .taken))
 
--- src/lib.rt:107:5
 fill-rows-requires : tie.Need-fill-rows-requires
 fill-rows-requires c κs = (ltb-false _ _ (long (c .before .before .before)), omega arith, omega arith)
 
--- src/lib.rt:95:1
 same-length : tie.Need-same-length
 same-length c = search needs
 
--- src/lib.rt:95:1
 returns-4 : tie.Need-returns-4
 returns-4 c =
     let t = c .before .before in

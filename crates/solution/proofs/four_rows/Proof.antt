@@ -1,4 +1,4 @@
--- `solution::four_rows` meets its contract: after j turns each sum has the first j terms of its row. Assumes nothing.
+-- `solution::four_rows` meets its contract: after j turns each sum has the first j terms of its row.
 use Prim.Native.Nat.{ℕ, _+_, _*_, _-_, _≤_, _<_}
 use mathlib.Core.Path.{_≡_, refl}
 use native.Mathlib.Omega.{arith}
@@ -45,99 +45,75 @@ past-fourth c = past-third (c .before)
 inside : (c : State tie.Start) → let a = c .args in (a .i + 3) * (2 * a .size) + 2 * a .size ≤ length (a .work .now)
 inside c = let a = c .args in row-inside (a .size) (a .i + 3) (length (a .work .now)) (c .pre .0) (c .pre .1)
 
--- src/lib.rt:29:17
 mul-width : tie.Need-mul-width Inv-loop μ-loop
 mul-width c = omega (arith, inside c)
 
--- src/lib.rt:30:15
 mul-row : tie.Need-mul-row Inv-loop μ-loop
 mul-row c = omega (arith, inside c)
 
--- src/lib.rt:30:15
 add-row : tie.Need-add-row Inv-loop μ-loop
 add-row c = omega (arith, inside c)
 
--- src/lib.rt:31:22
 add-second-row : tie.Need-add-second-row Inv-loop μ-loop
 add-second-row c = omega (arith, inside c)
 
--- src/lib.rt:32:21
 add-third-row : tie.Need-add-third-row Inv-loop μ-loop
 add-third-row c = omega (arith, inside c)
 
--- src/lib.rt:33:22
 add-fourth-row : tie.Need-add-fourth-row Inv-loop μ-loop
 add-fourth-row c = omega (arith, inside c)
 
--- src/lib.rt:38:5
 loop-holds : tie.Need-loop-holds Inv-loop μ-loop
 loop-holds c = (omega arith, no-terms _, no-terms _, no-terms _, no-terms _)
 
--- src/lib.rt:39:17
 mul-x : tie.Need-mul-x Inv-loop μ-loop
 mul-x c = omega arith
 
--- src/lib.rt:39:17
 shared-slice-read-x : tie.Need-shared-slice-read-x Inv-loop μ-loop
 shared-slice-read-x c = omega arith
 
--- src/lib.rt:40:23
 add-first : tie.Need-add-first Inv-loop μ-loop
 add-first c = omega (arith, inside (at-entry c))
 
--- src/lib.rt:40:18
 mul-first : tie.Need-mul-first Inv-loop μ-loop
 mul-first c = omega (arith, inside (at-entry c))
 
--- src/lib.rt:40:18
 shared-slice-read-first : tie.Need-shared-slice-read-first Inv-loop μ-loop
 shared-slice-read-first c = omega (arith, inside (at-entry (past-first c)))
 
--- src/lib.rt:41:24
 add-second : tie.Need-add-second Inv-loop μ-loop
 add-second c = omega (arith, inside (at-entry (past-first c)))
 
--- src/lib.rt:41:19
 mul-second : tie.Need-mul-second Inv-loop μ-loop
 mul-second c = omega (arith, inside (at-entry (past-first c)))
 
--- src/lib.rt:41:19
 shared-slice-read-second : tie.Need-shared-slice-read-second Inv-loop μ-loop
 shared-slice-read-second c = omega (arith, inside (at-entry (past-second c)))
 
--- src/lib.rt:42:23
 add-third : tie.Need-add-third Inv-loop μ-loop
 add-third c = omega (arith, inside (at-entry (past-second c)))
 
--- src/lib.rt:42:18
 mul-third : tie.Need-mul-third Inv-loop μ-loop
 mul-third c = omega (arith, inside (at-entry (past-second c)))
 
--- src/lib.rt:42:18
 shared-slice-read-third : tie.Need-shared-slice-read-third Inv-loop μ-loop
 shared-slice-read-third c = omega (arith, inside (at-entry (past-third c)))
 
--- src/lib.rt:43:24
 add-fourth : tie.Need-add-fourth Inv-loop μ-loop
 add-fourth c = omega (arith, inside (at-entry (past-third c)))
 
--- src/lib.rt:43:19
 mul-fourth : tie.Need-mul-fourth Inv-loop μ-loop
 mul-fourth c = omega (arith, inside (at-entry (past-third c)))
 
--- src/lib.rt:43:19
 shared-slice-read-fourth : tie.Need-shared-slice-read-fourth Inv-loop μ-loop
 shared-slice-read-fourth c = omega (arith, inside (at-entry (past-fourth c)))
 
--- src/lib.rt:38:9
 add-j : tie.Need-add-j Inv-loop μ-loop
 add-j c = omega arith
 
--- src/lib.rt:38:5
 loop-less : tie.Need-loop-less Inv-loop μ-loop
 loop-less c = omega arith
 
--- src/lib.rt:38:5
 loop-again : tie.Need-loop-again Inv-loop μ-loop
 loop-again c =
     let g = at-loop (past-fourth c) in
@@ -151,7 +127,6 @@ loop-again c =
       turn (a .i + 3) (l .j) (l .fourth) _ (omega arith) (l .inv .4),
     )
 
--- src/lib.rt:22:1
 returns : tie.Need-returns Inv-loop μ-loop
 returns c =
     let g = c .before in

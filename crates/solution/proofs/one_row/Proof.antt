@@ -1,4 +1,4 @@
--- `solution::one_row` meets its contract: after j turns acc is the sum of the first j products. Assumes nothing.
+-- `solution::one_row` meets its contract: after j turns acc is the sum of the first j products.
 use Prim.Native.Nat.{ℕ, _≤_, _*_, _+_, _-_}
 use mathlib.Core.Path.{_≡_, refl, ap, sym, _∙_}
 use native.Mathlib.Omega.{arith}

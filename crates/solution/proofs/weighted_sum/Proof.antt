@@ -1,4 +1,4 @@
--- `solution::weighted_sum` meets its contract: after i turns acc is the sum of the first i products. Assumes nothing.
+-- `solution::weighted_sum` meets its contract: after i turns acc is the sum of the first i products.
 use Prim.Native.Nat.{ℕ, _≤_, _*_, _+_, _-_}
 use mathlib.Core.Path.{_≡_, refl, ap, sym, _∙_}
 use native.Mathlib.Omega.{arith}

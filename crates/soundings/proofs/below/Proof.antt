@@ -1,4 +1,4 @@
--- `soundings::below` halves as often as it is told, and then ends. Assumes nothing.
+-- `soundings::below` halves as often as it is told, and then ends.
 use Prim.Native.Nat.{_-_, _≤_}
 use native.Mathlib.Omega.{arith}
 use borrow.Author.Needs.{needs}

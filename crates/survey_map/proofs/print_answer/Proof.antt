@@ -1,4 +1,4 @@
--- `survey_map::print_answer` meets its contract: p is counted, and the lists that are listed are even. Assumes nothing.
+-- `survey_map::print_answer` meets its contract: p is counted, and the lists that are listed are even.
 use Prim.Native.Nat.{ℕ, _≤_}
 use native.Mathlib.Omega.{arith}
 use mathlib.Core.Path.{_≡_, ap, sym, _∙_}

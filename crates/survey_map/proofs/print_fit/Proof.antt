@@ -1,12 +1,12 @@
--- `survey_map::print_fit` meets its contract: the fit with the program's own areas ends as its definition does, and its text is that ending's. Assumes nothing.
+-- `survey_map::print_fit` meets its contract: the fit with the program's own areas ends as its definition does, and its text is that ending's.
 use mathlib.Core.Path.{_≡_, ap, sym, _∙_}
 use borrow.Author.Needs.{needs}
 use Rattle.error.specs.Numbers.{numberOf}
 use Rattle.error.specs.Outcome.{outcome}
 use Rattle.survey.specs.Limits.{base}
 use Rattle.survey.specs.Survey.{Survey, surveyOf}
-use Rattle.fit.specs.Areas.{Areas, areasOf}
-use Rattle.fit.specs.Fit.{fitted}
+use Rattle.kriging_theory.specs.Areas.{Areas, areasOf}
+use Rattle.kriging_theory.specs.Fit.{fitted}
 use Rattle.kriging.specs.declared.Fit.{Fit}
 use Rattle.kriging.specs.Outcome.{outcomeOf}
 use Rattle.survey_map.specs.Areas.{ownAreas}

@@ -1,4 +1,4 @@
--- `survey_map::print_read` meets its contract: what it hands on are the lists that the header counts. Assumes nothing.
+-- `survey_map::print_read` meets its contract: what it hands on are the lists that the header counts.
 use Prim.Native.Nat.{ℕ, _*_, _≤_}
 use native.Mathlib.Omega.{arith}
 use mathlib.Core.Path.{_≡_, ap, sym, subst}
@@ -6,8 +6,8 @@ use borrow.Author.Needs.{needs}
 use lib.ListN.{length, take}
 use lib.Seq.{length-take-le}
 use Rattle.survey.specs.Survey.{Survey, surveyOf}
-use Rattle.survey_file.specs.Areas.{Areas}
-use Rattle.file_reader.specs.Counts.{areasOf}
+use Rattle.survey_file_theory.specs.Areas.{Areas}
+use Rattle.survey_file_reader.specs.Counts.{areasOf}
 use Rattle.survey_map.specs.Areas.{externalsHeld}
 use Rattle.survey_map.specs.Text.{surveyText}
 use Rattle.survey_map.proofs.Texts.{same-text}

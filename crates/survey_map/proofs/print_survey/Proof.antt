@@ -1,12 +1,11 @@
 -- `survey_map::print_survey` meets its contract: what the reader reads lies in the program's own areas, and what it turns away it turns away by 16.
--- Assumes nothing.
 use mathlib.Core.Path.{_≡_, refl, ap, subst, _∙_}
 use borrow.Author.Needs.{needs}
-use Rattle.survey_file.specs.declared.Read.{Read}
-use Rattle.survey_file.specs.File.{baseVersion}
-use Rattle.survey_file.specs.Areas.{Areas}
-use Rattle.survey_file.specs.Reader.{outcomeOf, Ends}
-use Rattle.file_reader.specs.Counts.{areasOf}
+use Rattle.survey_file_theory.specs.declared.Read.{Read}
+use Rattle.survey_file_theory.specs.File.{baseVersion}
+use Rattle.survey_file_theory.specs.Areas.{Areas}
+use Rattle.survey_file_theory.specs.Reader.{outcomeOf, Ends}
+use Rattle.survey_file_reader.specs.Counts.{areasOf}
 use Rattle.survey_map.specs.Areas.{ownLists}
 use Rattle.survey_map.specs.Text.{surveyText}
 use Rattle.survey_map.proofs.Held.{read-well-formed, read-holding, read-held}

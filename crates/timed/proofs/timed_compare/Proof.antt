@@ -1,4 +1,4 @@
--- `timed::timed_compare` meets its contract. Assumes nothing.
+-- `timed::timed_compare` meets its contract.
 use mathlib.Core.Path.{_∙_, sym, ap}
 use borrow.Author.Needs.{needs}
 use Rattle.timed.specs.Codes.{codeOf}

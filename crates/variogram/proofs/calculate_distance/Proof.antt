@@ -1,4 +1,4 @@
--- `variogram::calculate_distance` meets its contract: what `has_point` says of both points, and a NaN for the rest. Assumes nothing.
+-- `variogram::calculate_distance` meets its contract: what `has_point` says of both points, and a NaN for the rest.
 use Prim.Native.Nat.{_+_, _*_, _≤_}
 use mathlib.Core.Path.{_≡_, _∙_, ap, sym}
 use mathlib.Core.Bool.{true}

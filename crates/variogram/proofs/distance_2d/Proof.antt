@@ -1,4 +1,4 @@
--- `variogram::distance_2d` meets its contract: the root of what `squared_distance_2d` gives. Assumes nothing.
+-- `variogram::distance_2d` meets its contract: the root of what `squared_distance_2d` gives.
 use mathlib.Core.Path.{_∙_, ap}
 use borrow.Author.Needs.{needs}
 use Rattle.ieee.specs.Root.{sqrtOf}

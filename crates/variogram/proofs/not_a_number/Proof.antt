@@ -1,4 +1,4 @@
--- `variogram::not_a_number` meets its contract: zero over zero is the NaN, by computation. Assumes nothing.
+-- `variogram::not_a_number` meets its contract: zero over zero is the NaN, by computation.
 use mathlib.Core.Path.{refl}
 use lib.Ieee.{ofBits, div}
 use Rattle.variogram.proofs.not_a_number.Statement.{statement}

@@ -1,4 +1,4 @@
--- `variogram::past_end` meets its contract. Assumes nothing.
+-- `variogram::past_end` meets its contract.
 use Prim.Native.Nat.{_+_, _-_, _≤_, _<_}
 use native.Mathlib.Decide.{decLt}
 use native.Mathlib.Omega.{arith}

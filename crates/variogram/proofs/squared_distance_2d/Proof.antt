@@ -1,4 +1,4 @@
--- `variogram::squared_distance_2d` meets its contract: its operations are the definition's. Assumes nothing.
+-- `variogram::squared_distance_2d` meets its contract: its operations are the definition's.
 use mathlib.Core.Path.{refl}
 use Rattle.variogram.specs.Distance.{squaredDistance2d}
 use Rattle.variogram.proofs.squared_distance_2d.Statement.{statement}

@@ -1,4 +1,4 @@
--- `variogram::sum_axes` meets its contract. The loop's invariant: the sum is that over the axes passed. Assumes nothing.
+-- `variogram::sum_axes` meets its contract. The loop's invariant: the sum is that over the axes passed.
 use Prim.Native.Nat.{_-_, _≤_}
 use mathlib.Core.Path.{_≡_, refl, _∙_}
 use native.Mathlib.Omega.{arith}

@@ -1,4 +1,4 @@
--- `variogram::sum_of_squares` meets its contract: where a point ends past its list, its last axis is a NaN, and so is the sum. Assumes nothing.
+-- `variogram::sum_of_squares` meets its contract: where a point ends past its list, its last axis is a NaN, and so is the sum.
 use Prim.Native.Nat.{ℕ, _+_, _-_, _≤_, _<_}
 use native.Mathlib.Omega.{arith}
 use mathlib.Core.Path.{_≡_, refl, sym, ap, _∙_}

@@ -1,4 +1,4 @@
--- `vectors::counted` meets its contract. Assumes nothing.
+-- `vectors::counted` meets its contract.
 use mathlib.Core.Path.{refl}
 use borrow.Author.Needs.{needs}
 use Rattle.vectors.proofs.counted.Statement.{statement}

@@ -1,4 +1,4 @@
--- `vectors::next_word` meets its contract: it says that there is no more only where it gives 0. Assumes nothing.
+-- `vectors::next_word` meets its contract: it says that there is no more only where it gives 0.
 use borrow.Author.Needs.{needs}
 use Rattle.vectors.proofs.next_word.Statement.{statement}
 use Rattle.vectors.proofs.next_word.Tie as tie

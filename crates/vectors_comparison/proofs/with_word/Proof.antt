@@ -1,4 +1,4 @@
--- `vectors_comparison::with_word` meets its contract. Assumes nothing.
+-- `vectors_comparison::with_word` meets its contract.
 use Prim.Native.Nat.{ℕ, _≤_}
 use mathlib.Core.Path.{sym, subst}
 use borrow.Author.Needs.{needs}

@@ -1,4 +1,4 @@
--- `vectors_elimination::all_differences` is safe and ends: what is left of the area falls. Assumes nothing.
+-- `vectors_elimination::all_differences` is safe and ends: what is left of the area falls.
 use Prim.Native.Nat.{_-_, _≤_}
 use native.Mathlib.Omega.{arith}
 use borrow.Author.Needs.{needs}

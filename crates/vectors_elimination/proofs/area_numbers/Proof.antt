@@ -1,4 +1,4 @@
--- `vectors_elimination::area_numbers` meets its contract: twice 12 times 12, and 3 more, is 291. Assumes nothing.
+-- `vectors_elimination::area_numbers` meets its contract: twice 12 times 12, and 3 more, is 291.
 use native.Mathlib.Omega.{arith}
 use native.Mathlib.Nat.{mul-le-mul, mul-le-mul-left}
 use Prim.Native.Nat.{_*_, _≤_}

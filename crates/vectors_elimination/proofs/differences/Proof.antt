@@ -1,4 +1,4 @@
--- `vectors_elimination::differences` is safe and ends: what is left of the area falls. Assumes nothing.
+-- `vectors_elimination::differences` is safe and ends: what is left of the area falls.
 use Prim.Native.Nat.{_-_}
 use borrow.Author.Needs.{needs}
 use lib.ListN.{length}

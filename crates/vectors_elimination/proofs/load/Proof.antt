@@ -1,4 +1,4 @@
--- `vectors_elimination::load` is safe and ends: what is left of the area falls. Assumes nothing.
+-- `vectors_elimination::load` is safe and ends: what is left of the area falls.
 use Prim.Native.Nat.{_-_}
 use mathlib.Core.Path.{_≡_}
 use native.Mathlib.Omega.{arith}

@@ -1,4 +1,4 @@
--- `vectors_elimination::replay` is safe and ends: the turns that are left fall. Assumes nothing.
+-- `vectors_elimination::replay` is safe and ends: the turns that are left fall.
 use mathlib.Core.Path.{_≡_}
 use native.Mathlib.Omega.{arith}
 use borrow.Author.Needs.{needs}

@@ -1,4 +1,4 @@
--- `vectors_exact::column_sum` is safe: the lists are as long as their count. Assumes nothing.
+-- `vectors_exact::column_sum` is safe: the lists are as long as their count.
 use mathlib.Core.Path.{sym}
 use native.Mathlib.Omega.{arith}
 use borrow.Author.Needs.{needs}

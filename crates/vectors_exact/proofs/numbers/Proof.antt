@@ -1,4 +1,4 @@
--- `vectors_exact::numbers` is safe and ends. The measure is what is left of the list. Assumes nothing.
+-- `vectors_exact::numbers` is safe and ends. The measure is what is left of the list.
 use Prim.Native.Nat.{_-_}
 use mathlib.Core.Path.{_≡_, refl, _∙_}
 use native.Mathlib.Omega.{arith}

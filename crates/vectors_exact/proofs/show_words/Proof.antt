@@ -1,4 +1,4 @@
--- `vectors_exact::show_words` is safe and ends. Assumes nothing.
+-- `vectors_exact::show_words` is safe and ends.
 use Prim.Native.Nat.{_≤_}
 use native.Mathlib.Omega.{arith}
 use borrow.Author.Needs.{needs}

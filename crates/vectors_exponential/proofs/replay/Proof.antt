@@ -1,4 +1,4 @@
--- `vectors_exponential::replay` is safe and ends: the turns that are left fall. Assumes nothing.
+-- `vectors_exponential::replay` is safe and ends: the turns that are left fall.
 use native.Mathlib.Omega.{arith}
 use Rattle.vectors_exponential.proofs.replay.Statement.{statement}
 use Rattle.vectors_exponential.proofs.replay.Tie as tie

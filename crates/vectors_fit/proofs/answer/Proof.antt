@@ -1,4 +1,4 @@
--- `vectors_fit::answer` is safe and ends: no more codes are handed over than there are. Assumes nothing.
+-- `vectors_fit::answer` is safe and ends: no more codes are handed over than there are.
 use borrow.Author.Needs.{needs}
 use mathlib.Core.Path.{sym}
 use lib.Seq.{length-take-le}

@@ -1,4 +1,4 @@
--- `vectors_fit::replay_fit` is safe and ends: no more of an area is lent than it has. Assumes nothing.
+-- `vectors_fit::replay_fit` is safe and ends: no more of an area is lent than it has.
 use borrow.Author.Needs.{needs}
 use mathlib.Core.Path.{sym}
 use lib.Seq.{length-take-le}

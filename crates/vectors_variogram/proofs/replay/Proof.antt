@@ -1,4 +1,4 @@
--- `vectors_variogram::replay` is safe and ends: the turns that are left fall. Assumes nothing.
+-- `vectors_variogram::replay` is safe and ends: the turns that are left fall.
 use native.Mathlib.Omega.{arith}
 use Rattle.vectors_variogram.proofs.replay.Statement.{statement}
 use Rattle.vectors_variogram.proofs.replay.Tie as tie

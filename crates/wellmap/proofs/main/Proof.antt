@@ -1,4 +1,4 @@
--- `wellmap::main` is safe and ends: whatever was read, its text is no longer than the area for it, and all of it is written. Assumes nothing.
+-- `wellmap::main` is safe and ends: whatever was read, its text is no longer than the area for it, and all of it is written.
 use Prim.Native.Nat.{ℕ, _≤_}
 use native.Mathlib.Omega.{arith}
 use mathlib.Core.Path.{_≡_, ap, sym, _∙_}

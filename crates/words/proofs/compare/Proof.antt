@@ -1,5 +1,5 @@
 -- `words::compare` meets its contract. The invariant: the words from place `left` on are the same, and as many were looked at. The
--- measure is `left`. Assumes nothing.
+-- measure is `left`.
 use Prim.Native.Nat.{ℕ, _+_, _-_, _≤_, _<_, zero-le}
 use mathlib.Core.Path.{_≡_, refl, sym, ap, _∙_, subst}
 use mathlib.Core.Logic.{⊎-elim}

@@ -1,4 +1,4 @@
--- `words::is_negative` meets its contract: the highest bit is the sign. Assumes nothing.
+-- `words::is_negative` meets its contract: the highest bit is the sign.
 use borrow.Author.Needs.{needs}
 use Rattle.words.proofs.Words.{are-words, their-length}
 use Rattle.words.proofs.Sign.{sign-of-words}

@@ -1,4 +1,4 @@
--- `words::magnitude` meets its contract: minus a number below zero, and any other as it is. Assumes nothing.
+-- `words::magnitude` meets its contract: minus a number below zero, and any other as it is.
 use mathlib.Core.Path.{sym, ap, _∙_}
 use borrow.Author.Needs.{needs}
 use Rattle.words.specs.Words.{reading, held}

@@ -1,5 +1,5 @@
 -- `words::negated` meets its contract. The invariant: the first i words of the result and of the sum make up the borrow at place i.
--- The measure is what is left of the 67 words. Assumes nothing.
+-- The measure is what is left of the 67 words.
 use Prim.Native.Nat.{ℕ, suc, _+_, _-_, _*_, _^_, _≤_, _<_}
 use mathlib.Core.Path.{_≡_, refl, sym, ap, ap₂, _∙_, subst}
 use mathlib.Core.Bool.{true}

@@ -1,4 +1,4 @@
--- `words::order_at` meets its contract. Assumes nothing.
+-- `words::order_at` meets its contract.
 use Prim.Native.Nat.{ℕ}
 use mathlib.Core.Path.{_∙_, sym, ap₂}
 use lib.IntN.{pos}

@@ -1,4 +1,4 @@
--- `words::word_order` meets its contract. Assumes nothing.
+-- `words::word_order` meets its contract.
 use mathlib.Core.Path.{sym}
 use Rattle.words.proofs.Compared.{below, above, same}
 use Rattle.words.proofs.word_order.Statement.{statement}

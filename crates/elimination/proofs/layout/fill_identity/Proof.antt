@@ -1,4 +1,4 @@
--- `elimination::layout::fill_identity` meets its contract: after j turns there are j zeros, and the one comes last. Assumes nothing.
+-- `elimination::layout::fill_identity` meets its contract: after j turns there are j zeros, and the one comes last.
 use Prim.Native.Nat.{_≤_, _*_, _+_, _-_}
 use mathlib.Core.Path.{_≡_, refl}
 use native.Mathlib.Omega.{arith}

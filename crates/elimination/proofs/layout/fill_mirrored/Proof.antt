@@ -1,4 +1,4 @@
--- `elimination::layout::fill_mirrored` meets its contract: after j turns the area is what j stores write. Assumes nothing.
+-- `elimination::layout::fill_mirrored` meets its contract: after j turns the area is what j stores write.
 use Prim.Native.Nat.{_≤_, _*_, _+_, _-_}
 use mathlib.Core.Path.{_≡_, refl}
 use native.Mathlib.Omega.{arith}

@@ -1,4 +1,4 @@
--- `elimination::layout::mirror_row` meets its contract: where there is a row it is filled. Assumes nothing.
+-- `elimination::layout::mirror_row` meets its contract: where there is a row it is filled.
 use native.Mathlib.Omega.{arith}
 use mathlib.Core.Path.{_≡_, sym, _∙_}
 use borrow.Author.Needs.{needs}

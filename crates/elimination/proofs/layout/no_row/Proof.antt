@@ -1,4 +1,4 @@
--- `elimination::layout::no_row` meets its contract: a size whose square might not fit a word has no room. Assumes nothing.
+-- `elimination::layout::no_row` meets its contract: a size whose square might not fit a word has no room.
 use Prim.Native.Nat.{ℕ, _*_, _^_, _≤_, _<_}
 use native.Mathlib.Nat.{le-trans, mul-le-mul-left, mul-le-mul-right}
 use native.Mathlib.Omega.{arith}

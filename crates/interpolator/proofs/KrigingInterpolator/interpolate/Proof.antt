@@ -1,4 +1,4 @@
--- `interpolator::KrigingInterpolator::interpolate` meets its contract: what the calls behind it leave is what the paper's call leaves. Assumes nothing.
+-- `interpolator::KrigingInterpolator::interpolate` meets its contract: what the calls behind it leave is what the paper's call leaves.
 use Prim.Native.Nat.{ℕ, _+_, _*_, _≤_}
 use native.Mathlib.Omega.{arith}
 use mathlib.Core.Path.{_≡_, ap, sym, _∙_, subst}
@@ -15,18 +15,18 @@ use Rattle.elimination.specs.declared.Elimination.the-variants.{Done, TooShort}
 use Rattle.elimination.specs.Elimination.{eliminated, outcomeOf}
 use Rattle.survey.specs.declared.Limits.{Limits}
 use Rattle.survey.specs.Limits.{base}
-use Rattle.interpolation.specs.Call.{Query, Areas, areasOf, size}
+use Rattle.interpolator_theory.specs.Call.{Query, Areas, areasOf, size}
 use Rattle.interpolator.specs.Outcome.{queryOf, known}
-use Rattle.interpolation.specs.Rules.{rules}
-use Rattle.interpolation.specs.Refusals.{refusal}
-use Rattle.interpolation.specs.Assembly.{entry}
-use Rattle.interpolation.specs.Interpolation.{interpolated}
-use Rattle.interpolation.specs.Exit.{Promise}
-use Rattle.interpolation.proofs.Accepted.{Accepted, accepted, few-wells}
+use Rattle.interpolator_theory.specs.Rules.{rules}
+use Rattle.interpolator_theory.specs.Refusals.{refusal}
+use Rattle.interpolator_theory.specs.Assembly.{entry}
+use Rattle.interpolator_theory.specs.Interpolation.{interpolated}
+use Rattle.interpolator_theory.specs.Exit.{Promise}
+use Rattle.interpolator_theory.proofs.Accepted.{Accepted, accepted, few-wells}
 use Rattle.interpolator.proofs.Sizes.{added-few}
 use Rattle.interpolator.proofs.Entries.{entry-unread}
 use Rattle.interpolator.proofs.Called.{turned-away, not-turned-away, gone-through, stopped-at, never-short}
-use Rattle.interpolation.proofs.Promise.{promise}
+use Rattle.interpolator_theory.proofs.Promise.{promise}
 use Rattle.interpolator.proofs.KrigingInterpolator.interpolate.Statement.{statement}
 use Rattle.interpolator.proofs.KrigingInterpolator.interpolate.Tie as tie
 

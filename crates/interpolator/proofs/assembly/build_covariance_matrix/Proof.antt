@@ -1,4 +1,4 @@
--- `interpolator::assembly::build_covariance_matrix` meets its contract: after i turns the area holds the first i rows. Assumes nothing.
+-- `interpolator::assembly::build_covariance_matrix` meets its contract: after i turns the area holds the first i rows.
 use Prim.Native.Nat.{ℕ, _*_, _-_, _≤_}
 use native.Mathlib.Omega.{arith}
 use mathlib.Core.Path.{_≡_, refl, ap, _∙_}
@@ -10,7 +10,7 @@ use Rattle.elimination.specs.Inverse.{besideIdentity, laid}
 use Rattle.elimination.proofs.Rows.{width-inside}
 use Rattle.elimination.proofs.RowParts.{laid-above}
 use Rattle.interpolator.specs.Outcome.{known}
-use Rattle.interpolation.specs.Assembly.{entry}
+use Rattle.interpolator_theory.specs.Assembly.{entry}
 use Rattle.interpolator.proofs.assembly.build_covariance_matrix.Statement.{statement}
 use Rattle.interpolator.proofs.assembly.build_covariance_matrix.Tie as tie
 

@@ -1,9 +1,9 @@
--- `interpolator::assembly::column_entry` meets its contract: a known point's covariance, or a term of the trend. Assumes nothing.
+-- `interpolator::assembly::column_entry` meets its contract: a known point's covariance, or a term of the trend.
 use Prim.Native.Nat.{_-_, _<_}
 use native.Mathlib.Omega.{arith}
 use borrow.Author.Needs.{needs}
 use lib.ListN.{length}
-use Rattle.interpolation.specs.Call.{Query, added}
+use Rattle.interpolator_theory.specs.Call.{Query, added}
 use Rattle.interpolator.specs.Outcome.{known}
 use Rattle.interpolator.proofs.Entries.{past-one, of-points, of-trend}
 use Rattle.interpolator.proofs.assembly.column_entry.Statement.{statement}

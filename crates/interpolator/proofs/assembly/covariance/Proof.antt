@@ -1,4 +1,4 @@
--- `interpolator::assembly::covariance` meets its contract: the variogram at the distance, by the table itself, taken from the sill. Assumes nothing.
+-- `interpolator::assembly::covariance` meets its contract: the variogram at the distance, by the table itself, taken from the sill.
 use Prim.Native.Nat.{ℕ}
 use mathlib.Core.Path.{ap, _∙_}
 use mathlib.Core.List.{List}

@@ -1,4 +1,4 @@
--- `interpolator::assembly::fill_from_diagonal` meets its contract: at column j the area is what the stores from the diagonal on wrote. Assumes nothing.
+-- `interpolator::assembly::fill_from_diagonal` meets its contract: at column j the area is what the stores from the diagonal on wrote.
 use Prim.Native.Nat.{_+_, _*_, _-_, _≤_}
 use native.Mathlib.Omega.{arith}
 use mathlib.Core.Path.{_≡_, refl}
@@ -8,7 +8,7 @@ use Rattle.area.specs.Area.{written}
 use Rattle.area.proofs.Places.{all-turns}
 use Rattle.elimination.proofs.RowParts.{next-from}
 use Rattle.interpolator.specs.Outcome.{known}
-use Rattle.interpolation.specs.Assembly.{entry}
+use Rattle.interpolator_theory.specs.Assembly.{entry}
 use Rattle.interpolator.proofs.assembly.fill_from_diagonal.Statement.{statement}
 use Rattle.interpolator.proofs.assembly.fill_from_diagonal.Tie as tie
 

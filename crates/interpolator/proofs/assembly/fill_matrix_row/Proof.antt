@@ -1,4 +1,4 @@
--- `interpolator::assembly::fill_matrix_row` meets its contract: its three parts are the row, since the matrix is its own transpose. Assumes nothing.
+-- `interpolator::assembly::fill_matrix_row` meets its contract: its three parts are the row, since the matrix is its own transpose.
 use Prim.Native.Nat.{_*_, _≤_}
 use native.Mathlib.Omega.{arith}
 use mathlib.Core.Path.{_≡_, _∙_}
@@ -6,9 +6,9 @@ use lib.ListN.{length}
 use Rattle.elimination.proofs.Rows.{row-inside}
 use Rattle.elimination.proofs.NoRow.{has-row, mirrored-is, identified-is}
 use Rattle.elimination.proofs.RowParts.{row-parts}
-use Rattle.interpolation.specs.Assembly.{entry}
+use Rattle.interpolator_theory.specs.Assembly.{entry}
 use Rattle.interpolator.specs.Outcome.{known}
-use Rattle.interpolation.proofs.Matrix.{symmetric}
+use Rattle.interpolator_theory.proofs.Matrix.{symmetric}
 use borrow.Author.Needs.{needs}
 use Rattle.interpolator.proofs.assembly.fill_matrix_row.Statement.{statement}
 use Rattle.interpolator.proofs.assembly.fill_matrix_row.Tie as tie

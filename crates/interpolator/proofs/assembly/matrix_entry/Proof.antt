@@ -1,9 +1,9 @@
--- `interpolator::assembly::matrix_entry` meets its contract: by the part of the matrix that the entry stands in. Assumes nothing.
+-- `interpolator::assembly::matrix_entry` meets its contract: by the part of the matrix that the entry stands in.
 use Prim.Native.Nat.{_+_, _*_, _-_, _≤_, _<_}
 use native.Mathlib.Omega.{arith}
 use lib.ListN.{length}
 use Rattle.area.proofs.Rows.{row-end}
-use Rattle.interpolation.specs.Call.{Query, added}
+use Rattle.interpolator_theory.specs.Call.{Query, added}
 use Rattle.interpolator.specs.Outcome.{known}
 use Rattle.interpolator.proofs.Entries.{past-one, left, upper-right, lower-right}
 use Rattle.interpolator.proofs.assembly.matrix_entry.Statement.{statement}

@@ -1,4 +1,4 @@
--- `interpolator::point::fill_right_side` meets its contract: after i turns b is what i stores write. Assumes nothing.
+-- `interpolator::point::fill_right_side` meets its contract: after i turns b is what i stores write.
 use Prim.Native.Nat.{_≤_, _-_}
 use native.Mathlib.Omega.{arith}
 use mathlib.Core.Path.{_≡_, refl}
@@ -8,7 +8,7 @@ use Rattle.area.specs.Area.{written}
 use Rattle.area.proofs.Start.{next-start}
 use Rattle.area.proofs.Places.{all-turns}
 use Rattle.interpolator.specs.Outcome.{known}
-use Rattle.interpolation.specs.Assembly.{column}
+use Rattle.interpolator_theory.specs.Assembly.{column}
 use Rattle.interpolator.proofs.point.fill_right_side.Statement.{statement}
 use Rattle.interpolator.proofs.point.fill_right_side.Tie as tie
 

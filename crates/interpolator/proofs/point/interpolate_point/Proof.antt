@@ -1,10 +1,10 @@
--- `interpolator::point::interpolate_point` meets its contract: b and z stand in the first places of their arrays. Assumes nothing.
+-- `interpolator::point::interpolate_point` meets its contract: b and z stand in the first places of their arrays.
 use native.Mathlib.Omega.{arith}
 use mathlib.Core.Path.{ap, _∙_}
 use borrow.Author.Needs.{needs}
 use Rattle.ieee.specs.Floats.{notBelowZero}
 use Rattle.solution.proofs.Room.{solved-is}
-use Rattle.interpolation.specs.Call.{Query}
+use Rattle.interpolator_theory.specs.Call.{Query}
 use Rattle.interpolator.specs.Outcome.{queryOf}
 use Rattle.interpolator.proofs.Entries.{column-unread}
 use Rattle.interpolator.proofs.Estimates.{filled-solved, figure-is, variance-is}

@@ -1,4 +1,4 @@
--- `interpolator::point::interpolate_points` meets its contract: after t turns the answer areas hold the first t targets'. Assumes nothing.
+-- `interpolator::point::interpolate_points` meets its contract: after t turns the answer areas hold the first t targets'.
 use Prim.Native.Nat.{_/_, _-_, _≤_, _<_}
 use native.Mathlib.Nat.{div-add-mod'}
 use native.Mathlib.Omega.{arith}
@@ -8,9 +8,9 @@ use lib.ListN.{length, length-set}
 use Rattle.area.specs.Area.{written}
 use Rattle.area.proofs.Rows.{row-end}
 use Rattle.area.proofs.Start.{next-start}
-use Rattle.interpolation.specs.Call.{Query, areasOf}
+use Rattle.interpolator_theory.specs.Call.{Query, areasOf}
 use Rattle.interpolator.specs.Outcome.{queryOf}
-use Rattle.interpolation.specs.Interpolation.{figure, variance}
+use Rattle.interpolator_theory.specs.Interpolation.{figure, variance}
 use Rattle.interpolator.proofs.Estimates.{all-answered}
 use Rattle.interpolator.proofs.point.interpolate_points.Statement.{statement}
 use Rattle.interpolator.proofs.point.interpolate_points.Tie as tie

@@ -1,4 +1,4 @@
--- `interpolator::point::sill_less` meets its contract: after i turns acc is the sill less the first i products. Assumes nothing.
+-- `interpolator::point::sill_less` meets its contract: after i turns acc is the sill less the first i products.
 use Prim.Native.Nat.{_≤_, _-_}
 use native.Mathlib.Omega.{arith}
 use mathlib.Core.Path.{_≡_}

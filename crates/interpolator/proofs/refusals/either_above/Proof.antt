@@ -1,4 +1,4 @@
--- `interpolator::refusals::either_above` meets its contract. Assumes nothing.
+-- `interpolator::refusals::either_above` meets its contract.
 use mathlib.Core.Path.{sym}
 use borrow.Author.Tests.{lt-ltb, le-ltb}
 use Rattle.error.proofs.First.{one, other}

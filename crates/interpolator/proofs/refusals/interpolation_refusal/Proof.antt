@@ -1,4 +1,4 @@
--- `interpolator::refusals::interpolation_refusal` meets its contract: test after test, in the order of the rules. Assumes nothing.
+-- `interpolator::refusals::interpolation_refusal` meets its contract: test after test, in the order of the rules.
 use Prim.Native.Nat.{ℕ, _+_, _*_, _%_, _≤_}
 use native.Mathlib.Omega.{arith}
 use mathlib.Core.Path.{_≡_, refl, sym, ap, _∙_}
@@ -12,9 +12,9 @@ use Rattle.error.specs.Tests.{Test, test, firstOf}
 use Rattle.error.proofs.First.{here, past, none, refused, accepted}
 use Rattle.elimination.specs.Call.{workTests}
 use Rattle.survey.specs.Refusals.{modelTests}
-use Rattle.interpolation.specs.Call.{Query, Areas, areasOf, size}
+use Rattle.interpolator_theory.specs.Call.{Query, Areas, areasOf, size}
 use Rattle.interpolator.specs.Outcome.{queryOf}
-use Rattle.interpolation.specs.Refusals.{wrongPoints, wrongTargets, tooMany, numberNotFinite, shortAnswer, wrongDimension, refusal}
+use Rattle.interpolator_theory.specs.Refusals.{wrongPoints, wrongTargets, tooMany, numberNotFinite, shortAnswer, wrongDimension, refusal}
 use Rattle.interpolator.proofs.Sizes.{some-axis, added-few}
 use Rattle.interpolator.proofs.refusals.interpolation_refusal.Statement.{statement}
 use Rattle.interpolator.proofs.refusals.interpolation_refusal.Tie as tie

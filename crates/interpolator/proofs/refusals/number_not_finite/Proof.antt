@@ -1,4 +1,4 @@
--- `interpolator::refusals::number_not_finite` meets its contract: the variogram, then list after list. Assumes nothing.
+-- `interpolator::refusals::number_not_finite` meets its contract: the variogram, then list after list.
 use mathlib.Core.Path.{_≡_, sym, ap, _∙_}
 use mathlib.Core.Bool.{Bool, not, _||_}
 use borrow.Author.Needs.{needs}

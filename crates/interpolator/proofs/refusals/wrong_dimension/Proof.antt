@@ -1,4 +1,4 @@
--- `interpolator::refusals::wrong_dimension` meets its contract: by the dimension, and for a line by the type. Assumes nothing.
+-- `interpolator::refusals::wrong_dimension` meets its contract: by the dimension, and for a line by the type.
 use native.Mathlib.Omega.{arith}
 use mathlib.Core.Path.{_≡_, sym, ap, _∙_}
 use mathlib.Core.Bool.{Bool, not, _&&_, _||_}
@@ -8,7 +8,7 @@ use lib.Dec.{eqb}
 use Rattle.error.proofs.First.{one, other, also, not-even}
 use Rattle.variogram.specs.Distance.{offered}
 use Rattle.variogram.proofs.Distance.{none-offered, too-many-offered, is-offered}
-use Rattle.interpolation.specs.Refusals.{isUniversal}
+use Rattle.interpolator_theory.specs.Refusals.{isUniversal}
 use Rattle.interpolator.proofs.refusals.wrong_dimension.Statement.{statement}
 use Rattle.interpolator.proofs.refusals.wrong_dimension.Tie as tie
 

@@ -1,4 +1,4 @@
--- `interpolator::trend::trend_term` meets its contract: term by term. Assumes nothing.
+-- `interpolator::trend::trend_term` meets its contract: term by term.
 use Prim.Native.Nat.{_+_, _≤_}
 use native.Mathlib.Nat.{add-zero}
 use native.Mathlib.Omega.{arith}
@@ -6,7 +6,7 @@ use mathlib.Core.Path.{_≡_, sym, ap, _∙_}
 use lib.ListN.{length, getD}
 use lib.Ieee.{Float, nan, binary64, mul}
 use Rattle.variogram.specs.Distance.{axisFrom}
-use Rattle.interpolation.specs.declared.KrigingType.the-variants.{Universal}
+use Rattle.interpolator_theory.specs.declared.KrigingType.the-variants.{Universal}
 use Rattle.interpolator.proofs.Entries.{term-one, term-x, term-y, term-xy, past-one, last-term}
 use Rattle.interpolator.proofs.trend.trend_term.Statement.{statement}
 use Rattle.interpolator.proofs.trend.trend_term.Tie as tie

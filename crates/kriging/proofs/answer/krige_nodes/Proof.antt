@@ -1,11 +1,11 @@
--- `kriging::answer::krige_nodes` meets its contract: after q turns the areas are what q nodes leave. Assumes nothing.
+-- `kriging::answer::krige_nodes` meets its contract: after q turns the areas are what q nodes leave.
 use Prim.Native.Nat.{ℕ, _≤_, _<_, _*_, _/_, _+_, _-_}
 use mathlib.Core.Path.{_≡_, refl, sym, _∙_, subst}
 use native.Mathlib.Omega.{arith}
 use borrow.Author.Needs.{needs}
 use lib.ListN.{length, length-set, take, drop, length-drop}
 use lib.Seq.{length-take-le}
-use Rattle.fit.specs.Node.{nodeOf}
+use Rattle.kriging_theory.specs.Node.{nodeOf}
 use Rattle.kriging.proofs.Progress.{row-inside, none-yet, one-more, all-nodes}
 use Rattle.kriging.proofs.answer.krige_nodes.Proof.States.{Inv-loop, μ-loop, State, at-columns, at-zeros, at-entry, survey-of}
 use Rattle.kriging.proofs.answer.krige_nodes.Proof.States.{loop-of, at-storing, at-node, at-weights, at-first}

@@ -1,4 +1,4 @@
--- `kriging::answer::store` meets its contract: after j turns the area is what j stores write. Assumes nothing.
+-- `kriging::answer::store` meets its contract: after j turns the area is what j stores write.
 use Prim.Native.Nat.{ℕ, _≤_, _*_, _+_, _-_}
 use mathlib.Core.Path.{_≡_, refl, ap, sym, _∙_}
 use native.Mathlib.Omega.{arith}

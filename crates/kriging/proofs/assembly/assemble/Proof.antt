@@ -1,4 +1,4 @@
--- `kriging::assembly::assemble` meets its contract: after i turns the area holds the first i rows. Assumes nothing.
+-- `kriging::assembly::assemble` meets its contract: after i turns the area holds the first i rows.
 use Prim.Native.Nat.{ℕ, _+_, _*_, _-_, _≤_}
 use native.Mathlib.Omega.{arith}
 use mathlib.Core.Path.{_≡_, refl, ap, _∙_}

@@ -1,4 +1,4 @@
--- `kriging::assembly::fill_from_diagonal` meets its contract: at column j the area is what the stores from the diagonal on wrote. Assumes nothing.
+-- `kriging::assembly::fill_from_diagonal` meets its contract: at column j the area is what the stores from the diagonal on wrote.
 use Prim.Native.Nat.{_+_, _*_, _-_, _≤_}
 use native.Mathlib.Omega.{arith}
 use mathlib.Core.Path.{_≡_, refl}

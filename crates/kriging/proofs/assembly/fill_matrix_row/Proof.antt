@@ -1,4 +1,4 @@
--- `kriging::assembly::fill_matrix_row` meets its contract: its three parts are the row, since the matrix is its own transpose. Assumes nothing.
+-- `kriging::assembly::fill_matrix_row` meets its contract: its three parts are the row, since the matrix is its own transpose.
 use Prim.Native.Nat.{_+_, _*_, _≤_}
 use native.Mathlib.Omega.{arith}
 use mathlib.Core.Path.{_∙_}

@@ -1,4 +1,4 @@
--- `kriging::assembly::gamma` meets its contract: by the wells, the same or two. Assumes nothing.
+-- `kriging::assembly::gamma` meets its contract: by the wells, the same or two.
 use mathlib.Core.Path.{_∙_, ap}
 use borrow.Author.Needs.{needs}
 use Rattle.variogram.specs.Model.{semivariance}

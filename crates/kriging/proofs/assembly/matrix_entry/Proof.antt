@@ -1,11 +1,11 @@
--- `kriging::assembly::matrix_entry` meets its contract: by the part of the matrix that the entry stands in. Assumes nothing.
+-- `kriging::assembly::matrix_entry` meets its contract: by the part of the matrix that the entry stands in.
 use Prim.Native.Nat.{ℕ, _+_, _*_, _-_, _<_}
 use native.Mathlib.Omega.{arith}
 use mathlib.Core.Path.{_∙_}
 use lib.Ieee.{Float, nan}
 use lib.ListN.{length, getD}
 use Rattle.area.proofs.Rows.{row-end}
-use Rattle.fit.specs.Assembly.{between}
+use Rattle.kriging_theory.specs.Assembly.{between}
 use Rattle.kriging.proofs.MatrixEntries.{upper-left, upper-right, lower-right}
 use borrow.Author.Needs.{needs}
 use Rattle.kriging.proofs.assembly.matrix_entry.Statement.{statement}

@@ -1,4 +1,4 @@
--- `kriging::drift::fill_drift` meets its contract: after i turns the area holds the first i rows of F. Assumes nothing.
+-- `kriging::drift::fill_drift` meets its contract: after i turns the area holds the first i rows of F.
 use Prim.Native.Nat.{ℕ, _+_, _*_, _-_, _≤_}
 use native.Mathlib.Omega.{arith}
 use mathlib.Core.Path.{_≡_, refl, ap, _∙_}
@@ -10,7 +10,7 @@ use Rattle.area.specs.Area.{filled}
 use Rattle.area.proofs.Rows.{row-end}
 use Rattle.area.proofs.Filled.{next-row}
 use Rattle.survey.specs.Survey.{xOf, yOf}
-use Rattle.fit.specs.Drift.{driftRow}
+use Rattle.kriging_theory.specs.Drift.{driftRow}
 use Rattle.kriging.proofs.drift.fill_drift.Statement.{statement}
 use Rattle.kriging.proofs.drift.fill_drift.Tie as tie
 

@@ -1,4 +1,4 @@
--- `kriging::drift::fill_drift_row` meets its contract: the external columns of the wells lie n apart. Assumes nothing.
+-- `kriging::drift::fill_drift_row` meets its contract: the external columns of the wells lie n apart.
 use Prim.Native.Nat.{ℕ, _+_, _*_}
 use native.Mathlib.Nat.{add-comm}
 use native.Mathlib.Omega.{arith}

@@ -1,4 +1,4 @@
--- `kriging::drift::fill_linear` meets its contract: three stores are what `written` of three values is. Assumes nothing.
+-- `kriging::drift::fill_linear` meets its contract: three stores are what `written` of three values is.
 use native.Mathlib.Nat.{add-zero}
 use native.Mathlib.Omega.{arith}
 use lib.ListN.{length-set}

@@ -1,4 +1,4 @@
--- `kriging::drift::fill_powers` meets its contract: by the code. Assumes nothing.
+-- `kriging::drift::fill_powers` meets its contract: by the code.
 use Prim.Native.Nat.{ℕ, _+_, _≤_}
 use native.Mathlib.Omega.{arith}
 use mathlib.Core.Path.{_≡_, ap, sym, _∙_}

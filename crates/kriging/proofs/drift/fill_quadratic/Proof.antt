@@ -1,4 +1,4 @@
--- `kriging::drift::fill_quadratic` meets its contract: three stores after those of `fill_linear` are what `written` of six values is. Assumes nothing.
+-- `kriging::drift::fill_quadratic` meets its contract: three stores after those of `fill_linear` are what `written` of six values is.
 use native.Mathlib.Omega.{arith}
 use lib.ListN.{length-set}
 use borrow.Author.Needs.{needs}

@@ -1,4 +1,4 @@
--- `kriging::drift::fill_query_drift_row` meets its contract: the external values of a node lie side by side. Assumes nothing.
+-- `kriging::drift::fill_query_drift_row` meets its contract: the external values of a node lie side by side.
 use Prim.Native.Nat.{ℕ, _+_, _*_}
 use native.Mathlib.Nat.{mul-one}
 use mathlib.Core.Path.{ap}

@@ -1,5 +1,5 @@
 -- `kriging::drift::fill_row` meets its contract. The invariant: to store the columns of the codes from place i on, into the row in hand, makes what storing the
--- columns of all codes makes of the row that came. The measure is the codes left. Assumes nothing.
+-- columns of all codes makes of the row that came. The measure is the codes left.
 use Prim.Native.Nat.{ℕ, _+_, _*_, _-_, _≤_, _<_}
 use native.Mathlib.Nat.{zero-add, add-zero}
 use native.Mathlib.Omega.{arith}

@@ -1,6 +1,6 @@
--- The states of `kriging::fit_taken` that its needs look back to, in the order of the code: a name takes a later state back to its own. Assumes nothing.
+-- The states of `kriging::fit_taken` that its needs look back to, in the order of the code: a name takes a later state back to its own.
 use Rattle.survey.specs.Survey.{Survey, surveyOf}
-use Rattle.fit.specs.Areas.{Areas, areasOf}
+use Rattle.kriging_theory.specs.Areas.{Areas, areasOf}
 use Rattle.kriging.proofs.fit_taken.Tie as tie
 
 -- the lists and the areas, each known by its elements

@@ -1,4 +1,4 @@
--- `kriging::node::fill_gamma` meets its contract: after i turns b is what i stores write. Assumes nothing.
+-- `kriging::node::fill_gamma` meets its contract: after i turns b is what i stores write.
 use Prim.Native.Nat.{_≤_, _-_}
 use mathlib.Core.Path.{_≡_, refl, ap, _∙_}
 use native.Mathlib.Omega.{arith}
@@ -8,7 +8,7 @@ use Rattle.area.specs.Area.{written}
 use Rattle.area.proofs.Start.{next-start}
 use Rattle.area.proofs.Places.{all-turns}
 use Rattle.variogram.specs.Model.{semivariance}
-use Rattle.fit.specs.Node.{gammaTo}
+use Rattle.kriging_theory.specs.Node.{gammaTo}
 use Rattle.kriging.proofs.Lent.{by-lent}
 use Rattle.kriging.proofs.node.fill_gamma.Statement.{statement}
 use Rattle.kriging.proofs.node.fill_gamma.Tie as tie

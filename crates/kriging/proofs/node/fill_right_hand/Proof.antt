@@ -1,8 +1,8 @@
--- `kriging::node::fill_right_hand` meets its contract: what the two fills leave, one after the other, is the list of b. Assumes nothing.
+-- `kriging::node::fill_right_hand` meets its contract: what the two fills leave, one after the other, is the list of b.
 use native.Mathlib.Omega.{arith}
 use borrow.Author.Needs.{needs}
 use Rattle.survey.specs.Survey.{columnSum}
-use Rattle.fit.proofs.SystemDrift.{row-length}
+use Rattle.kriging_theory.proofs.SystemDrift.{row-length}
 use Rattle.kriging.proofs.RightHand.{filled-right}
 use Rattle.kriging.proofs.node.fill_right_hand.Statement.{statement}
 use Rattle.kriging.proofs.node.fill_right_hand.Tie as tie

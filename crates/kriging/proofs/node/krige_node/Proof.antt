@@ -1,4 +1,4 @@
--- `kriging::node::krige_node` meets its contract: what the calls leave are the parts of the paper's node. Assumes nothing.
+-- `kriging::node::krige_node` meets its contract: what the calls leave are the parts of the paper's node.
 use Prim.Native.Nat.{ℕ, _+_, _-_, _*_, _≤_}
 use mathlib.Core.Path.{_≡_, ap, sym, _∙_, subst}
 use mathlib.Core.List.{List, []}
@@ -11,8 +11,8 @@ use Rattle.audit.specs.Audit.{verdictWith}
 use Rattle.audit.specs.Lists.{weighedIn, auditedIn}
 use Rattle.audit.proofs.Bounds.{columns-bound, verdict-bound}
 use Rattle.survey.specs.Survey.{Survey, surveyOf, wells, nodeX, nodeY}
-use Rattle.fit.specs.Drift.{driftRow}
-use Rattle.fit.specs.Node.{gammaTo, rightHandOf, rightHand}
+use Rattle.kriging_theory.specs.Drift.{driftRow}
+use Rattle.kriging_theory.specs.Node.{gammaTo, rightHandOf, rightHand}
 use Rattle.kriging.proofs.NodeParts.{node-is}
 use Rattle.kriging.proofs.node.krige_node.Statement.{statement}
 use Rattle.kriging.proofs.node.krige_node.Tie as tie

@@ -1,4 +1,4 @@
--- `kriging::node::solve_node` meets its contract: each part is what the call behind it answers. Assumes nothing.
+-- `kriging::node::solve_node` meets its contract: each part is what the call behind it answers.
 use Prim.Native.Nat.{ℕ, _-_}
 use mathlib.Core.Path.{_≡_, ap, sym, _∙_}
 use native.Mathlib.Omega.{arith}
@@ -12,7 +12,7 @@ use Rattle.ieee.specs.Floats.{zeroFloat, maxOf}
 use Rattle.audit.specs.Audit.{columnVerdictGiven}
 use Rattle.audit.specs.Lists.{weighedIn}
 use Rattle.solution.proofs.Room.{solved-is}
-use Rattle.fit.specs.Node.{zOf, varianceOf}
+use Rattle.kriging_theory.specs.Node.{zOf, varianceOf}
 use Rattle.kriging.proofs.node.solve_node.Statement.{statement}
 use Rattle.kriging.proofs.node.solve_node.Tie as tie
 

@@ -1,4 +1,4 @@
--- `kriging::refusals::below_product` meets its contract: a quotient is below where the product is above. Assumes nothing.
+-- `kriging::refusals::below_product` meets its contract: a quotient is below where the product is above.
 use Prim.Native.Nat.{ℕ, _*_, _/_, _<_, _≤_}
 use native.Mathlib.Nat.{div-lt-iff-lt-mul, le-div-iff-mul-le, mul-comm, zero-mul}
 use native.Mathlib.Decide.{decLt}

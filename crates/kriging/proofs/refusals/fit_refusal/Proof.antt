@@ -1,5 +1,5 @@
 -- `kriging::refusals::fit_refusal` meets its contract.
--- Past the survey's refusals the columns counted are p itself, and the areas are held to it. Assumes nothing.
+-- Past the survey's refusals the columns counted are p itself, and the areas are held to it.
 use Prim.Native.Nat.{ℕ, _+_, _*_, _^_, _<_}
 use native.Mathlib.Omega.{arith}
 use mathlib.Core.Path.{_≡_, refl, sym, ap, _∙_}
@@ -15,8 +15,8 @@ use Rattle.elimination.specs.Call.{workTests}
 use Rattle.survey.specs.Survey.{Survey, surveyOf, wells, nodeCount, columns, size}
 use Rattle.survey.specs.Refusals.{surveyTests, surveyRefusal}
 use Rattle.survey.proofs.Accepted.{survey-first, counted-exactly}
-use Rattle.fit.specs.Areas.{Areas, areasOf}
-use Rattle.fit.specs.Refusals.{shortAnswer, answerTests, tests, refusal}
+use Rattle.kriging_theory.specs.Areas.{Areas, areasOf}
+use Rattle.kriging_theory.specs.Refusals.{shortAnswer, answerTests, tests, refusal}
 use Rattle.kriging.proofs.refusals.fit_refusal.Statement.{statement}
 use Rattle.kriging.proofs.refusals.fit_refusal.Tie as tie
 

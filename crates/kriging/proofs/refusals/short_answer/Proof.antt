@@ -1,4 +1,4 @@
--- `kriging::refusals::short_answer` meets its contract: area after area. Assumes nothing.
+-- `kriging::refusals::short_answer` meets its contract: area after area.
 use Prim.Native.Nat.{_*_}
 use mathlib.Core.Path.{_≡_, sym, _∙_}
 use mathlib.Core.Bool.{Bool, _||_}

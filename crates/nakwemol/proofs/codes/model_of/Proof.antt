@@ -1,4 +1,4 @@
--- `nakwemol::codes::model_of` meets its contract: past 1 to 4 every code is unknown. Assumes nothing.
+-- `nakwemol::codes::model_of` meets its contract: past 1 to 4 every code is unknown.
 use Prim.Native.Nat.{ℕ, zero, suc}
 use mathlib.Core.Path.{_≡_, refl, ap, sym}
 use Rattle.nakwemol.specs.declared.codes.CodedModel.{CodedModel}

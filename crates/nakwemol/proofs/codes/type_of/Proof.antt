@@ -1,4 +1,4 @@
--- `nakwemol::codes::type_of` meets its contract: past 1 and 2 every code is unknown. Assumes nothing.
+-- `nakwemol::codes::type_of` meets its contract: past 1 and 2 every code is unknown.
 use Prim.Native.Nat.{ℕ, zero, suc}
 use mathlib.Core.Path.{_≡_, refl, ap, sym}
 use Rattle.nakwemol.specs.declared.codes.CodedType.{CodedType}

@@ -1,12 +1,12 @@
--- `nakwemol::file_calls::nakwemol_read` meets its contract: the call behind it, and what it tells. Assumes nothing.
+-- `nakwemol::file_calls::nakwemol_read` meets its contract: the call behind it, and what it tells.
 use Prim.Native.Nat.{ℕ}
 use mathlib.Core.Path.{_≡_, ap, _∙_}
 use borrow.Author.Needs.{needs}
-use Rattle.survey_file.specs.declared.Read.{Read}
-use Rattle.survey_file.specs.Areas.{Areas}
-use Rattle.survey_file.specs.File.{baseVersion}
-use Rattle.survey_file.specs.Reader.{Outcome, outcomeOf, reader}
-use Rattle.file_reader.specs.Counts.{areasOf}
+use Rattle.survey_file_theory.specs.declared.Read.{Read}
+use Rattle.survey_file_theory.specs.Areas.{Areas}
+use Rattle.survey_file_theory.specs.File.{baseVersion}
+use Rattle.survey_file_theory.specs.Reader.{Outcome, outcomeOf, reader}
+use Rattle.survey_file_reader.specs.Counts.{areasOf}
 use Rattle.nakwemol.specs.Told.{Heading, ending, headingOf, headingTold}
 use Rattle.nakwemol.proofs.file_calls.nakwemol_read.Statement.{statement}
 use Rattle.nakwemol.proofs.file_calls.nakwemol_read.Tie as tie

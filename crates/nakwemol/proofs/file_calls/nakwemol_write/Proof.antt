@@ -1,4 +1,4 @@
--- `nakwemol::file_calls::nakwemol_write` meets its contract: the file of its parameters, or nothing where the model's code is none. Assumes nothing.
+-- `nakwemol::file_calls::nakwemol_write` meets its contract: the file of its parameters, or nothing where the model's code is none.
 use Prim.Native.Nat.{ℕ}
 use mathlib.Core.Path.{_≡_, ap, sym, _∙_}
 use mathlib.Core.List.{List}
@@ -8,9 +8,9 @@ use Rattle.variogram.specs.declared.VariogramModel.{VariogramModel}
 use Rattle.variogram.specs.Model.{variogram}
 use Rattle.survey.specs.declared.UniversalKrigingOptions.{UniversalKrigingOptions}
 use Rattle.survey.specs.Survey.{surveyOf}
-use Rattle.survey_file.specs.declared.Written.{Written}
-use Rattle.survey_file.specs.File.{baseVersion}
-use Rattle.survey_file.specs.Writer.{Outcome, outcomeOf, writer}
+use Rattle.survey_file_theory.specs.declared.Written.{Written}
+use Rattle.survey_file_theory.specs.File.{baseVersion}
+use Rattle.survey_file_theory.specs.Writer.{Outcome, outcomeOf, writer}
 use Rattle.nakwemol.specs.declared.codes.CodedModel.{CodedModel}
 use Rattle.nakwemol.specs.Codes.{modelOf, byModel, unknownCode}
 use Rattle.nakwemol.specs.Told.{Ending, ending, lengthTold}

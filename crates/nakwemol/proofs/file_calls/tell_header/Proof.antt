@@ -1,9 +1,9 @@
--- `nakwemol::file_calls::tell_header` meets its contract: the number of either answer, and the places written where a file is read. Assumes nothing.
+-- `nakwemol::file_calls::tell_header` meets its contract: the number of either answer, and the places written where a file is read.
 use Prim.Native.Nat.{ℕ}
 use mathlib.Core.Path.{_≡_, ap, sym, _∙_}
 use borrow.Author.Needs.{needs}
-use Rattle.survey_file.specs.declared.Read.{Read}
-use Rattle.survey_file.specs.Reader.{outcomeOf}
+use Rattle.survey_file_theory.specs.declared.Read.{Read}
+use Rattle.survey_file_theory.specs.Reader.{outcomeOf}
 use Rattle.nakwemol.specs.Told.{Heading, ending, headingOf, heading, headingTold}
 use Rattle.nakwemol.proofs.file_calls.tell_header.Statement.{statement}
 use Rattle.nakwemol.proofs.file_calls.tell_header.Tie as tie

@@ -1,9 +1,9 @@
--- `nakwemol::file_calls::tell_length` meets its contract: the number of either answer, and the place written where there is a file. Assumes nothing.
+-- `nakwemol::file_calls::tell_length` meets its contract: the number of either answer, and the place written where there is a file.
 use Prim.Native.Nat.{ℕ}
 use mathlib.Core.Path.{_≡_, ap, sym, _∙_}
 use borrow.Author.Needs.{needs}
-use Rattle.survey_file.specs.declared.Written.{Written}
-use Rattle.survey_file.specs.Writer.{outcomeOf}
+use Rattle.survey_file_theory.specs.declared.Written.{Written}
+use Rattle.survey_file_theory.specs.Writer.{outcomeOf}
 use Rattle.nakwemol.specs.Told.{ending, lengthTold}
 use Rattle.nakwemol.proofs.file_calls.tell_length.Statement.{statement}
 use Rattle.nakwemol.proofs.file_calls.tell_length.Tie as tie

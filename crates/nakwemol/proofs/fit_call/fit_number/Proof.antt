@@ -1,9 +1,9 @@
--- `nakwemol::fit_call::fit_number` meets its contract: the number of either answer. Assumes nothing.
+-- `nakwemol::fit_call::fit_number` meets its contract: the number of either answer.
 use Prim.Native.Nat.{ℕ}
 use mathlib.Core.Path.{_≡_, ap, sym, _∙_}
 use borrow.Author.Needs.{needs}
 use Rattle.error.specs.Outcome.{outcome}
-use Rattle.fit.specs.Areas.{Areas}
+use Rattle.kriging_theory.specs.Areas.{Areas}
 use Rattle.kriging.specs.declared.Fit.{Fit}
 use Rattle.kriging.specs.Outcome.{outcomeOf}
 use Rattle.nakwemol.proofs.fit_call.fit_number.Statement.{statement}

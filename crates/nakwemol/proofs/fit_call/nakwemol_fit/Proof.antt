@@ -1,4 +1,4 @@
--- `nakwemol::fit_call::nakwemol_fit` meets its contract: the fit of its parameters, or nothing where the model's code is none. Assumes nothing.
+-- `nakwemol::fit_call::nakwemol_fit` meets its contract: the fit of its parameters, or nothing where the model's code is none.
 use Prim.Native.Nat.{ℕ}
 use mathlib.Core.Path.{_≡_, ap, sym, _∙_}
 use borrow.Author.Needs.{needs}
@@ -9,8 +9,8 @@ use Rattle.variogram.specs.Model.{variogram}
 use Rattle.survey.specs.declared.UniversalKrigingOptions.{UniversalKrigingOptions}
 use Rattle.survey.specs.Limits.{base}
 use Rattle.survey.specs.Survey.{surveyOf}
-use Rattle.fit.specs.Areas.{Areas, areasOf}
-use Rattle.fit.specs.Fit.{fitted}
+use Rattle.kriging_theory.specs.Areas.{Areas, areasOf}
+use Rattle.kriging_theory.specs.Fit.{fitted}
 use Rattle.kriging.specs.declared.Fit.{Fit}
 use Rattle.kriging.specs.Outcome.{outcomeOf}
 use Rattle.nakwemol.specs.declared.codes.CodedModel.{CodedModel}

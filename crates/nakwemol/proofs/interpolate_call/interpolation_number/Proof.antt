@@ -1,9 +1,9 @@
--- `nakwemol::interpolate_call::interpolation_number` meets its contract: the number of either answer. Assumes nothing.
+-- `nakwemol::interpolate_call::interpolation_number` meets its contract: the number of either answer.
 use Prim.Native.Nat.{ℕ}
 use mathlib.Core.Path.{_≡_, ap, sym, _∙_}
 use borrow.Author.Needs.{needs}
 use Rattle.error.specs.Outcome.{outcome}
-use Rattle.interpolation.specs.Call.{Areas}
+use Rattle.interpolator_theory.specs.Call.{Areas}
 use Rattle.interpolator.specs.declared.Interpolation.{Interpolation}
 use Rattle.interpolator.specs.Outcome.{outcomeOf}
 use Rattle.nakwemol.proofs.interpolate_call.interpolation_number.Statement.{statement}

@@ -1,4 +1,4 @@
--- `nakwemol::interpolate_call::nakwemol_interpolate` meets its contract: the interpolation of its parameters, or nothing where a code is none. Assumes nothing.
+-- `nakwemol::interpolate_call::nakwemol_interpolate` meets its contract: the interpolation of its parameters, or nothing where a code is none.
 use Prim.Native.Nat.{ℕ}
 use mathlib.Core.Path.{_≡_, ap, sym, _∙_}
 use borrow.Author.Needs.{needs}
@@ -7,9 +7,9 @@ use Rattle.variogram.specs.declared.Variogram.{Variogram}
 use Rattle.variogram.specs.declared.VariogramModel.{VariogramModel}
 use Rattle.variogram.specs.Model.{variogram}
 use Rattle.survey.specs.Limits.{base}
-use Rattle.interpolation.specs.declared.KrigingType.{KrigingType}
-use Rattle.interpolation.specs.Call.{Areas, areasOf}
-use Rattle.interpolation.specs.Interpolation.{interpolated}
+use Rattle.interpolator_theory.specs.declared.KrigingType.{KrigingType}
+use Rattle.interpolator_theory.specs.Call.{Areas, areasOf}
+use Rattle.interpolator_theory.specs.Interpolation.{interpolated}
 use Rattle.interpolator.specs.declared.KrigingInterpolator.{KrigingInterpolator}
 use Rattle.interpolator.specs.declared.Interpolation.{Interpolation}
 use Rattle.interpolator.specs.Outcome.{interpolator, queryOf, outcomeOf}

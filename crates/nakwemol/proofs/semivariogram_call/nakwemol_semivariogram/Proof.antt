@@ -1,10 +1,10 @@
--- `nakwemol::semivariogram_call::nakwemol_semivariogram` meets its contract: the call behind it, and what it tells. Assumes nothing.
+-- `nakwemol::semivariogram_call::nakwemol_semivariogram` meets its contract: the call behind it, and what it tells.
 use Prim.Native.Nat.{ℕ}
 use mathlib.Core.Path.{_≡_, ap, _∙_}
 use borrow.Author.Needs.{needs}
 use Rattle.survey.specs.Limits.{base}
-use Rattle.bins.specs.Call.{Areas, Outcome, samplesOf, areasOf}
-use Rattle.bins.specs.Semivariogram.{calculated}
+use Rattle.semivariogram_theory.specs.Call.{Areas, Outcome, samplesOf, areasOf}
+use Rattle.semivariogram_theory.specs.Semivariogram.{calculated}
 use Rattle.semivariogram.specs.declared.Semivariogram.{Semivariogram}
 use Rattle.semivariogram.specs.Outcome.{outcomeOf}
 use Rattle.nakwemol.specs.Told.{ending, binsTold}

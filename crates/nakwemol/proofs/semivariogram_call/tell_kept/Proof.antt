@@ -1,4 +1,4 @@
--- `nakwemol::semivariogram_call::tell_kept` meets its contract: the number of either answer, and the place written where there are bins. Assumes nothing.
+-- `nakwemol::semivariogram_call::tell_kept` meets its contract: the number of either answer, and the place written where there are bins.
 use Prim.Native.Nat.{ℕ}
 use mathlib.Core.Path.{_≡_, ap, sym, _∙_}
 use borrow.Author.Needs.{needs}

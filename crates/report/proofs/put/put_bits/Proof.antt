@@ -1,4 +1,4 @@
--- `report::put::put_bits` meets its contract: a byte, and past it the digits of the pattern, 16 of them. Assumes nothing.
+-- `report::put::put_bits` meets its contract: a byte, and past it the digits of the pattern, 16 of them.
 use Prim.Native.Nat.{ℕ}
 use mathlib.Core.Path.{_≡_, ap, sym, _∙_, subst}
 use mathlib.Core.List.{List, [], _∷_}

@@ -1,4 +1,4 @@
--- `report::put::put_bits_lines` meets its contract: after j turns the first j lines stand there. Assumes nothing.
+-- `report::put::put_bits_lines` meets its contract: after j turns the first j lines stand there.
 use Prim.Native.Nat.{ℕ, _≤_, _-_}
 use native.Mathlib.Omega.{arith}
 use mathlib.Core.Path.{_≡_, refl, _∙_}

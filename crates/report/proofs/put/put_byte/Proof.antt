@@ -1,4 +1,4 @@
--- `report::put::put_byte` meets its contract: one store. Assumes nothing.
+-- `report::put::put_byte` meets its contract: one store.
 use Rattle.area.proofs.Placed.{put-one}
 use borrow.Author.Needs.{needs}
 use Rattle.report.proofs.put.put_byte.Statement.{statement}

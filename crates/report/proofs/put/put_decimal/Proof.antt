@@ -1,4 +1,4 @@
--- `report::put::put_decimal` meets its contract: the kit writes the fewest digits, and those are the text. Assumes nothing.
+-- `report::put::put_decimal` meets its contract: the kit writes the fewest digits, and those are the text.
 use mathlib.Core.Path.{_≡_, sym, _∙_, subst}
 use mathlib.Core.List.{List}
 use Prim.Native.Nat.{ℕ}

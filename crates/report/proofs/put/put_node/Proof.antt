@@ -1,4 +1,4 @@
--- `report::put::put_node` meets its contract: five texts, each past the one before. Assumes nothing.
+-- `report::put::put_node` meets its contract: five texts, each past the one before.
 use mathlib.Core.List.{List, _++_}
 use Prim.Native.Nat.{ℕ}
 use Rattle.report.specs.Numerals.{ascii, decimalText, bitsText}

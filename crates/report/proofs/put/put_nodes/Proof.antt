@@ -1,4 +1,4 @@
--- `report::put::put_nodes` meets its contract: after i turns the first i lines stand there. Assumes nothing.
+-- `report::put::put_nodes` meets its contract: after i turns the first i lines stand there.
 use Prim.Native.Nat.{ℕ, _≤_, _-_}
 use native.Mathlib.Omega.{arith}
 use mathlib.Core.Path.{_≡_, refl, _∙_}

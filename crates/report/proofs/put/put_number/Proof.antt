@@ -1,4 +1,4 @@
--- `report::put::put_number` meets its contract: a byte, and the digits past it. Assumes nothing.
+-- `report::put::put_number` meets its contract: a byte, and the digits past it.
 use Rattle.area.proofs.Placed.{put-then}
 use borrow.Author.Needs.{needs}
 use Rattle.report.proofs.put.put_number.Statement.{statement}

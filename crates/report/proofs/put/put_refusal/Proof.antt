@@ -1,4 +1,4 @@
--- `report::put::put_refusal` meets its contract: the line of its word. Assumes nothing.
+-- `report::put::put_refusal` meets its contract: the line of its word.
 use Rattle.report.specs.Listing.{refusedText}
 use borrow.Author.Needs.{needs}
 use Rattle.report.proofs.put.put_refusal.Statement.{statement}

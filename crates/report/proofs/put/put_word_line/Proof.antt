@@ -1,4 +1,4 @@
--- `report::put::put_word_line` meets its contract: three texts, each past the one before. Assumes nothing.
+-- `report::put::put_word_line` meets its contract: three texts, each past the one before.
 use mathlib.Core.List.{_++_}
 use Rattle.report.specs.Numerals.{ascii, decimalText}
 use Rattle.report.specs.Listing.{spaced}

@@ -1,4 +1,4 @@
--- `report::room::decimal_length` meets its contract: the kit writes the fewest digits, and those are the text. Assumes nothing.
+-- `report::room::decimal_length` meets its contract: the kit writes the fewest digits, and those are the text.
 use native.Mathlib.Omega.{arith}
 use mathlib.Core.Path.{_≡_, ap, _∙_}
 use lib.Dec.{lit<}

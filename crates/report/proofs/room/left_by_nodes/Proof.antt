@@ -1,4 +1,4 @@
--- `report::room::left_by_nodes` meets its contract: after i turns the first i lines are taken off the room. Assumes nothing.
+-- `report::room::left_by_nodes` meets its contract: after i turns the first i lines are taken off the room.
 use Prim.Native.Nat.{ℕ, _≤_, _-_}
 use native.Mathlib.Numerals.{add-one}
 use native.Mathlib.Omega.{arith}

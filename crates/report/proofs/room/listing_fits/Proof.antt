@@ -1,4 +1,4 @@
--- `report::room::listing_fits` meets its contract: what is left of one more than `size` is 0 exactly where a listing is longer. Assumes nothing.
+-- `report::room::listing_fits` meets its contract: what is left of one more than `size` is 0 exactly where a listing is longer.
 use Prim.Native.Nat.{ℕ, _+_, _-_, _*_, _/_}
 use native.Mathlib.Decide.{decLt}
 use native.Mathlib.Omega.{arith}

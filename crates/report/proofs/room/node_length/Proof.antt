@@ -1,4 +1,4 @@
--- `report::room::node_length` meets its contract: the digits of number and verdict, and 36 bytes more. Assumes nothing.
+-- `report::room::node_length` meets its contract: the digits of number and verdict, and 36 bytes more.
 use native.Mathlib.Omega.{arith}
 use Rattle.report.proofs.Lengths.{node-line-length}
 use borrow.Author.Needs.{needs}

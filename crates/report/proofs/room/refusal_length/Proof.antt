@@ -1,4 +1,4 @@
--- `report::room::refusal_length` meets its contract: the digits of the number, and 9 bytes more. Assumes nothing.
+-- `report::room::refusal_length` meets its contract: the digits of the number, and 9 bytes more.
 use native.Mathlib.Omega.{arith}
 use Rattle.report.specs.Numerals.{ascii}
 use Rattle.report.specs.Listing.{refusedText}

@@ -1,10 +1,10 @@
--- `SemivariogramCalculator::calculate` meets its contract: it is refused as the definition says, and else has its bins. Assumes nothing.
+-- `SemivariogramCalculator::calculate` meets its contract: it is refused as the definition says, and else has its bins.
 use mathlib.Core.Path.{_≡_, ap, sym, _∙_}
 use Rattle.error.specs.Numbers.{judged}
 use Rattle.survey.specs.declared.Limits.{Limits}
 use Rattle.survey.specs.Limits.{base}
-use Rattle.bins.specs.Call.{Samples, Areas, samplesOf, areasOf}
-use Rattle.bins.specs.Refusals.{refusal}
+use Rattle.semivariogram_theory.specs.Call.{Samples, Areas, samplesOf, areasOf}
+use Rattle.semivariogram_theory.specs.Refusals.{refusal}
 use Rattle.semivariogram.proofs.Whole.{refused-is, done-is, has-ends}
 use borrow.Author.Needs.{needs}
 use Rattle.semivariogram.proofs.SemivariogramCalculator.calculate.Statement.{statement}

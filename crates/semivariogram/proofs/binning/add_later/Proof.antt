@@ -1,4 +1,4 @@
--- `semivariogram::binning::add_later` meets its contract: the pairs that are left are the sample's from j on, and those of the later samples. Assumes nothing.
+-- `semivariogram::binning::add_later` meets its contract: the pairs that are left are the sample's from j on, and those of the later samples.
 use Prim.Native.Nat.{ℕ, suc, _+_, _-_, _*_, _^_, _≤_, _<_}
 use mathlib.Core.Path.{_≡_, refl, ap, sym, subst, _∙_}
 use mathlib.Core.Bool.{false}
@@ -9,9 +9,9 @@ use lib.ListN.{length, length-set, getD}
 use lib.Ieee.{nan, binary64, fits}
 use Rattle.ieee.specs.Root.{sqrtOf}
 use Rattle.ieee.specs.Values.{Signed}
-use Rattle.bins.specs.Pairs.{Pair, pair, pairsFrom, pairs}
-use Rattle.bins.specs.Call.{Samples, samplesOf}
-use Rattle.bins.specs.Bins.{lag, halfSquare, binOf}
+use Rattle.semivariogram_theory.specs.Pairs.{Pair, pair, pairsFrom, pairs}
+use Rattle.semivariogram_theory.specs.Call.{Samples, samplesOf}
+use Rattle.semivariogram_theory.specs.Bins.{lag, halfSquare, binOf}
 use Rattle.semivariogram.specs.Parts.{squareIn, Reached, Left}
 use Rattle.semivariogram.proofs.Passes.{laterFrom}
 use Rattle.semivariogram.proofs.Places.{few-pairs, is-next, one-read, first-of, here-of, next-of, last-of}

@@ -1,12 +1,12 @@
--- `semivariogram::binning::add_pairs` meets its contract: the pairs that are left are those from the sample i on. Assumes nothing.
+-- `semivariogram::binning::add_pairs` meets its contract: the pairs that are left are those from the sample i on.
 use Prim.Native.Nat.{ℕ, suc, _+_, _-_, _≤_}
 use mathlib.Core.Path.{_≡_, refl, sym, subst, _∙_}
 use mathlib.Core.List.{List}
 use native.Mathlib.Numerals.{add-one}
 use native.Mathlib.Omega.{arith}
 use lib.ListN.{length}
-use Rattle.bins.specs.Pairs.{Pair, pairsFrom, pairs}
-use Rattle.bins.specs.Call.{Samples, samplesOf}
+use Rattle.semivariogram_theory.specs.Pairs.{Pair, pairsFrom, pairs}
+use Rattle.semivariogram_theory.specs.Call.{Samples, samplesOf}
 use Rattle.semivariogram.specs.Parts.{Reached, Left}
 use Rattle.semivariogram.proofs.Passes.{all-pairs}
 use Rattle.semivariogram.proofs.Places.{few-pairs, at-first}

@@ -1,4 +1,4 @@
--- `semivariogram::binning::as_usize` meets its contract: the two tests are those of the cast's ends. Assumes nothing.
+-- `semivariogram::binning::as_usize` meets its contract: the two tests are those of the cast's ends.
 use mathlib.Core.Path.{sym, subst}
 use borrow.Author.Needs.{needs}
 use lib.Dec.{T}

@@ -1,4 +1,4 @@
--- `semivariogram::binning::bin_of` meets its contract: the lesser of the two, and the floor changes nothing that the cast gives. Assumes nothing.
+-- `semivariogram::binning::bin_of` meets its contract: the lesser of the two, and the floor changes nothing that the cast gives.
 use Prim.Native.Nat.{ℕ, _-_, _≤_, _<_, min}
 use native.Mathlib.Omega.{arith}
 use mathlib.Core.Path.{_≡_, ap, sym, _∙_}

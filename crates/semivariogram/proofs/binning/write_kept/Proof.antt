@@ -1,4 +1,4 @@
--- `semivariogram::binning::write_kept` meets its contract: after i turns the areas are what the first i bins leave. Assumes nothing.
+-- `semivariogram::binning::write_kept` meets its contract: after i turns the areas are what the first i bins leave.
 use Prim.Native.Nat.{ℕ, _-_, _≤_}
 use mathlib.Core.Path.{_≡_, refl, ap, subst, _∙_}
 use mathlib.Core.Logic.{⊎-elim}
@@ -6,8 +6,8 @@ use native.Mathlib.Omega.{arith}
 use borrow.Author.Needs.{needs}
 use lib.ListN.{length, length-set, getD}
 use lib.Ieee.{Float, nan, binary64, add, mul, div}
-use Rattle.bins.specs.Call.{Areas, areasOf}
-use Rattle.bins.specs.Bins.{half, width}
+use Rattle.semivariogram_theory.specs.Call.{Areas, areasOf}
+use Rattle.semivariogram_theory.specs.Bins.{half, width}
 use Rattle.semivariogram.proofs.KeptBins.{Progress, none-yet, one-kept, renamed, not-kept, all-kept, all-bins}
 use Rattle.semivariogram.proofs.binning.write_kept.Statement.{statement}
 use Rattle.semivariogram.proofs.binning.write_kept.Tie as tie

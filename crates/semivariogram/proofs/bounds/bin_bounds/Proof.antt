@@ -1,4 +1,4 @@
--- `semivariogram::bounds::bin_bounds` meets its contract: each bin before b has its low bound, and each but the last of them its high one. Assumes nothing.
+-- `semivariogram::bounds::bin_bounds` meets its contract: each bin before b has its low bound, and each but the last of them its high one.
 use Prim.Native.Nat.{ℕ, _-_, _≤_, _<_}
 use native.Mathlib.Omega.{arith}
 use mathlib.Core.Path.{_≡_, refl, _∙_}

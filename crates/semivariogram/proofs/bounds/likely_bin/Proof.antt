@@ -1,4 +1,4 @@
--- `semivariogram::bounds::likely_bin` meets its contract: it counts at most one for each bin. Assumes nothing.
+-- `semivariogram::bounds::likely_bin` meets its contract: it counts at most one for each bin.
 use Prim.Native.Nat.{_-_, _≤_}
 use mathlib.Core.Logic.{⊎-elim}
 use native.Mathlib.Omega.{arith}

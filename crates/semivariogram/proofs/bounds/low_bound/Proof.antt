@@ -1,4 +1,4 @@
--- `semivariogram::bounds::low_bound` meets its contract: the bin of what it returns is b or later, or it returns a NaN. Assumes nothing.
+-- `semivariogram::bounds::low_bound` meets its contract: the bin of what it returns is b or later, or it returns a NaN.
 use native.Mathlib.Omega.{arith}
 use mathlib.Core.Path.{_≡_, refl, ap, sym, subst, _∙_}
 use lib.Ieee.{nan, binary64, ofBits, div}

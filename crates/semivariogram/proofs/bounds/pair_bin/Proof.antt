@@ -1,4 +1,4 @@
--- `semivariogram::bounds::pair_bin` meets its contract: inside the bounds of a bin the squared distance is in it, and else the distance says. Assumes nothing.
+-- `semivariogram::bounds::pair_bin` meets its contract: inside the bounds of a bin the squared distance is in it, and else the distance says.
 use mathlib.Core.Path.{ap, sym, subst, _∙_}
 use lib.Dec.{T}
 use Rattle.semivariogram.specs.Parts.{binAt}

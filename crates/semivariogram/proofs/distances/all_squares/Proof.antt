@@ -1,5 +1,5 @@
 -- `semivariogram::distances::all_squares` meets its contract: the greatest so far, with the samples that are left, is that of all, and the pairs before
--- them have their squares stored. Assumes nothing.
+-- them have their squares stored.
 use Prim.Native.Nat.{ℕ, suc, _+_, _-_, _≤_}
 use mathlib.Core.Path.{_≡_, refl, ap, sym, subst, _∙_}
 use mathlib.Core.List.{List, map}
@@ -7,8 +7,8 @@ use native.Mathlib.Numerals.{add-one}
 use native.Mathlib.Omega.{arith}
 use lib.ListN.{length}
 use Rattle.ieee.specs.Floats.{zeroFloat}
-use Rattle.bins.specs.Pairs.{Pair, pairsFrom, pairs}
-use Rattle.bins.specs.Bins.{greatest}
+use Rattle.semivariogram_theory.specs.Pairs.{Pair, pairsFrom, pairs}
+use Rattle.semivariogram_theory.specs.Bins.{greatest}
 use Rattle.semivariogram.specs.Parts.{squareIn, Reached, Stored}
 use Rattle.semivariogram.proofs.Passes.{all-pairs, greatest-sample, greatest-none}
 use Rattle.semivariogram.proofs.Places.{few-pairs, at-first, at-last, all-stored}

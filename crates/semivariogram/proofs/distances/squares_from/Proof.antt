@@ -1,5 +1,5 @@
 -- `semivariogram::distances::squares_from` meets its contract: the pairs before j have their squares stored, and the greatest so far, with the pairs that
--- are left, is the greatest of all. Assumes nothing.
+-- are left, is the greatest of all.
 use Prim.Native.Nat.{ℕ, suc, _+_, _-_, _*_, _≤_, _<_}
 use mathlib.Core.Path.{_≡_, refl, sym, subst, _∙_}
 use mathlib.Core.List.{map, _∷_, _++_}
@@ -8,8 +8,8 @@ use native.Mathlib.Omega.{arith}
 use borrow.Author.Needs.{needs}
 use lib.ListN.{length, length-set}
 use Rattle.area.proofs.Rows.{row-end}
-use Rattle.bins.specs.Pairs.{pair, pairsFrom, pairs}
-use Rattle.bins.specs.Bins.{greatest}
+use Rattle.semivariogram_theory.specs.Pairs.{pair, pairsFrom, pairs}
+use Rattle.semivariogram_theory.specs.Bins.{greatest}
 use Rattle.semivariogram.specs.Parts.{squareIn, Reached, Stored}
 use Rattle.semivariogram.proofs.Passes.{later, laterFrom, greatest-turn, greatest-last}
 use Rattle.semivariogram.proofs.Places.{few-pairs, is-next, one-stored, first-of, here-of, next-of, last-of}

@@ -1,4 +1,4 @@
--- `semivariogram::refusals::calculate_refusal` meets its contract: test after test. Assumes nothing.
+-- `semivariogram::refusals::calculate_refusal` meets its contract: test after test.
 use Prim.Native.Nat.{ℕ}
 use mathlib.Core.Path.{_≡_, refl, sym, ap, _∙_}
 use mathlib.Core.Bool.{not}
@@ -9,8 +9,8 @@ use lib.ListN.{length}
 use Rattle.error.specs.Tests.{Test, test, firstOf}
 use Rattle.error.proofs.First.{here, past, none, one, other}
 use Rattle.ieee.specs.Finite.{allFinite}
-use Rattle.bins.specs.Call.{Samples, Areas, samplesOf, areasOf}
-use Rattle.bins.specs.Refusals.{wrongDimension, wrongPoints, tooFew, wrongBins, tooMany, notFinite, shortAnswer, refusal}
+use Rattle.semivariogram_theory.specs.Call.{Samples, Areas, samplesOf, areasOf}
+use Rattle.semivariogram_theory.specs.Refusals.{wrongDimension, wrongPoints, tooFew, wrongBins, tooMany, notFinite, shortAnswer, refusal}
 use Rattle.semivariogram.proofs.refusals.calculate_refusal.Statement.{statement}
 use Rattle.semivariogram.proofs.refusals.calculate_refusal.Tie as tie
 

@@ -1,4 +1,4 @@
--- `semivariogram::refusals::outside` meets its contract. Assumes nothing.
+-- `semivariogram::refusals::outside` meets its contract.
 use mathlib.Core.Path.{sym}
 use borrow.Author.Tests.{lt-ltb, le-ltb}
 use Rattle.error.proofs.First.{one, other}

@@ -1,4 +1,4 @@
--- `semivariogram::refusals::short_answer` meets its contract: area after area. Assumes nothing.
+-- `semivariogram::refusals::short_answer` meets its contract: area after area.
 use mathlib.Core.Path.{_≡_, sym, _∙_}
 use mathlib.Core.Bool.{Bool, _||_}
 use borrow.Author.Tests.{lt-ltb, le-ltb}

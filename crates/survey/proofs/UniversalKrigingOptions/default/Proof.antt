@@ -1,4 +1,4 @@
--- `survey::UniversalKrigingOptions::default` meets its contract: the variogram that `new` makes, and the constant. Assumes nothing.
+-- `survey::UniversalKrigingOptions::default` meets its contract: the variogram that `new` makes, and the constant.
 use mathlib.Core.Path.{ap}
 use borrow.Author.Needs.{needs}
 use lib.Ieee.{binary64, ofBits}

@@ -1,4 +1,4 @@
--- `survey_checks::counts::drift_basis_columns` meets its contract: at each code the definition computes. Assumes nothing.
+-- `survey_checks::counts::drift_basis_columns` meets its contract: at each code the definition computes.
 use mathlib.Core.Path.{sym, ap}
 use Rattle.survey.specs.Survey.{codeColumns}
 use Rattle.survey.proofs.Codes.{code-none}

@@ -1,5 +1,5 @@
 -- `survey_checks::counts::drift_columns` meets its contract. The invariant: the columns counted and those of the codes left are p.
--- The measure is the codes left. Assumes nothing.
+-- The measure is the codes left.
 use Prim.Native.Nat.{ℕ, _+_, _-_, _^_, _≤_, _<_}
 use mathlib.Core.Path.{_≡_, refl, sym, _∙_}
 use mathlib.Core.List.{List}

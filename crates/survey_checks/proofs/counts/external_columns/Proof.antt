@@ -1,5 +1,5 @@
 -- `survey_checks::counts::external_columns` meets its contract. The invariant: the codes 4 counted and those of the codes left are k.
--- The measure is the codes left. Assumes nothing.
+-- The measure is the codes left.
 use Prim.Native.Nat.{ℕ, _+_, _-_, _≤_, _<_}
 use mathlib.Core.Path.{_≡_, refl}
 use mathlib.Core.Bool.{Bool, true, false, cond}

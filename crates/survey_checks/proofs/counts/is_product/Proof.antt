@@ -1,4 +1,4 @@
--- `survey_checks::counts::is_product` meets its contract: the quotient is k where nothing is left over. Assumes nothing.
+-- `survey_checks::counts::is_product` meets its contract: the quotient is k where nothing is left over.
 use native.Mathlib.Nat.{mul-zero}
 use native.Mathlib.Omega.{arith}
 use mathlib.Core.Path.{_≡_, sym}

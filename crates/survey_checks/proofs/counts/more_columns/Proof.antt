@@ -1,6 +1,6 @@
 -- `survey_checks::counts::more_columns` meets its contract.
 -- The invariant: what is left of `most` and the columns of all codes are `most` and the columns of the codes left.
--- The measure is the codes left. Assumes nothing.
+-- The measure is the codes left.
 use Prim.Native.Nat.{ℕ, _+_, _-_, _≤_, _<_}
 use mathlib.Core.Path.{_≡_, refl, sym}
 use mathlib.Core.List.{List}

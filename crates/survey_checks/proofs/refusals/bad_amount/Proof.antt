@@ -1,4 +1,4 @@
--- `survey_checks::refusals::bad_amount` meets its contract. Assumes nothing.
+-- `survey_checks::refusals::bad_amount` meets its contract.
 use Rattle.survey_checks.proofs.refusals.bad_amount.Statement.{statement}
 use Rattle.survey_checks.proofs.refusals.bad_amount.Tie as tie
 use borrow.Author.Needs.{needs}

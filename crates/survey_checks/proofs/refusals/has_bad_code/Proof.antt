@@ -1,5 +1,5 @@
 -- `survey_checks::refusals::has_bad_code` meets its contract. The invariant: whether a code is bad is whether one from place i on is.
--- The measure is the codes left. Assumes nothing.
+-- The measure is the codes left.
 use Prim.Native.Nat.{ℕ, _+_, _-_, _≤_}
 use mathlib.Core.Path.{_≡_, refl, sym, _∙_}
 use mathlib.Core.Bool.{_||_}

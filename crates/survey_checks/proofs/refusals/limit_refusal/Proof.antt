@@ -1,4 +1,4 @@
--- `survey_checks::refusals::limit_refusal` meets its contract: each of three conditions gives 9. Assumes nothing.
+-- `survey_checks::refusals::limit_refusal` meets its contract: each of three conditions gives 9.
 use Prim.Native.Nat.{ℕ, _<_, _≤_}
 use mathlib.Core.Path.{_≡_, refl, sym, ap, _∙_}
 use mathlib.Core.Bool.{Bool, true, false, _||_}

@@ -1,4 +1,4 @@
--- `survey_checks::refusals::list_refusal` meets its contract: the tests of the code are those of the list, one after another. Assumes nothing.
+-- `survey_checks::refusals::list_refusal` meets its contract: the tests of the code are those of the list, one after another.
 use Prim.Native.Nat.{ℕ, _*_, _<_, _≤_}
 use mathlib.Core.Path.{_≡_, sym, ap, _∙_}
 use mathlib.Core.Logic.{⊎-elim}

@@ -1,5 +1,4 @@
 -- `survey_checks::refusals::model_refusal` meets its contract: each arm is given that the model is its case, at which the test computes but for the range.
--- Assumes nothing.
 use mathlib.Core.Path.{_≡_, sym, ap, _∙_}
 use mathlib.Core.Bool.{not}
 use borrow.Author.Needs.{needs}

@@ -1,4 +1,4 @@
--- `survey_checks::refusals::number_not_finite` meets its contract: the lists of the code are those of the test, one after another. Assumes nothing.
+-- `survey_checks::refusals::number_not_finite` meets its contract: the lists of the code are those of the test, one after another.
 use mathlib.Core.Path.{_≡_, refl, sym, ap, _∙_}
 use mathlib.Core.Bool.{Bool, not, _||_, _&&_}
 use borrow.Author.Needs.{needs}

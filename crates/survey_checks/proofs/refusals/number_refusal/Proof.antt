@@ -1,4 +1,4 @@
--- `survey_checks::refusals::number_refusal` meets its contract. Assumes nothing.
+-- `survey_checks::refusals::number_refusal` meets its contract.
 use mathlib.Core.Path.{sym, _∙_}
 use borrow.Author.Needs.{needs}
 use Rattle.error.proofs.First.{here, past, none}

@@ -1,4 +1,4 @@
--- `survey_checks::refusals::survey_refusal` meets its contract: the first part that refuses gives the number of the whole. Assumes nothing.
+-- `survey_checks::refusals::survey_refusal` meets its contract: the first part that refuses gives the number of the whole.
 use Prim.Native.Nat.{ℕ}
 use mathlib.Core.Path.{_≡_, refl, sym, _∙_}
 use mathlib.Core.List.{List, _++_}

@@ -1,4 +1,4 @@
--- `survey_checks::refusals::variogram_not_finite` meets its contract. Assumes nothing.
+-- `survey_checks::refusals::variogram_not_finite` meets its contract.
 use mathlib.Core.Path.{sym, ap, _∙_}
 use mathlib.Core.Bool.{not}
 use borrow.Author.Needs.{needs}

@@ -1,4 +1,4 @@
--- `variogram::Variogram::evaluate` meets its contract: by the table itself, lent. Assumes nothing.
+-- `variogram::Variogram::evaluate` meets its contract: by the table itself, lent.
 use Prim.Native.Nat.{ℕ}
 use mathlib.Core.Path.{ap, _∙_}
 use mathlib.Core.List.{List}

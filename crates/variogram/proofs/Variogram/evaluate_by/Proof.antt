@@ -1,4 +1,4 @@
--- `variogram::Variogram::evaluate_by` meets its contract: the zero test first, then each arm by the model that it is told. Assumes nothing.
+-- `variogram::Variogram::evaluate_by` meets its contract: the zero test first, then each arm by the model that it is told.
 use mathlib.Core.Path.{_∙_, sym}
 use borrow.Author.Needs.{needs}
 use Rattle.variogram.specs.declared.VariogramModel.the-variants.{Spherical, Exponential, Gaussian, Linear}

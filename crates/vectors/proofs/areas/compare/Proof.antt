@@ -1,4 +1,4 @@
--- `vectors::areas::compare` meets its contract: after so many turns the first places are compared. Assumes nothing.
+-- `vectors::areas::compare` meets its contract: after so many turns the first places are compared.
 use Prim.Native.Nat.{_-_, _≤_}
 use native.Mathlib.Omega.{arith}
 use mathlib.Core.Path.{_≡_, refl}

@@ -1,4 +1,4 @@
--- `vectors::areas::compare_at` meets its contract, by what is known of the place. Assumes nothing.
+-- `vectors::areas::compare_at` meets its contract, by what is known of the place.
 use borrow.Author.Needs.{needs}
 use mathlib.Core.Path.{refl}
 use borrow.Author.Tests.{lt-ltb, le-ltb}

@@ -1,4 +1,4 @@
--- `vectors::areas::compare_next` meets its contract: what came in is what the area is compared with. Assumes nothing.
+-- `vectors::areas::compare_next` meets its contract: what came in is what the area is compared with.
 use borrow.Author.Needs.{needs}
 use Prim.Native.Nat.{ℕ}
 use mathlib.Core.Path.{_≡_, sym, ap, _∙_}

@@ -1,4 +1,4 @@
--- `vectors::areas::load` meets its contract: each turn stores before place n. Assumes nothing.
+-- `vectors::areas::load` meets its contract: each turn stores before place n.
 use Prim.Native.Nat.{_-_}
 use native.Mathlib.Omega.{arith}
 use lib.ListN.{length}

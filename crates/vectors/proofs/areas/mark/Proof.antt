@@ -1,4 +1,4 @@
--- `vectors::areas::mark` meets its contract: after so many turns the first places hold their marks. Assumes nothing.
+-- `vectors::areas::mark` meets its contract: after so many turns the first places hold their marks.
 use Prim.Native.Nat.{ℕ, _-_, _≤_}
 use native.Mathlib.Omega.{arith}
 use mathlib.Core.Path.{_≡_, refl, sym, ap, _∙_}

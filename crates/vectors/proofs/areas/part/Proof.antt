@@ -1,4 +1,4 @@
--- `vectors::areas::part` meets its contract, by whether the list has such a part. Assumes nothing.
+-- `vectors::areas::part` meets its contract, by whether the list has such a part.
 use borrow.Author.Needs.{needs}
 use mathlib.Core.Path.{refl}
 use borrow.Author.Tests.{lt-ltb, le-ltb}

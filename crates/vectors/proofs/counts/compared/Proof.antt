@@ -1,4 +1,4 @@
--- `vectors::counts::compared` meets its contract, by whether the two are the same. Assumes nothing.
+-- `vectors::counts::compared` meets its contract, by whether the two are the same.
 use borrow.Author.Needs.{needs}
 use mathlib.Core.Path.{_≡_}
 use mathlib.Core.Bool.{true, false}

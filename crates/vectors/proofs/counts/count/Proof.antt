@@ -1,4 +1,4 @@
--- `vectors::counts::count` meets its contract: past the end of the counts there is no place to count at. Assumes nothing.
+-- `vectors::counts::count` meets its contract: past the end of the counts there is no place to count at.
 use borrow.Author.Needs.{needs}
 use mathlib.Core.Path.{sym}
 use lib.Seq.{set-out}

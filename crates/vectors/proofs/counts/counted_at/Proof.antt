@@ -1,4 +1,4 @@
--- `vectors::counts::counted_at` meets its contract: past the end nothing is counted. Assumes nothing.
+-- `vectors::counts::counted_at` meets its contract: past the end nothing is counted.
 use borrow.Author.Needs.{needs}
 use mathlib.Core.Path.{sym}
 use lib.ListN.{List·getD-eq-default}

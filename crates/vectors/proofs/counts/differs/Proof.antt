@@ -1,4 +1,4 @@
--- `vectors::counts::differs` meets its contract. Assumes nothing.
+-- `vectors::counts::differs` meets its contract.
 use borrow.Author.Needs.{needs}
 use Rattle.vectors.proofs.counts.differs.Statement.{statement}
 use Rattle.vectors.proofs.counts.differs.Tie as tie

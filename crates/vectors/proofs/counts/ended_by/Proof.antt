@@ -1,4 +1,4 @@
--- `vectors::counts::ended_by` meets its contract. Assumes nothing.
+-- `vectors::counts::ended_by` meets its contract.
 use borrow.Author.Needs.{needs}
 use Rattle.vectors.proofs.counts.ended_by.Statement.{statement}
 use Rattle.vectors.proofs.counts.ended_by.Tie as tie

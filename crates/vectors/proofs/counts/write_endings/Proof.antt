@@ -1,4 +1,4 @@
--- `vectors::counts::write_endings` is safe and ends: the numbers that are left fall. Assumes nothing.
+-- `vectors::counts::write_endings` is safe and ends: the numbers that are left fall.
 use Prim.Native.Nat.{_-_}
 use mathlib.Core.Path.{refl}
 use borrow.Author.Needs.{needs}

@@ -1,4 +1,4 @@
--- `vectors::counts::write_part` meets its contract. Assumes nothing.
+-- `vectors::counts::write_part` meets its contract.
 use borrow.Author.Needs.{needs}
 use Rattle.vectors.proofs.counts.write_part.Statement.{statement}
 use Rattle.vectors.proofs.counts.write_part.Tie as tie

@@ -1,4 +1,4 @@
--- `vectors_fit::record::load_codes` is safe and ends: what is left of the list falls. Assumes nothing.
+-- `vectors_fit::record::load_codes` is safe and ends: what is left of the list falls.
 use Prim.Native.Nat.{_-_}
 use mathlib.Core.Path.{_≡_}
 use borrow.Author.Needs.{needs}

@@ -1,4 +1,4 @@
--- The loop of `kriging::answer::krige_nodes`, and the states that its needs look back to. After q turns the areas are what q nodes leave. Assumes nothing.
+-- The loop of `kriging::answer::krige_nodes`, and the states that its needs look back to. After q turns the areas are what q nodes leave.
 use Prim.Native.Nat.{_≤_, _/_, _+_, _-_}
 use mathlib.Core.Path.{_≡_}
 use mathlib.Core.List.{List}
@@ -7,9 +7,9 @@ use lib.Ieee.{Float}
 use Rattle.audit.specs.Audit.{driftFinite}
 use Rattle.audit.specs.Lists.{entryIn}
 use Rattle.survey.specs.Survey.{Survey, surveyOf, externalCount}
-use Rattle.fit.specs.Areas.{areasOf}
-use Rattle.fit.specs.Drift.{DriftIn}
-use Rattle.fit.specs.Node.{nodeOf}
+use Rattle.kriging_theory.specs.Areas.{areasOf}
+use Rattle.kriging_theory.specs.Drift.{DriftIn}
+use Rattle.kriging_theory.specs.Node.{nodeOf}
 use Rattle.kriging.proofs.Progress.{Progress}
 use Rattle.kriging.proofs.answer.krige_nodes.Tie as tie
 

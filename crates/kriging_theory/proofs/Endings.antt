@@ -1,0 +1,143 @@
+-- What turns a fit away, and how it ends: each number exactly where its condition holds, and the areas then.
+use Prim.Native.Nat.{ℕ, _*_, _≤_, _<_}
+use native.Mathlib.Omega.{arith}
+use mathlib.Core.Path.{_≡_, refl}
+use mathlib.Core.Logic.{_≢_, _⊎_, inl, inr, _↔_}
+use mathlib.Core.Bool.{true}
+use lib.Dec.{T}
+use lib.ListN.{length, getD}
+use lib.Ieee.{nan}
+use lib.Ieee.Scale.{finite}
+use Rattle.area.proofs.Kept.{kept-same}
+use Rattle.area.proofs.Start.{kept-start}
+use Rattle.error.specs.Rules.{NoneApplies, Condition, Lowest, Told, no-more, tells}
+use Rattle.error.proofs.Tells.{stable, equal, either, below}
+use Rattle.error.proofs.Rules.{joined, no-condition, lowest-wins}
+use Rattle.ieee.proofs.FiniteLists.{is-finite}
+use Rattle.elimination.specs.Call.{Ends}
+use Rattle.elimination.proofs.Call.{work-told, kept-work, ends, whichever}
+use Rattle.survey.specs.declared.Limits.{Limits}
+use Rattle.survey.specs.Limits.{base}
+use Rattle.survey.specs.Survey.{Survey, wells, nodeCount, columns, size, valueAt}
+use Rattle.survey.proofs.Told.{survey-told}
+use Rattle.kriging_theory.specs.Areas.{Areas, withWork}
+use Rattle.kriging_theory.specs.Assembly.{assembled}
+use Rattle.kriging_theory.specs.Node.{nodeOf}
+use Rattle.kriging_theory.specs.Rules.{answerRules, rules}
+use Rattle.kriging_theory.specs.Refusals.{answerTests, tests, refusal}
+use Rattle.kriging_theory.specs.Fit.{answered, fitCall, fitted}
+use Rattle.kriging_theory.specs.Untouched.{Untouched}
+
+answer-told : (s : Survey) (a : Areas) → Told (answerTests s a) (answerRules s a)
+answer-told s a =
+    tells 18
+    (either (below (length (a .predicted)) (nodeCount s))
+    (either (below (length (a .variance)) (nodeCount s))
+    (either (below (length (a .verdicts)) (nodeCount s))
+    (either (below (length (a .weights)) (wells s * nodeCount s))
+    (either (below (length (a .multipliers)) (columns s)) (below (length (a .trend)) (columns s)))))))
+    no-more
+
+at-least : {m n : ℕ} → ¬ (n < m) → m ≤ n
+at-least h = omega arith
+
+module _ (limits : Limits) (s : Survey) (a : Areas) where
+  -- each test tells its rule
+  pub told : Told (tests limits s a) (rules limits s a)
+  unfolding tests
+  told = joined (survey-told limits s (nodeCount s) (s .nodeExternal)) (joined (work-told (size s) (a .work)) (answer-told s a))
+
+  long : NoneApplies (rules limits s a) → 2 * size s * size s ≤ length (a .work)
+  long n = at-least (no-condition (rules limits s a) n 17)
+
+  -- HOW A FIT ENDS: refused before it eliminates, stopped at a step, or gone through
+  pub fit-ends : Ends (rules limits s a) true (size s) (assembled s (a .work)) a (withWork a) (λ work. answered s a work (nodeOf s work)) (fitted limits s a)
+  unfolding fitted refusal
+  fit-ends = ends (tests limits s a) (rules limits s a) (fitCall limits s a) refl told tt tt long
+
+  -- "The lowest applying number wins in a fit."
+  pub lowest-in-a-fit : (k : ℕ) → ((refusal limits s a ≡ k) × (k ≢ 0)) ↔ Lowest (rules limits s a) k
+  unfolding refusal
+  lowest-in-a-fit = lowest-wins told tt
+
+  -- "and all past the named lengths is untouched": however the fit ends
+  pub untouched : Untouched s a (fitted limits s a .areas)
+  unfolding fitted refusal answered
+  untouched =
+      whichever (tests limits s a) (rules limits s a) (fitCall limits s a) refl told tt tt long (Untouched s a)
+      (record {
+        work = kept-same _ _;
+        predicted = kept-same _ _;
+        variance = kept-same _ _;
+        verdicts = kept-same _ _;
+        weights = kept-same _ _;
+        multipliers = kept-same _ _;
+        trend = kept-same _ _;
+      })
+      (λ i h. record {
+        work = kept-work (fitCall limits s a) i h;
+        predicted = kept-same _ _;
+        variance = kept-same _ _;
+        verdicts = kept-same _ _;
+        weights = kept-same _ _;
+        multipliers = kept-same _ _;
+        trend = kept-same _ _;
+      })
+      (record {
+        work = kept-work (fitCall limits s a) (size s) (omega arith);
+        predicted = kept-start (nodeCount s) _ (a .predicted);
+        variance = kept-start (nodeCount s) _ (a .variance);
+        verdicts = kept-start (nodeCount s) _ (a .verdicts);
+        weights = kept-start (wells s * nodeCount s) _ (a .weights);
+        multipliers = kept-start (columns s) _ (a .multipliers);
+        trend = kept-start (columns s) _ (a .trend);
+      })
+
+-- "n > 48, p > 12 or m > 100", in the base
+pub too-many-in-the-base : (s : Survey) (a : Areas) → Condition (rules base s a) 9 ≡ ((48 < wells s) ⊎ (12 < columns s) ⊎ (100 < nodeCount s))
+too-many-in-the-base s a = refl
+
+-- ---- what a fit that no rule turns away has been tested for, whether its elimination stops or not
+module _ (limits : Limits) (s : Survey) (a : Areas) (none : NoneApplies (rules limits s a)) where
+  pub finite-coords : (k : ℕ) → k < length (s .coords) → T (finite (getD (s .coords) k nan))
+  finite-coords k l =
+      is-finite (getD (s .coords) k nan) (λ n. no-condition (rules limits s a) none 11 (inr (inr (inl (record { place = k; inside = l; is = n })))))
+
+  pub coords-length : length (s .coords) ≡ 2 * wells s
+  coords-length = stable (equal (length (s .coords)) (2 * wells s)) (no-condition (rules limits s a) none 1)
+
+-- ---- what an accepted fit has been tested for
+module _ (limits : Limits) (s : Survey) (a : Areas) (accepted : fitted limits s a .number ≡ 0) where
+  none : (k : ℕ) → ¬ Condition (rules limits s a) k
+  none = no-condition (rules limits s a) (fit-ends limits s a .accepted .0 accepted .0)
+
+  pub work-long : 2 * size s * size s ≤ length (a .work)
+  work-long = at-least (none 17)
+
+  pub few-columns : columns s ≤ limits .columns
+  few-columns = at-least (λ l. none 9 (inr (inl l)))
+
+  pub finite-tolerance : T (finite (s .tolerance))
+  finite-tolerance = is-finite (s .tolerance) (λ n. none 10 (inr n))
+
+  pub finite-values : (i : ℕ) → i < wells s → T (finite (valueAt s i))
+  finite-values i l = is-finite (valueAt s i) (λ n. none 11 (inr (inl (record { place = i; inside = l; is = n }))))
+
+  -- the answer areas are long enough
+  pub predicted-long : nodeCount s ≤ length (a .predicted)
+  predicted-long = at-least (λ l. none 18 (inl l))
+
+  pub variance-long : nodeCount s ≤ length (a .variance)
+  variance-long = at-least (λ l. none 18 (inr (inl l)))
+
+  pub verdicts-long : nodeCount s ≤ length (a .verdicts)
+  verdicts-long = at-least (λ l. none 18 (inr (inr (inl l))))
+
+  pub weights-long : wells s * nodeCount s ≤ length (a .weights)
+  weights-long = at-least (λ l. none 18 (inr (inr (inr (inl l)))))
+
+  pub multipliers-long : columns s ≤ length (a .multipliers)
+  multipliers-long = at-least (λ l. none 18 (inr (inr (inr (inr (inl l))))))
+
+  pub trend-long : columns s ≤ length (a .trend)
+  trend-long = at-least (λ l. none 18 (inr (inr (inr (inr (inr l))))))

@@ -1,0 +1,26 @@
+-- Each test of the semivariogram tells its rule's condition; and the limit of the base.
+use Prim.Native.Nat.{_*_, _<_}
+use mathlib.Core.Logic.{_↔_}
+use lib.ListN.{length}
+use Rattle.error.proofs.Tells.{either, different, below, some-not-finite}
+use Rattle.error.specs.Rules.{Told, no-more, tells}
+use Rattle.survey.specs.declared.Limits.{Limits}
+use Rattle.survey.specs.Limits.{base}
+use Rattle.semivariogram_theory.specs.Call.{Samples, Areas, samples}
+use Rattle.semivariogram_theory.specs.Rules.{TooMany, rules}
+use Rattle.semivariogram_theory.specs.Refusals.{mostBins, tests}
+
+pub told : (limits : Limits) (q : Samples) (a : Areas) → Told (tests limits q a) (rules limits q a)
+told limits q a =
+    tells 13 (either (below (q .dimension) 1) (below 3 (q .dimension)))
+    (tells 1 (different (length (q .points)) (samples q * q .dimension))
+    (tells 14 (below (samples q) 2)
+    (tells 15 (either (below (q .bins) 1) (below mostBins (q .bins)))
+    (tells 9 (below (limits .wells) (samples q))
+    (tells 11 (either (some-not-finite (q .values)) (some-not-finite (q .points)))
+    (tells 18 (either (below (length (a .distances)) (q .bins)) (either (below (length (a .semivariances)) (q .bins)) (below (length (a .counts)) (q .bins))))
+    no-more))))))
+
+-- "9 n > 48": the limit of the base
+pub samples-limit : (q : Samples) → TooMany base q ↔ (48 < samples q)
+samples-limit q = (λ h. h, λ h. h)

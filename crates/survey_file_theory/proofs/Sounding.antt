@@ -1,0 +1,86 @@
+-- Computed: sounding A as a survey file of 95 bytes, which read back; and edges of the reader and the writer.
+use Prim.Native.Nat.{ℕ}
+use mathlib.Core.Path.{_≡_, refl}
+use mathlib.Core.Bool.{false}
+use mathlib.Core.List.{List, [], _∷_, _++_}
+use mathlib.Core.Option.{none, some}
+use lib.ListN.{length, drop, replicate}
+use lib.Ieee.{Float, nan, inf, binary64, ofBits}
+use Rattle.ieee.specs.Floats.{zeroFloat, oneFloat}
+use Rattle.variogram.specs.Model.{variogram}
+use Rattle.variogram.specs.declared.VariogramModel.{VariogramModel}
+use Rattle.variogram.specs.declared.VariogramModel.the-variants.{Spherical, Gaussian, Linear}
+use Rattle.survey.specs.Survey.{Survey}
+use Rattle.survey_file_theory.specs.File.{baseVersion, writerFile}
+use Rattle.survey_file_theory.specs.Reader.{readBytes}
+use Rattle.survey_file_theory.specs.Writer.{writer}
+
+-- "A: (0,0) value 5, node (1,0)", "Constant, Spherical 0, 1, 1, r = t = 0"
+abbrev pub soundingA : Survey
+soundingA =
+    record {
+      values = ofBits binary64 0x4014_0000_0000_0000 ∷ [];
+      coords = zeroFloat ∷ zeroFloat ∷ [];
+      bases = 1 ∷ [];
+      external = [];
+      nodes = oneFloat ∷ zeroFloat ∷ [];
+      nodeExternal = [];
+      options = record { variogram = variogram Spherical zeroFloat oneFloat oneFloat; regularization = zeroFloat };
+      tolerance = zeroFloat;
+    }
+
+-- the file's length, its code and its trailer, what the writer answers with an area of just that many bytes and of one less, and what is read back
+pub sounding-A-file :
+    let file = writerFile baseVersion soundingA in
+    (length file ≡ 95)
+    × (drop 80 file ≡ 1 ∷ 0 ∷ 0 ∷ 0 ∷ 0 ∷ 1 ∷ 0 ∷ 1 ∷ 0 ∷ 1 ∷ 0 ∷ 1 ∷ 1 ∷ 0 ∷ 0 ∷ [])
+    × (writer baseVersion soundingA (replicate 95 7) ≡ record { number = 0; count = some 95; area = file })
+    × (writer baseVersion soundingA (replicate 94 7) ≡ record { number = 18; count = none; area = replicate 94 7 })
+    × (readBytes baseVersion file ≡ some soundingA)
+unfolding writerFile writer readBytes ofBits
+sounding-A-file = (refl, refl, refl, refl, refl)
+
+-- a survey of no wells and no nodes
+abbrev bare : VariogramModel → Float → Float → List Float → List Float → List ℕ → Survey
+bare model x r coords nodeExternal bases =
+    record {
+      values = [];
+      coords = coords;
+      bases = bases;
+      external = [];
+      nodes = [];
+      nodeExternal = nodeExternal;
+      options = record { variogram = variogram model x x x; regularization = r };
+      tolerance = x;
+    }
+
+-- a trailer of Linear and version 1, with all lengths zero and S as given
+abbrev linearTrailer : ℕ → List ℕ
+linearTrailer s = s ∷ s ∷ s ∷ s ∷ 0 ∷ 0 ∷ 0 ∷ 0 ∷ 0 ∷ 0 ∷ 4 ∷ 1 ∷ 0 ∷ 0 ∷ []
+
+-- a trailer alone, a body behind a note that is shorter than S, the shortest file, the same with NaN patterns, and one with a byte too many or too few
+pub reader-edges : (readBytes baseVersion (linearTrailer 0) ≡ none)
+    × (readBytes baseVersion (replicate 40 0 ++ linearTrailer 255) ≡ none)
+    × (readBytes baseVersion (replicate 40 0 ++ linearTrailer 0) ≡ some (bare Linear zeroFloat zeroFloat [] [] []))
+    × (readBytes baseVersion (replicate 40 255 ++ linearTrailer 0) ≡ some (bare Linear nan nan [] [] []))
+    × (readBytes baseVersion (replicate 41 0 ++ linearTrailer 0) ≡ none)
+    × (readBytes baseVersion (replicate 39 0 ++ linearTrailer 0) ≡ none)
+unfolding readBytes ofBits
+reader-edges = (refl, refl, refl, refl, refl, refl)
+
+-- any code and an r below zero are written and read, and -0 keeps its sign; node externals are not looked at where k = 0
+pub any-survey :
+    let minus-zero = ofBits binary64 0x8000_0000_0000_0000 in
+    let minus-one = ofBits binary64 0xbff0_0000_0000_0000 in
+    readBytes baseVersion (writerFile baseVersion (bare Gaussian minus-zero minus-one [] (nan ∷ []) (7 ∷ 0 ∷ 255 ∷ [])))
+    ≡ some (bare Gaussian minus-zero minus-one [] [] (7 ∷ 0 ∷ 255 ∷ []))
+unfolding writerFile readBytes ofBits
+any-survey = refl
+
+-- node externals count where there is a code 4; r is included in 11; 1 comes before 11
+pub writer-edges : (writer baseVersion (bare Gaussian zeroFloat zeroFloat [] (nan ∷ []) (7 ∷ [])) (replicate 55 0) .number ≡ 0)
+    × (writer baseVersion (bare Gaussian zeroFloat zeroFloat [] (nan ∷ []) (4 ∷ [])) (replicate 55 0) .number ≡ 8)
+    × (writer baseVersion (bare Gaussian zeroFloat (inf false) [] [] []) (replicate 55 0) .number ≡ 11)
+    × (writer baseVersion (bare Gaussian zeroFloat (inf false) (nan ∷ []) [] []) (replicate 55 0) .number ≡ 1)
+unfolding writer ofBits
+writer-edges = (refl, refl, refl, refl)

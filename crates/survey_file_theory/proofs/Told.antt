@@ -1,0 +1,60 @@
+-- Each test of the reader and of the writer tells its rule's condition.
+use Prim.Native.Nat.{ℕ, _*_}
+use native.Mathlib.Omega.{arith}
+use mathlib.Core.Path.{_≡_, _∙_, sym}
+use mathlib.Core.List.{List}
+use lib.ListN.{length}
+use Rattle.error.specs.Tests.{Tells}
+use Rattle.error.proofs.Tells.{told-as, either, different, below, not-finite-is}
+use Rattle.error.specs.Rules.{Told, no-more, tells}
+use Rattle.survey.specs.Survey.{Survey, wells, nodeCount}
+use Rattle.survey.proofs.Told.{coords-told, nodes-told, external-told, node-external-told, numbers-told}
+use Rattle.survey_file_theory.specs.File.{longestFile, greatestCount, trailerLength, writerFile}
+use Rattle.survey_file_theory.specs.Areas.{Areas}
+use Rattle.survey_file_theory.specs.Trailer.{wellsIn, nodesIn, basesIn, externalsIn, lengthIn, modelIn, versionIn, zeroIn, lastZeroIn}
+use Rattle.survey_file_theory.specs.Rules.{statedLength, Malformed, ShortArea, SomeNumberNotFinite, readerRules, writerRules}
+use Rattle.survey_file_theory.specs.Refusals.{malformed, shortArea, someNumberNotFinite, readerTests, writerTests}
+
+-- ---- the reader
+same-length : (bytes : List ℕ) → lengthIn bytes ≡ statedLength bytes
+same-length bytes = omega arith
+
+pub malformed-told : (version : ℕ) (bytes : List ℕ) → Tells (malformed version bytes) (Malformed version bytes)
+malformed-told version bytes =
+    either (below (length bytes) trailerLength)
+    (either (below longestFile (length bytes))
+    (either
+    (told-as (different (length bytes) (lengthIn bytes)) (λ n e. n (e ∙ sym (same-length bytes))) (λ n e. n (e ∙ same-length bytes)))
+    (either (below (modelIn bytes) 1)
+    (either (below 4 (modelIn bytes))
+    (either (different (versionIn bytes) version) (either (different (zeroIn bytes) 0) (different (lastZeroIn bytes) 0)))))))
+
+pub short-told : (bytes : List ℕ) (areas : Areas) → Tells (shortArea bytes areas) (ShortArea bytes areas)
+short-told bytes areas =
+    either (below (length (areas .values)) (wellsIn bytes))
+    (either (below (length (areas .coords)) (2 * wellsIn bytes))
+    (either (below (length (areas .bases)) (basesIn bytes))
+    (either (below (length (areas .external)) (externalsIn bytes * wellsIn bytes))
+    (either (below (length (areas .nodes)) (2 * nodesIn bytes)) (below (length (areas .nodeExternal)) (externalsIn bytes * nodesIn bytes))))))
+
+pub reader-told : (version : ℕ) (bytes : List ℕ) (areas : Areas) → Told (readerTests version bytes areas) (readerRules version bytes areas)
+reader-told version bytes areas = tells 16 (malformed-told version bytes) (tells 18 (short-told bytes areas) no-more)
+
+-- ---- the writer
+all-numbers-told : (s : Survey) → Tells (someNumberNotFinite s) (SomeNumberNotFinite s)
+unfolding someNumberNotFinite
+all-numbers-told s =
+    either (numbers-told s (s .nodeExternal)) (either (not-finite-is (s .options .regularization)) (not-finite-is (s .tolerance)))
+
+pub writer-told : (version : ℕ) (s : Survey) (area : List ℕ) → Told (writerTests version s area) (writerRules version s area)
+writer-told version s area =
+    let file : ℕ = length (writerFile version s) in
+    tells 1 (coords-told s)
+    (tells 2 (nodes-told s)
+    (tells 6 (external-told s)
+    (tells 8 (node-external-told s (nodeCount s) (s .nodeExternal))
+    (tells 11 (all-numbers-told s)
+    (tells 16
+    (either (below longestFile file)
+    (either (below greatestCount (wells s)) (either (below greatestCount (nodeCount s)) (below greatestCount (length (s .bases))))))
+    (tells 18 (below (length area) file) no-more))))))

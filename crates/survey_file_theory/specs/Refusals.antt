@@ -1,0 +1,72 @@
+-- What turns the reader and the writer of a survey file away, as tests that compute.
+use Prim.Native.Nat.{ℕ, _*_}
+use mathlib.Core.Bool.{Bool, not, _||_}
+use mathlib.Core.List.{List, [], _∷_}
+use lib.Dec.{eqb, ltb}
+use lib.ListN.{length}
+use lib.Ieee.Scale.{finite}
+use Rattle.error.specs.Tests.{Test, test, firstOf}
+use Rattle.survey.specs.Survey.{Survey, wells, nodeCount}
+use Rattle.survey.specs.Refusals.{wrongCoords, oddNodes, wrongExternal, wrongNodeExternal, numberNotFinite}
+use Rattle.survey_file_theory.specs.File.{longestFile, greatestCount, trailerLength, writerFile}
+use Rattle.survey_file_theory.specs.Areas.{Areas}
+use Rattle.survey_file_theory.specs.Trailer.{wellsIn, nodesIn, basesIn, externalsIn, lengthIn, modelIn, versionIn, zeroIn, lastZeroIn}
+
+-- 16: "under 14 or over 65,536 bytes, lengths that do not meet exactly, another model or version, trailer zeros not zero"
+abbrev pub malformed : ℕ → List ℕ → Bool
+malformed version bytes =
+    ltb (length bytes) trailerLength
+    || (ltb longestFile (length bytes)
+    || (not (eqb (length bytes) (lengthIn bytes))
+    || (ltb (modelIn bytes) 1
+    || (ltb 4 (modelIn bytes)
+    || (not (eqb (versionIn bytes) version) || (not (eqb (zeroIn bytes) 0) || not (eqb (lastZeroIn bytes) 0)))))))
+
+-- 18: "an answer area too short: .. for the file's reader, each list's length"
+abbrev pub shortArea : List ℕ → Areas → Bool
+shortArea bytes areas =
+    ltb (length (areas .values)) (wellsIn bytes)
+    || (ltb (length (areas .coords)) (2 * wellsIn bytes)
+    || (ltb (length (areas .bases)) (basesIn bytes)
+    || (ltb (length (areas .external)) (externalsIn bytes * wellsIn bytes)
+    || (ltb (length (areas .nodes)) (2 * nodesIn bytes) || ltb (length (areas .nodeExternal)) (externalsIn bytes * nodesIn bytes)))))
+
+-- "after 16"
+abbrev pub readerTests : ℕ → List ℕ → Areas → List Test
+readerTests version bytes areas = test 16 (malformed version bytes) ∷ test 18 (shortArea bytes areas) ∷ []
+
+-- 11: as of a survey, "r and t included"
+unfoldable pub someNumberNotFinite : Survey → Bool
+unfolding numberNotFinite
+someNumberNotFinite s = numberNotFinite s (s .nodeExternal) || (not (finite (s .options .regularization)) || not (finite (s .tolerance)))
+
+-- 16: "over 65,536 bytes or a count over 65,535"
+abbrev pub tooLong : ℕ → Survey → Bool
+tooLong version s =
+    ltb longestFile (length (writerFile version s))
+    || (ltb greatestCount (wells s) || (ltb greatestCount (nodeCount s) || ltb greatestCount (length (s .bases))))
+
+-- 18: "for the writer, the file's length"
+abbrev pub shortFile : ℕ → Survey → List ℕ → Bool
+shortFile version s area = ltb (length area) (length (writerFile version s))
+
+-- "1, 2, 6, 8, 11 (r and t included), 16 (over 65,536 bytes or a count over 65,535), 18, in that order"
+abbrev pub writerTests : ℕ → Survey → List ℕ → List Test
+writerTests version s area =
+    test 1 (wrongCoords s)
+    ∷ test 2 (oddNodes s)
+    ∷ test 6 (wrongExternal s)
+    ∷ test 8 (wrongNodeExternal s (nodeCount s) (s .nodeExternal))
+    ∷ test 11 (someNumberNotFinite s)
+    ∷ test 16 (tooLong version s)
+    ∷ test 18 (shortFile version s area)
+    ∷ []
+
+-- the number that refuses a call of the reader, and one of the writer; 0 where it is accepted
+unfoldable pub readerRefusal : ℕ → List ℕ → Areas → ℕ
+unfolding firstOf
+readerRefusal version bytes areas = firstOf (readerTests version bytes areas)
+
+unfoldable pub writerRefusal : ℕ → Survey → List ℕ → ℕ
+unfolding firstOf someNumberNotFinite writerFile
+writerRefusal version s area = firstOf (writerTests version s area)

@@ -1,0 +1,108 @@
+-- What turns the reader and the writer of a survey file away, as the paper says it and not as tests; and when nothing does.
+use Prim.Native.Nat.{ℕ, _+_, _*_, _%_, _<_, _≤_}
+use mathlib.Core.Path.{_≡_}
+use mathlib.Core.Logic.{_≢_, _⊎_}
+use mathlib.Core.List.{List, [], _∷_}
+use lib.Dec.{T}
+use lib.ListN.{length}
+use Rattle.error.specs.Rules.{Rule, rule}
+use Rattle.ieee.specs.Finite.{NotFinite, allFinite}
+use Rattle.survey.specs.Survey.{Survey, wells, nodeCount, externals}
+use Rattle.survey.specs.Rules.{WrongCoords, OddNodes, WrongExternal, WrongNodeExternal, NumberNotFinite}
+use Rattle.survey_file_theory.specs.Contents.{numbers}
+use Rattle.survey_file_theory.specs.File.{writerFile}
+use Rattle.survey_file_theory.specs.Areas.{Areas}
+use Rattle.survey_file_theory.specs.Trailer.{startIn, wellsIn, nodesIn, basesIn, externalsIn, modelIn, versionIn, zeroIn, lastZeroIn}
+
+-- ---- the reader
+-- how long a file is by its own account: the bytes before S, the numbers, the codes and the trailer
+abbrev pub statedLength : List ℕ → ℕ
+statedLength bytes =
+    startIn bytes
+    + 8 * (5 + 3 * wellsIn bytes + externalsIn bytes * wellsIn bytes + 2 * nodesIn bytes + externalsIn bytes * nodesIn bytes)
+    + basesIn bytes
+    + 14
+
+-- 16: "under 14 or over 65,536 bytes, lengths that do not meet exactly, another model or version, trailer zeros not zero"
+abbrev pub Malformed : ℕ → List ℕ → Type 0
+Malformed version bytes =
+    (length bytes < 14)
+    ⊎ (65536 < length bytes)
+    ⊎ (length bytes ≢ statedLength bytes)
+    ⊎ (modelIn bytes < 1)
+    ⊎ (4 < modelIn bytes)
+    ⊎ (versionIn bytes ≢ version)
+    ⊎ (zeroIn bytes ≢ 0)
+    ⊎ (lastZeroIn bytes ≢ 0)
+
+-- when none of this is so
+pub record WellFormed (version : ℕ) (bytes : List ℕ) : Type 0 where
+  pub least : 14 ≤ length bytes
+  pub most : length bytes ≤ 65536
+  pub meet : length bytes ≡ statedLength bytes
+  pub model-least : 1 ≤ modelIn bytes
+  pub model-most : modelIn bytes ≤ 4
+  pub version-is : versionIn bytes ≡ version
+  pub zero-byte : zeroIn bytes ≡ 0
+  pub last-zero-byte : lastZeroIn bytes ≡ 0
+
+-- 18: "an answer area too short: .. for the file's reader, each list's length"
+abbrev pub ShortArea : List ℕ → Areas → Type 0
+ShortArea bytes areas =
+    (length (areas .values) < wellsIn bytes)
+    ⊎ (length (areas .coords) < 2 * wellsIn bytes)
+    ⊎ (length (areas .bases) < basesIn bytes)
+    ⊎ (length (areas .external) < externalsIn bytes * wellsIn bytes)
+    ⊎ (length (areas .nodes) < 2 * nodesIn bytes)
+    ⊎ (length (areas .nodeExternal) < externalsIn bytes * nodesIn bytes)
+
+-- when none is
+pub record Room (bytes : List ℕ) (areas : Areas) : Type 0 where
+  pub values : wellsIn bytes ≤ length (areas .values)
+  pub coords : 2 * wellsIn bytes ≤ length (areas .coords)
+  pub bases : basesIn bytes ≤ length (areas .bases)
+  pub external : externalsIn bytes * wellsIn bytes ≤ length (areas .external)
+  pub nodes : 2 * nodesIn bytes ≤ length (areas .nodes)
+  pub nodeExternal : externalsIn bytes * nodesIn bytes ≤ length (areas .nodeExternal)
+
+-- "for the file's reader, each list's length, after 16"
+abbrev pub readerRules : ℕ → List ℕ → Areas → List Rule
+readerRules version bytes areas = rule 16 (Malformed version bytes) ∷ rule 18 (ShortArea bytes areas) ∷ []
+
+-- ---- the writer
+-- 11: as of a survey, "r and t included"
+abbrev pub SomeNumberNotFinite : Survey → Type 0
+SomeNumberNotFinite s = NumberNotFinite s (s .nodeExternal) ⊎ NotFinite (s .options .regularization) ⊎ NotFinite (s .tolerance)
+
+-- 16: "over 65,536 bytes or a count over 65,535"
+abbrev pub TooLong : ℕ → Survey → Type 0
+TooLong version s = (65536 < length (writerFile version s)) ⊎ (65535 < wells s) ⊎ (65535 < nodeCount s) ⊎ (65535 < length (s .bases))
+
+-- 18: "for the writer, the file's length"
+abbrev pub ShortFile : ℕ → Survey → List ℕ → Type 0
+ShortFile version s area = length area < length (writerFile version s)
+
+-- "refuses by 1, 2, 6, 8, 11 (r and t included), 16 (over 65,536 bytes or a count over 65,535), 18, in that order"
+abbrev pub writerRules : ℕ → Survey → List ℕ → List Rule
+writerRules version s area =
+    rule 1 (WrongCoords s)
+    ∷ rule 2 (OddNodes s)
+    ∷ rule 6 (WrongExternal s)
+    ∷ rule 8 (WrongNodeExternal s (nodeCount s) (s .nodeExternal))
+    ∷ rule 11 (SomeNumberNotFinite s)
+    ∷ rule 16 (TooLong version s)
+    ∷ rule 18 (ShortFile version s area)
+    ∷ []
+
+-- when none of this is so
+pub record Writable (version : ℕ) (s : Survey) (area : List ℕ) : Type 0 where
+  pub coords : length (s .coords) ≡ 2 * wells s
+  pub nodes : length (s .nodes) % 2 ≡ 0
+  pub external : length (s .external) ≡ externals s * wells s
+  pub nodeExternal : 0 < externals s → length (s .nodeExternal) ≡ externals s * nodeCount s
+  pub finite : T (allFinite (numbers s))
+  pub size : length (writerFile version s) ≤ 65536
+  pub few-wells : wells s ≤ 65535
+  pub few-nodes : nodeCount s ≤ 65535
+  pub few-bases : length (s .bases) ≤ 65535
+  pub room : length (writerFile version s) ≤ length area
