@@ -63,7 +63,7 @@ pub(crate) fn krige_nodes(
         × (p ≤ length (now multipliers)) × (now table ≡ fractionTable) ⌝ }
     ensures { λ _. ⌜ ((external trend : List Float)
         → let s = surveyOf (now (values .entry)) (now (coords .entry)) (now (bases .entry)) external
-        (now (nodes .entry)) (now («node_external» .entry)) options tolerance in
+        options (now (nodes .entry)) (now («node_external» .entry)) tolerance in
         DriftIn s (now (drift .entry))
         → areasOf (now (work .entry)) (now (predicted .exit)) (now (variance .exit)) (now (verdicts .exit)) (now (weights .exit))
         (now (multipliers .exit)) trend

@@ -63,7 +63,7 @@ pub fn universal_kriging_fit(
     ensures { λ r.
         -- the survey, the areas as they were lent, and how the call ended: its number and the areas at exit
         let s = surveyOf (now (values .entry)) (now (coords .entry)) (now («drift_bases» .entry)) (now («external_drift» .entry))
-        (now («query_points» .entry)) (now («query_external_drift» .entry)) options tolerance in
+        options (now («query_points» .entry)) (now («query_external_drift» .entry)) tolerance in
         let a = areasOf (now (work .entry)) (now (predicted .entry)) (now (variance .entry)) (now (verdicts .entry))
         (now (weights .entry)) (now (multipliers .entry)) (now (trend .entry)) in
         let e = outcomeOf r (areasOf (now (work .exit)) (now (predicted .exit)) (now (variance .exit)) (now (verdicts .exit))
@@ -92,9 +92,9 @@ pub fn universal_kriging_fit(
         coords,
         drift_bases,
         external_drift,
+        options,
         query_points,
         query_external_drift,
-        options,
         tolerance,
         work,
         predicted,
@@ -144,13 +144,13 @@ fn fit_taken(
     multipliers: &mut [f64],
     trend: &mut [f64],
 ) -> Fit
-    requires { ⌜ refusal base (surveyOf (now values) (now coords) (now bases) (now external) (now nodes) (now «node_external») options tolerance)
+    requires { ⌜ refusal base (surveyOf (now values) (now coords) (now bases) (now external) options (now nodes) (now «node_external») tolerance)
         (areasOf (now work) (now predicted) (now variance) (now verdicts) (now weights) (now multipliers) (now trend)) ≡ 0 ⌝ }
     ensures { λ r. ⌜ outcomeOf r (areasOf (now (work .exit)) (now (predicted .exit)) (now (variance .exit)) (now (verdicts .exit))
         (now (weights .exit)) (now (multipliers .exit)) (now (trend .exit)))
         ≡ fitted base
         (surveyOf (now (values .entry)) (now (coords .entry)) (now (bases .entry)) (now (external .entry))
-        (now (nodes .entry)) (now («node_external» .entry)) options tolerance)
+        options (now (nodes .entry)) (now («node_external» .entry)) tolerance)
         (areasOf (now (work .entry)) (now (predicted .entry)) (now (variance .entry)) (now (verdicts .entry))
         (now (weights .entry)) (now (multipliers .entry)) (now (trend .entry))) ⌝ }
 {

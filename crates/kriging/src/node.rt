@@ -126,7 +126,7 @@ pub(crate) fn krige_node(
     ensures byte { λ r. ⌜ r .verdict < 256 ⌝ }
     ensures node { λ r. ⌜ ((external : List Float)
         → let s = surveyOf (now (values .entry)) (now (coords .entry)) (now (bases .entry)) external
-        (now (nodes .entry)) (now («node_external» .entry)) options tolerance in
+        options (now (nodes .entry)) (now («node_external» .entry)) tolerance in
         let node = nodeOf s (now (work .entry)) q in
         DriftIn s (now (drift .entry))
         → (take (size s) (r .z) ≡ node .z) × (r .figure ≡ node .figure) × (r .variance ≡ node .variance) × (r .verdict ≡ node .verdict)) ⌝ }

@@ -61,9 +61,9 @@ pub(crate) fn fit_refusal(
     coords: &[f64],
     bases: &[u8],
     external: &[f64],
+    options: UniversalKrigingOptions,
     nodes: &[f64],
     node_external: &[f64],
-    options: UniversalKrigingOptions,
     tolerance: f64,
     work: &[f64],
     predicted: &[f64],
@@ -75,7 +75,7 @@ pub(crate) fn fit_refusal(
 ) -> Judgement
     ensures { λ r. ⌜ judged r ≡ refusal limits
         (surveyOf (now (values .entry)) (now (coords .entry)) (now (bases .entry)) (now (external .entry))
-        (now (nodes .entry)) (now («node_external» .entry)) options tolerance)
+        options (now (nodes .entry)) (now («node_external» .entry)) tolerance)
         (areasOf (now (work .entry)) (now (predicted .entry)) (now (variance .entry)) (now (verdicts .entry))
         (now (weights .entry)) (now (multipliers .entry)) (now (trend .entry))) ⌝ }
 {
@@ -85,9 +85,9 @@ pub(crate) fn fit_refusal(
         coords,
         bases,
         external,
+        options,
         nodes,
         node_external,
-        options,
         tolerance,
     );
     if let Judgement::Refused(_) = survey {

@@ -93,13 +93,13 @@ pub extern "C" fn nakwemol_write(
     coords: &[f64],
     bases: &[u8],
     external: &[f64],
-    nodes: &[f64],
-    node_external: &[f64],
     model: u8,
     nugget: f64,
     sill: f64,
     range: f64,
     regularization: f64,
+    nodes: &[f64],
+    node_external: &[f64],
     tolerance: f64,
     file: &mut [u8],
     length: &mut usize,
@@ -107,7 +107,7 @@ pub extern "C" fn nakwemol_write(
     ensures { λ r. ⌜ ending r (now (length .exit)) (now (file .exit))
         ≡ byModel (modelOf model) (ending unknownCode (now (length .entry)) (now (file .entry)))
         (λ m. lengthTold (Writer.writer baseVersion (surveyOf (now (values .entry)) (now (coords .entry)) (now (bases .entry)) (now (external .entry))
-        (now (nodes .entry)) (now («node_external» .entry)) (optionsOf m nugget sill range regularization) tolerance) (now (file .entry)))
+        (optionsOf m nugget sill range regularization) (now (nodes .entry)) (now («node_external» .entry)) tolerance) (now (file .entry)))
         (now (length .entry))) ⌝ }
 {
     let coded = model_of(model);
@@ -123,9 +123,9 @@ pub extern "C" fn nakwemol_write(
         coords,
         bases,
         external,
+        options,
         nodes,
         node_external,
-        options,
         tolerance,
         file,
     );

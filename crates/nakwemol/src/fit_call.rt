@@ -32,13 +32,13 @@ pub extern "C" fn nakwemol_fit(
     coords: &[f64],
     bases: &[u8],
     external: &[f64],
-    nodes: &[f64],
-    node_external: &[f64],
     model: u8,
     nugget: f64,
     sill: f64,
     range: f64,
     regularization: f64,
+    nodes: &[f64],
+    node_external: &[f64],
     tolerance: f64,
     work: &mut [f64],
     predicted: &mut [f64],
@@ -55,7 +55,7 @@ pub extern "C" fn nakwemol_fit(
         (now (weights .exit)) (now (multipliers .exit)) (now (trend .exit)))
         ≡ byModel (modelOf model) (outcome unknownCode a)
         (λ m. fitted base (surveyOf (now (values .entry)) (now (coords .entry)) (now (bases .entry)) (now (external .entry))
-        (now (nodes .entry)) (now («node_external» .entry)) (optionsOf m nugget sill range regularization) tolerance) a) ⌝ }
+        (optionsOf m nugget sill range regularization) (now (nodes .entry)) (now («node_external» .entry)) tolerance) a) ⌝ }
 {
     let coded = model_of(model);
     let CodedModel::Known(known) = coded else {

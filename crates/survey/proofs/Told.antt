@@ -18,10 +18,12 @@ use Rattle.survey.specs.declared.Limits.{Limits}
 use Rattle.survey.specs.Survey.{Survey, wells, columns, externals}
 use Rattle.survey.specs.Rules.{WrongCoords, OddNodes, BadCode, SomeBadCode, BadAmount, WrongExternal, WrongNodeExternal}
 use Rattle.survey.specs.Rules.{TooMany, VariogramNotFinite, NumberNotFinite}
-use Rattle.survey.specs.Rules.{listRules, limitRules, numberRules, modelRules, surveyRules}
+use Rattle.survey.specs.Rules.{coordRules, nodeRules, basisRules, nodeExternalRules, limitRules, toleranceRules, finiteRules, modelRules}
+use Rattle.survey.specs.Rules.{listRules, numberRules, surveyRules}
 use Rattle.survey.specs.Refusals.{wrongCoords, oddNodes, badCode, badAmount, wrongExternal, wrongNodeExternal}
 use Rattle.survey.specs.Refusals.{tooMany, variogramNotFinite, numberNotFinite}
-use Rattle.survey.specs.Refusals.{listTests, limitTests, numberTests, modelTests, surveyTests}
+use Rattle.survey.specs.Refusals.{coordTests, nodeTests, basisTests, nodeExternalTests, limitTests, toleranceTests, finiteTests, modelTests}
+use Rattle.survey.specs.Refusals.{listTests, numberTests, surveyTests}
 
 -- ---- test by test
 pub coords-told : (s : Survey) → Tells (wrongCoords s) (WrongCoords s)
@@ -69,26 +71,42 @@ numbers-told s e =
     (either (some-not-finite (s .external)) (either (some-not-finite (s .nodes)) (both (below 0 (externals s)) (some-not-finite e))))))
 
 -- ---- part by part
-lists-told : (s : Survey) (m : ℕ) (e : List Float) → Told (listTests s m e) (listRules s m e)
-lists-told s m e =
-    tells 1 (coords-told s)
-    (tells 2 (nodes-told s)
-    (tells 3 (equal (length (s .bases)) 0)
+pub coord-told : (s : Survey) → Told (coordTests s) (coordRules s)
+coord-told s = tells 1 (coords-told s) no-more
+
+pub node-told : (s : Survey) → Told (nodeTests s) (nodeRules s)
+node-told s = tells 2 (nodes-told s) no-more
+
+pub basis-told : (s : Survey) → Told (basisTests s) (basisRules s)
+basis-told s =
+    tells 3 (equal (length (s .bases)) 0)
     (tells 4 (codes-told (s .bases))
     (tells 5 (amount-told (s .options .regularization))
     (tells 6 (external-told s)
-    (tells 7 (below (wells s) (columns s))
-    (tells 8 (node-external-told s m e) no-more)))))))
+    (tells 7 (below (wells s) (columns s)) no-more))))
 
-limit-told : (limits : Limits) (s : Survey) (m : ℕ) → Told (limitTests limits s m) (limitRules limits s m)
+pub node-externals-told : (s : Survey) (m : ℕ) (e : List Float) → Told (nodeExternalTests s m e) (nodeExternalRules s m e)
+node-externals-told s m e = tells 8 (node-external-told s m e) no-more
+
+pub limit-told : (limits : Limits) (s : Survey) (m : ℕ) → Told (limitTests limits s m) (limitRules limits s m)
 limit-told limits s m = tells 9 (many-told limits s m) no-more
 
-number-told : (s : Survey) (e : List Float) → Told (numberTests s e) (numberRules s e)
-number-told s e = tells 10 (amount-told (s .tolerance)) (tells 11 (numbers-told s e) no-more)
+pub tolerance-told : (t : Float) → Told (toleranceTests t) (toleranceRules t)
+tolerance-told t = tells 10 (amount-told t) no-more
+
+pub finite-told : (s : Survey) (e : List Float) → Told (finiteTests s e) (finiteRules s e)
+finite-told s e = tells 11 (numbers-told s e) no-more
 
 pub model-told : (v : Variogram) → Told (modelTests v) (modelRules v)
 model-told v = tells 12 (told (wrongModel v) (wrong-model v)) no-more
 
+-- ---- joined
+pub list-told : (s : Survey) (m : ℕ) (e : List Float) → Told (listTests s m e) (listRules s m e)
+list-told s m e = joined (coord-told s) (joined (node-told s) (joined (basis-told s) (node-externals-told s m e)))
+
+pub number-told : (s : Survey) (e : List Float) → Told (numberTests s e) (numberRules s e)
+number-told s e = joined (tolerance-told (s .tolerance)) (finite-told s e)
+
 pub survey-told : (limits : Limits) (s : Survey) (m : ℕ) (e : List Float) → Told (surveyTests limits s m e) (surveyRules limits s m e)
 unfolding surveyTests
-survey-told limits s m e = joined (lists-told s m e) (joined (limit-told limits s m) (joined (number-told s e) (model-told (s .options .variogram))))
+survey-told limits s m e = joined (list-told s m e) (joined (limit-told limits s m) (joined (number-told s e) (model-told (s .options .variogram))))

@@ -66,28 +66,44 @@ numberNotFinite s e =
     || (not (allFinite (s .coords))
     || (not (allFinite (s .external)) || (not (allFinite (s .nodes)) || (ltb 0 (externals s) && not (allFinite e))))))
 
--- ---- tests, in the order of the rules
-abbrev pub listTests : Survey → ℕ → List Float → List Test
-listTests s m e =
-    test 1 (wrongCoords s)
-    ∷ test 2 (oddNodes s)
-    ∷ test 3 (noBasis s)
+-- ---- tests, in single parts, as the rules are
+abbrev pub coordTests : Survey → List Test
+coordTests s = test 1 (wrongCoords s) ∷ []
+
+abbrev pub nodeTests : Survey → List Test
+nodeTests s = test 2 (oddNodes s) ∷ []
+
+abbrev pub basisTests : Survey → List Test
+basisTests s =
+    test 3 (noBasis s)
     ∷ test 4 (any badCode (s .bases))
     ∷ test 5 (badAmount (s .options .regularization))
     ∷ test 6 (wrongExternal s)
     ∷ test 7 (tooFewWells s)
-    ∷ test 8 (wrongNodeExternal s m e)
     ∷ []
+
+abbrev pub nodeExternalTests : Survey → ℕ → List Float → List Test
+nodeExternalTests s m e = test 8 (wrongNodeExternal s m e) ∷ []
 
 abbrev pub limitTests : Limits → Survey → ℕ → List Test
 limitTests limits s m = test 9 (tooMany limits s m) ∷ []
 
-abbrev pub numberTests : Survey → List Float → List Test
-numberTests s e = test 10 (badAmount (s .tolerance)) ∷ test 11 (numberNotFinite s e) ∷ []
+abbrev pub toleranceTests : Float → List Test
+toleranceTests t = test 10 (badAmount t) ∷ []
+
+abbrev pub finiteTests : Survey → List Float → List Test
+finiteTests s e = test 11 (numberNotFinite s e) ∷ []
 
 -- 12: "an Exponential survey whose range is not above zero"
 abbrev pub modelTests : Variogram → List Test
 modelTests v = test 12 (wrongModel v) ∷ []
+
+-- ---- joined: 1 to 8, the lists; 10 and 11, the numbers; and all of them, 1 to 12
+abbrev pub listTests : Survey → ℕ → List Float → List Test
+listTests s m e = coordTests s ++ (nodeTests s ++ (basisTests s ++ nodeExternalTests s m e))
+
+abbrev pub numberTests : Survey → List Float → List Test
+numberTests s e = toleranceTests (s .tolerance) ++ finiteTests s e
 
 unfoldable pub surveyTests : Limits → Survey → ℕ → List Float → List Test
 unfolding numberNotFinite

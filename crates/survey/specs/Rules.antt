@@ -1,5 +1,6 @@
 -- What turns a survey away, as the paper says it and not as tests: paper 01, "What turns a call away", 1 to 12, each from its own line.
--- The rules come in parts, which the calls join. How many nodes there are, m, and their externals, e, stand apart from the survey's own lists.
+-- The rules come in single parts, which the calls join, so that a call can widen one number or put one in between by one line.
+-- How many nodes there are, m, and their externals, e, stand apart from the survey's own lists.
 use Prim.Native.Nat.{ℕ, _*_, _%_, _<_}
 use mathlib.Core.Path.{_≡_}
 use mathlib.Core.Logic.{_≢_, _⊎_}
@@ -71,32 +72,45 @@ NumberNotFinite s e =
     ⊎ SomeNotFinite (s .nodes)
     ⊎ ((0 < externals s) × SomeNotFinite e)
 
--- ---- rules, in the order in which they count
--- the lists
-abbrev pub listRules : Survey → ℕ → List Float → List Rule
-listRules s m e =
-    rule 1 (WrongCoords s)
-    ∷ rule 2 (OddNodes s)
-    ∷ rule 3 (NoBasis s)
+-- ---- rules, in single parts: a call joins those that it has, in the order in which they count there
+abbrev pub coordRules : Survey → List Rule
+coordRules s = rule 1 (WrongCoords s) ∷ []
+
+abbrev pub nodeRules : Survey → List Rule
+nodeRules s = rule 2 (OddNodes s) ∷ []
+
+-- the codes, with r and what they ask of the wells
+abbrev pub basisRules : Survey → List Rule
+basisRules s =
+    rule 3 (NoBasis s)
     ∷ rule 4 (SomeBadCode (s .bases))
     ∷ rule 5 (BadAmount (s .options .regularization))
     ∷ rule 6 (WrongExternal s)
     ∷ rule 7 (TooFewWells s)
-    ∷ rule 8 (WrongNodeExternal s m e)
     ∷ []
 
--- the limits
+abbrev pub nodeExternalRules : Survey → ℕ → List Float → List Rule
+nodeExternalRules s m e = rule 8 (WrongNodeExternal s m e) ∷ []
+
 abbrev pub limitRules : Limits → Survey → ℕ → List Rule
 limitRules limits s m = rule 9 (TooMany limits s m) ∷ []
 
--- the numbers
-abbrev pub numberRules : Survey → List Float → List Rule
-numberRules s e = rule 10 (BadAmount (s .tolerance)) ∷ rule 11 (NumberNotFinite s e) ∷ []
+abbrev pub toleranceRules : Float → List Rule
+toleranceRules t = rule 10 (BadAmount t) ∷ []
 
--- the model: "12 now means an Exponential survey whose range is not above zero, and nothing else"
+abbrev pub finiteRules : Survey → List Float → List Rule
+finiteRules s e = rule 11 (NumberNotFinite s e) ∷ []
+
+-- "12 now means an Exponential survey whose range is not above zero, and nothing else"
 abbrev pub modelRules : Variogram → List Rule
 modelRules v = rule 12 (WrongModel v) ∷ []
 
--- all of them: 1 to 12
+-- ---- joined: 1 to 8, the lists; 10 and 11, the numbers; and all of them, 1 to 12
+abbrev pub listRules : Survey → ℕ → List Float → List Rule
+listRules s m e = coordRules s ++ (nodeRules s ++ (basisRules s ++ nodeExternalRules s m e))
+
+abbrev pub numberRules : Survey → List Float → List Rule
+numberRules s e = toleranceRules (s .tolerance) ++ finiteRules s e
+
 abbrev pub surveyRules : Limits → Survey → ℕ → List Float → List Rule
 surveyRules limits s m e = listRules s m e ++ (limitRules limits s m ++ (numberRules s e ++ modelRules (s .options .variogram)))

@@ -8,27 +8,27 @@ use lib.Ieee.{Float, nan}
 use Rattle.survey.specs.declared.UniversalKrigingOptions.{UniversalKrigingOptions}
 
 -- The lists and the numbers of one survey: the values of the wells, their coordinates, the codes of the drift bases, the wells' external values,
--- the nodes and their external values, the options with the variogram and r, and the tolerance t
+-- the options with the variogram and r, the nodes and their external values, and the tolerance t. Every call takes them in this order
 pub record Survey : Type 0 where
   pub values : List Float
   pub coords : List Float
   pub bases : List ℕ
   pub external : List Float
+  pub options : UniversalKrigingOptions
   pub nodes : List Float
   pub nodeExternal : List Float
-  pub options : UniversalKrigingOptions
   pub tolerance : Float
 
 -- the survey with these lists and numbers
-abbrev pub surveyOf : List Float → List Float → List ℕ → List Float → List Float → List Float → UniversalKrigingOptions → Float → Survey
-surveyOf values coords bases external nodes nodeExternal options tolerance = record {
+abbrev pub surveyOf : List Float → List Float → List ℕ → List Float → UniversalKrigingOptions → List Float → List Float → Float → Survey
+surveyOf values coords bases external options nodes nodeExternal tolerance = record {
   values = values;
   coords = coords;
   bases = bases;
   external = external;
+  options = options;
   nodes = nodes;
   nodeExternal = nodeExternal;
-  options = options;
   tolerance = tolerance;
 }
 

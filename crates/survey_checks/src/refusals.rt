@@ -11,11 +11,12 @@ use variogram::Variogram;
 use variogram::VariogramModel;
 ghost use mathlib.Core.Path.{_≡_};
 ghost use lib.Ieee.{Float};
+ghost use lib.ListN.{length};
 ghost use Rattle.error.specs.Numbers.{judged};
 ghost use Rattle.error.specs.Tests.{any, firstOf};
-ghost use Rattle.survey.specs.Survey.{Survey, surveyOf, wells};
+ghost use Rattle.survey.specs.Survey.{Survey, surveyOf, wells, externals};
 ghost use Rattle.survey.specs.Refusals.{badCode, badAmount, variogramNotFinite, numberNotFinite};
-ghost use Rattle.survey.specs.Refusals.{listTests, limitTests, numberTests, modelTests, surveyRefusal};
+ghost use Rattle.survey.specs.Refusals.{basisTests, listTests, limitTests, numberTests, modelTests, surveyRefusal};
 
 // 4: whether a code is outside 1 to 4.
 fn has_bad_code(bases: &[u8]) -> bool
@@ -40,20 +41,49 @@ fn bad_amount(x: f64) -> bool
     x < 0.0 || !ieee::is_finite(x)
 }
 
+// 3 to 7: the codes of n wells, k of them external, with so many external values and the regularisation.
+pub fn basis_refusal(
+    n: usize,
+    bases: &[u8],
+    k: usize,
+    external_length: usize,
+    regularization: f64,
+) -> Judgement
+    ensures { λ r. ⌜ ((s : Survey) → wells s ≡ n → s .bases ≡ now (bases .entry) → externals s ≡ k → length (s .external) ≡ «external_length»
+        → s .options .regularization ≡ regularization → judged r ≡ firstOf (basisTests s)) ⌝ }
+{
+    if bases.len() == 0 {
+        return Judgement::Refused(Refusal::NoBasis);
+    }
+    if has_bad_code(bases) {
+        return Judgement::Refused(Refusal::BasisCode);
+    }
+    if bad_amount(regularization) {
+        return Judgement::Refused(Refusal::Regularization);
+    }
+    if !is_product(external_length, k, n) {
+        return Judgement::Refused(Refusal::ExternalLength);
+    }
+    if more_columns(bases, n) {
+        return Judgement::Refused(Refusal::TooFewWells);
+    }
+    Judgement::Accepted
+}
+
 // 1 to 8: the lists.
 pub fn list_refusal(
     values: &[f64],
     coords: &[f64],
     bases: &[u8],
     external: &[f64],
+    options: UniversalKrigingOptions,
     nodes: &[f64],
     m: usize,
     node_external: &[f64],
-    options: UniversalKrigingOptions,
 ) -> Judgement
     ensures { λ r. ⌜ ((t : Float) → judged r ≡ firstOf (listTests
         (surveyOf (now (values .entry)) (now (coords .entry)) (now (bases .entry)) (now (external .entry))
-        (now (nodes .entry)) (now («node_external» .entry)) options t)
+        options (now (nodes .entry)) (now («node_external» .entry)) t)
         m (now («node_external» .entry)))) ⌝ }
 {
     let n = values.len();
@@ -63,21 +93,10 @@ pub fn list_refusal(
     if nodes.len() % 2 != 0 {
         return Judgement::Refused(Refusal::NodesLength);
     }
-    if bases.len() == 0 {
-        return Judgement::Refused(Refusal::NoBasis);
-    }
-    if has_bad_code(bases) {
-        return Judgement::Refused(Refusal::BasisCode);
-    }
-    if bad_amount(options.regularization) {
-        return Judgement::Refused(Refusal::Regularization);
-    }
-    let k = external_columns(bases);
-    if !is_product(external.len(), k, n) {
-        return Judgement::Refused(Refusal::ExternalLength);
-    }
-    if more_columns(bases, n) {
-        return Judgement::Refused(Refusal::TooFewWells);
+    let k = external_columns(bases); // once for 6 and 8
+    let codes = basis_refusal(n, bases, k, external.len(), options.regularization);
+    if let Judgement::Refused(_) = codes {
+        return codes;
     }
     if k > 0 && !is_product(node_external.len(), k, m) {
         return Judgement::Refused(Refusal::NodeExternalLength);
@@ -120,13 +139,13 @@ pub fn number_not_finite(
     coords: &[f64],
     bases: &[u8],
     external: &[f64],
+    options: UniversalKrigingOptions,
     nodes: &[f64],
     node_external: &[f64],
-    options: UniversalKrigingOptions,
 ) -> bool
     ensures { λ r. ⌜ ((t : Float) → r ≡ numberNotFinite
         (surveyOf (now (values .entry)) (now (coords .entry)) (now (bases .entry)) (now (external .entry))
-        (now (nodes .entry)) (now («node_external» .entry)) options t)
+        options (now (nodes .entry)) (now («node_external» .entry)) t)
         (now («node_external» .entry))) ⌝ }
 {
     if variogram_not_finite(options.variogram) {
@@ -153,14 +172,14 @@ pub fn number_refusal(
     coords: &[f64],
     bases: &[u8],
     external: &[f64],
+    options: UniversalKrigingOptions,
     nodes: &[f64],
     node_external: &[f64],
-    options: UniversalKrigingOptions,
     tolerance: f64,
 ) -> Judgement
     ensures { λ r. ⌜ judged r ≡ firstOf (numberTests
         (surveyOf (now (values .entry)) (now (coords .entry)) (now (bases .entry)) (now (external .entry))
-        (now (nodes .entry)) (now («node_external» .entry)) options tolerance)
+        options (now (nodes .entry)) (now («node_external» .entry)) tolerance)
         (now («node_external» .entry))) ⌝ }
 {
     if bad_amount(tolerance) {
@@ -171,9 +190,9 @@ pub fn number_refusal(
         coords,
         bases,
         external,
+        options,
         nodes,
         node_external,
-        options,
     ) {
         return Judgement::Refused(Refusal::NotFinite);
     }
@@ -206,14 +225,14 @@ pub fn survey_refusal(
     coords: &[f64],
     bases: &[u8],
     external: &[f64],
+    options: UniversalKrigingOptions,
     nodes: &[f64],
     node_external: &[f64],
-    options: UniversalKrigingOptions,
     tolerance: f64,
 ) -> Judgement
     ensures { λ r. ⌜ judged r ≡ surveyRefusal limits
         (surveyOf (now (values .entry)) (now (coords .entry)) (now (bases .entry)) (now (external .entry))
-        (now (nodes .entry)) (now («node_external» .entry)) options tolerance) ⌝ }
+        options (now (nodes .entry)) (now («node_external» .entry)) tolerance) ⌝ }
 {
     let m = nodes.len() / 2;
     let lists = list_refusal(
@@ -221,10 +240,10 @@ pub fn survey_refusal(
         coords,
         bases,
         external,
+        options,
         nodes,
         m,
         node_external,
-        options,
     );
     if let Judgement::Refused(_) = lists {
         return lists;
@@ -238,9 +257,9 @@ pub fn survey_refusal(
         coords,
         bases,
         external,
+        options,
         nodes,
         node_external,
-        options,
         tolerance,
     );
     if let Judgement::Refused(_) = numbers {

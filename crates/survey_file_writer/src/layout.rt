@@ -80,17 +80,17 @@ fn put_all_numbers(
     coords: &[f64],
     bases: &[u8],
     external: &[f64],
+    options: UniversalKrigingOptions,
     nodes: &[f64],
     node_external: &[f64],
-    options: UniversalKrigingOptions,
     tolerance: f64,
     file: &mut [u8],
 ) -> usize
-    requires { ⌜ 8 * length (numbers (surveyOf (now values) (now coords) (now bases) (now external) (now nodes) (now «node_external») options tolerance))
+    requires { ⌜ 8 * length (numbers (surveyOf (now values) (now coords) (now bases) (now external) options (now nodes) (now «node_external») tolerance))
         ≤ length (now file) ⌝ }
     ensures { λ r. ⌜ Put 0 (f64Bytes (numbers
         (surveyOf (now (values .entry)) (now (coords .entry)) (now (bases .entry)) (now (external .entry))
-        (now (nodes .entry)) (now («node_external» .entry)) options tolerance)))
+        options (now (nodes .entry)) (now («node_external» .entry)) tolerance)))
         (now (file .entry)) r (now (file .exit)) ⌝ }
 {
     let v = options.variogram;
@@ -110,17 +110,17 @@ pub(crate) fn put_file(
     coords: &[f64],
     bases: &[u8],
     external: &[f64],
+    options: UniversalKrigingOptions,
     nodes: &[f64],
     node_external: &[f64],
-    options: UniversalKrigingOptions,
     tolerance: f64,
     file: &mut [u8],
 ) -> usize
     requires { ⌜ length (writerFile baseVersion
-        (surveyOf (now values) (now coords) (now bases) (now external) (now nodes) (now «node_external») options tolerance)) ≤ length (now file) ⌝ }
+        (surveyOf (now values) (now coords) (now bases) (now external) options (now nodes) (now «node_external») tolerance)) ≤ length (now file) ⌝ }
     ensures { λ r. ⌜ Put 0 (writerFile baseVersion
         (surveyOf (now (values .entry)) (now (coords .entry)) (now (bases .entry)) (now (external .entry))
-        (now (nodes .entry)) (now («node_external» .entry)) options tolerance))
+        options (now (nodes .entry)) (now («node_external» .entry)) tolerance))
         (now (file .entry)) r (now (file .exit)) ⌝ }
 {
     let mut at = put_all_numbers(
@@ -128,9 +128,9 @@ pub(crate) fn put_file(
         coords,
         bases,
         external,
+        options,
         nodes,
         node_external,
-        options,
         tolerance,
         file,
     );

@@ -25,16 +25,16 @@ pub fn write_survey(
     coords: &[f64],
     bases: &[u8],
     external: &[f64],
+    options: UniversalKrigingOptions,
     nodes: &[f64],
     node_external: &[f64],
-    options: UniversalKrigingOptions,
     tolerance: f64,
     file: &mut [u8],
 ) -> Written
     ensures { λ r.
         -- the survey, and how the call ended: its number, how many bytes were written, and the file at exit
         let s = surveyOf (now (values .entry)) (now (coords .entry)) (now (bases .entry)) (now (external .entry))
-        (now (nodes .entry)) (now («node_external» .entry)) options tolerance in
+        options (now (nodes .entry)) (now («node_external» .entry)) tolerance in
         let e = outcomeOf r (now (file .exit)) in
         -- the whole of it, refused calls too
         let equation : Type 0 = e ≡ writer baseVersion s (now (file .entry)) in
@@ -50,9 +50,9 @@ pub fn write_survey(
         coords,
         bases,
         external,
+        options,
         nodes,
         node_external,
-        options,
         tolerance,
         file,
     );
@@ -64,9 +64,9 @@ pub fn write_survey(
         coords,
         bases,
         external,
+        options,
         nodes,
         node_external,
-        options,
         tolerance,
         file,
     );

@@ -34,7 +34,7 @@ fn length_refusal(
 ) -> Judgement
     ensures { λ r. ⌜ ((o : UniversalKrigingOptions) (t : Float) → judged r ≡ firstOf (lengthTests
         (surveyOf (now (values .entry)) (now (coords .entry)) (now (bases .entry)) (now (external .entry))
-        (now (nodes .entry)) (now («node_external» .entry)) o t))) ⌝ }
+        o (now (nodes .entry)) (now («node_external» .entry)) t))) ⌝ }
 {
     let n = values.len();
     if coords.len() != 2 * n {
@@ -59,23 +59,23 @@ fn some_number_not_finite(
     coords: &[f64],
     bases: &[u8],
     external: &[f64],
+    options: UniversalKrigingOptions,
     nodes: &[f64],
     node_external: &[f64],
-    options: UniversalKrigingOptions,
     tolerance: f64,
 ) -> bool
     ensures { λ r. ⌜ r ≡ someNumberNotFinite
         (surveyOf (now (values .entry)) (now (coords .entry)) (now (bases .entry)) (now (external .entry))
-        (now (nodes .entry)) (now («node_external» .entry)) options tolerance) ⌝ }
+        options (now (nodes .entry)) (now («node_external» .entry)) tolerance) ⌝ }
 {
     if number_not_finite(
         values,
         coords,
         bases,
         external,
+        options,
         nodes,
         node_external,
-        options,
     ) {
         return true;
     }
@@ -106,7 +106,7 @@ fn number_count(
 ) -> usize
     ensures { λ r. ⌜ ((o : UniversalKrigingOptions) (t : Float) → r ≡ length (numbers
         (surveyOf (now (values .entry)) (now (coords .entry)) (now (bases .entry)) (now (external .entry))
-        (now (nodes .entry)) (now («node_external» .entry)) o t))) ⌝ }
+        o (now (nodes .entry)) (now («node_external» .entry)) t))) ⌝ }
 {
     let taken = taken_externals(bases, node_external.len());
     5 + values.len() + coords.len() + external.len() + nodes.len() + taken
@@ -132,15 +132,15 @@ pub(crate) fn writer_refusal(
     coords: &[f64],
     bases: &[u8],
     external: &[f64],
+    options: UniversalKrigingOptions,
     nodes: &[f64],
     node_external: &[f64],
-    options: UniversalKrigingOptions,
     tolerance: f64,
     file: &[u8],
 ) -> Judgement
     ensures { λ r. ⌜ judged r ≡ writerRefusal baseVersion
         (surveyOf (now (values .entry)) (now (coords .entry)) (now (bases .entry)) (now (external .entry))
-        (now (nodes .entry)) (now («node_external» .entry)) options tolerance)
+        options (now (nodes .entry)) (now («node_external» .entry)) tolerance)
         (now (file .entry)) ⌝ }
 {
     let lengths = length_refusal(values, coords, bases, external, nodes, node_external);
@@ -152,9 +152,9 @@ pub(crate) fn writer_refusal(
         coords,
         bases,
         external,
+        options,
         nodes,
         node_external,
-        options,
         tolerance,
     ) {
         return Judgement::Refused(Refusal::NotFinite);

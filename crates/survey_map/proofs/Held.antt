@@ -56,7 +56,7 @@ module _ (bytes : List ℕ) where
         let nodes = first (after .nodes) (surveyIn bytes .nodes) _ (2 * nodesIn bytes) (l .nodes) (f .nodes) in
         let nodeExternal = ap (λ (k : ℕ). take (k * nodesIn bytes) (after .nodeExternal)) k
         ∙ first (after .nodeExternal) (surveyIn bytes .nodeExternal) _ (externalsIn bytes * nodesIn bytes) (l .nodeExternal) (f .nodeExternal) in
-        λ i. surveyOf (values i) (coords i) (codes i) (external i) (nodes i) (nodeExternal i) (surveyIn bytes .options) (surveyIn bytes .tolerance)
+        λ i. surveyOf (values i) (coords i) (codes i) (external i) (surveyIn bytes .options) (nodes i) (nodeExternal i) (surveyIn bytes .tolerance)
 
 -- ---- after a call that read
 module _ (bytes : List ℕ) (before after : Areas) (h : Header) (e : Ends baseVersion bytes before (outcomeOf (Read.Done h) after)) where

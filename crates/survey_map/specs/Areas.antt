@@ -62,7 +62,7 @@ abbrev pub surveyHeld : Header → file.Areas → Survey
 surveyHeld h a =
     surveyOf (take (h .wells) (a .values)) (take (2 * h .wells) (a .coords)) (take (h .bases) (a .bases))
     (take (externalsHeld h a * h .wells) (a .external))
+    (h .options)
     (take (2 * h .nodes) (a .nodes))
     (take (externalsHeld h a * h .nodes) (a .nodeExternal))
-    (h .options)
     (h .tolerance)

@@ -93,11 +93,11 @@ pub fn print_fit(
 ) -> Printed
     ensures equation { λ r. ⌜ outcomeOf r (now (text .exit)) ≡ printed
         (surveyText (surveyOf (now (values .entry)) (now (coords .entry)) (now (bases .entry)) (now (external .entry))
-        (now (nodes .entry)) (now («node_external» .entry)) options tolerance))
+        options (now (nodes .entry)) (now («node_external» .entry)) tolerance))
         (now (text .entry)) ⌝ }
     ensures longest { λ _. ⌜ length
         (surveyText (surveyOf (now (values .entry)) (now (coords .entry)) (now (bases .entry)) (now (external .entry))
-        (now (nodes .entry)) (now («node_external» .entry)) options tolerance))
+        options (now (nodes .entry)) (now («node_external» .entry)) tolerance))
         ≤ longest ⌝ }
 {
     let mut work = [0.0; WORK];

@@ -64,8 +64,8 @@ at-fitted c = at-work c .before .before
 abbrev survey-of : tie.After-fit-refusal → Survey
 survey-of c =
     let a = at-entry c .args in
-    surveyOf (a .values .now) (a .coords .now) (a .drift-bases .now) (a .external-drift .now) (a .query-points .now) (a .query-external-drift .now)
-    (a .options) (a .tolerance)
+    surveyOf (a .values .now) (a .coords .now) (a .drift-bases .now) (a .external-drift .now) (a .options) (a .query-points .now)
+    (a .query-external-drift .now) (a .tolerance)
 
 abbrev areas-of : tie.After-fit-refusal → Areas
 areas-of c =

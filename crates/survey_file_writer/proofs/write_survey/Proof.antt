@@ -31,7 +31,7 @@ at-entry c = half-way (at-lists c) .before .before .before
 abbrev survey-of : tie.After-writer-refusal → Survey
 survey-of c =
     let a = at-entry c .args in
-    surveyOf (a .values .now) (a .coords .now) (a .bases .now) (a .external .now) (a .nodes .now) (a .node-external .now) (a .options) (a .tolerance)
+    surveyOf (a .values .now) (a .coords .now) (a .bases .now) (a .external .now) (a .options) (a .nodes .now) (a .node-external .now) (a .tolerance)
 
 abbrev file-of : tie.After-writer-refusal → List ℕ
 file-of c = at-entry c .args .file .now

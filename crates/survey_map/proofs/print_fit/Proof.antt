@@ -44,7 +44,7 @@ at-refused c = c .before .before
 abbrev survey-of : tie.After-universal-kriging-fit → Survey
 survey-of c =
     let a = at-entry c .args in
-    surveyOf (a .values .now) (a .coords .now) (a .bases .now) (a .external .now) (a .nodes .now) (a .node-external .now) (a .options) (a .tolerance)
+    surveyOf (a .values .now) (a .coords .now) (a .bases .now) (a .external .now) (a .options) (a .nodes .now) (a .node-external .now) (a .tolerance)
 
 abbrev left : tie.After-universal-kriging-fit → Areas
 left c =

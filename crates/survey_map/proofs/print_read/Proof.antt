@@ -52,9 +52,9 @@ survey-of c k =
     let h = a .header in
     surveyOf (take (h .wells) (a .values .now)) (take (2 * h .wells) (a .coords .now)) (take (h .bases) (a .bases .now))
     (take (k * h .wells) (a .external .now))
+    (h .options)
     (take (2 * h .nodes) (a .nodes .now))
     (take (k * h .nodes) (a .node-external .now))
-    (h .options)
     (h .tolerance)
 
 -- let codes = &bases[..count];

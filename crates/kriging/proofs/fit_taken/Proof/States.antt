@@ -81,7 +81,7 @@ at-nodes c = at-predicted (at-verdicts (at-weights c)) .before
 abbrev pub survey-of : tie.After-drift-columns → Survey
 survey-of c =
     let a = at-entry c .args in
-    surveyOf (a .values .now) (a .coords .now) (a .bases .now) (a .external .now) (a .nodes .now) (a .node-external .now) (a .options) (a .tolerance)
+    surveyOf (a .values .now) (a .coords .now) (a .bases .now) (a .external .now) (a .options) (a .nodes .now) (a .node-external .now) (a .tolerance)
 
 abbrev pub areas-of : tie.After-drift-columns → Areas
 areas-of c =

@@ -178,7 +178,7 @@ returns c =
         omega (arith, byte c),
         λ external hF.
             let s : Survey =
-            surveyOf (a .values .now) (a .coords .now) (a .bases .now) external (a .nodes .now) (a .node-external .now) (a .options) (a .tolerance) in
+            surveyOf (a .values .now) (a .coords .now) (a .bases .now) external (a .options) (a .nodes .now) (a .node-external .now) (a .tolerance) in
             node-is s (a .work .now) (a .q) (take (size-of (at-entry r)) bs) (v .solve-node .result .z) (a .drift .now) (a .finite-drift) _ _ _ _ hF
             (pre .1) (record {
               long = omega (arith, v .solve-node .ensures .0, pre .3);

@@ -24,7 +24,7 @@ use Rattle.kriging.proofs.refusals.fit_refusal.Tie as tie
 abbrev survey : tie.Start → Survey
 survey c =
     let a = c .args in
-    surveyOf (a .values .now) (a .coords .now) (a .bases .now) (a .external .now) (a .nodes .now) (a .node-external .now) (a .options) (a .tolerance)
+    surveyOf (a .values .now) (a .coords .now) (a .bases .now) (a .external .now) (a .options) (a .nodes .now) (a .node-external .now) (a .tolerance)
 
 abbrev areas : tie.Start → Areas
 areas c =

@@ -40,7 +40,7 @@ with-variogram c v =
     let a = c .args in
     let options : UniversalKrigingOptions = record { variogram = v; regularization = a .regularization } in
     writer baseVersion
-    (surveyOf (a .values .now) (a .coords .now) (a .bases .now) (a .external .now) (a .nodes .now) (a .node-external .now) options (a .tolerance))
+    (surveyOf (a .values .now) (a .coords .now) (a .bases .now) (a .external .now) options (a .nodes .now) (a .node-external .now) (a .tolerance))
     (a .file .now)
 
 abbrev told : tie.Start → Outcome → Ending ℕ (List ℕ)

@@ -62,7 +62,7 @@ with-variogram c v =
     let a = c .args in
     let options : UniversalKrigingOptions = record { variogram = v; regularization = a .regularization } in
     fitted base
-    (surveyOf (a .values .now) (a .coords .now) (a .bases .now) (a .external .now) (a .nodes .now) (a .node-external .now) options (a .tolerance))
+    (surveyOf (a .values .now) (a .coords .now) (a .bases .now) (a .external .now) options (a .nodes .now) (a .node-external .now) (a .tolerance))
     (lent c)
 
 abbrev with-model : tie.Start → VariogramModel → Outcome Areas

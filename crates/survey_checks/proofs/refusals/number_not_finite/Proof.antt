@@ -55,7 +55,7 @@ abbrev whole : tie.Start → Float → Bool
 whole c t =
     let a = c .args in
     numberNotFinite
-    (surveyOf (a .values .now) (a .coords .now) (a .bases .now) (a .external .now) (a .nodes .now) (a .node-external .now) (a .options) t)
+    (surveyOf (a .values .now) (a .coords .now) (a .bases .now) (a .external .now) (a .options) (a .nodes .now) (a .node-external .now) t)
     (a .node-external .now)
 
 opens : (c : tie.Start) (t : Float) → whole c t ≡ (variogramNotFinite (c .args .options .variogram) || values-left c)

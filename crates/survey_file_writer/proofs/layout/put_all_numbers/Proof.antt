@@ -51,7 +51,7 @@ at-nodes c = c .before .before .before .before
 abbrev survey : tie.Start → Survey
 survey c =
     let a = c .args in
-    surveyOf (a .values .now) (a .coords .now) (a .bases .now) (a .external .now) (a .nodes .now) (a .node-external .now) (a .options) (a .tolerance)
+    surveyOf (a .values .now) (a .coords .now) (a .bases .now) (a .external .now) (a .options) (a .nodes .now) (a .node-external .now) (a .tolerance)
 
 -- numbers are put from the first byte on
 abbrev PutTo : tie.Start → (Survey → List Float) → List ℕ → ℕ → Type 0

@@ -42,7 +42,7 @@ entry-2 c = entry-1 (at-numbers c)
 abbrev survey : tie.Start → Survey
 survey c =
     let a = c .args in
-    surveyOf (a .values .now) (a .coords .now) (a .bases .now) (a .external .now) (a .nodes .now) (a .node-external .now) (a .options) (a .tolerance)
+    surveyOf (a .values .now) (a .coords .now) (a .bases .now) (a .external .now) (a .options) (a .nodes .now) (a .node-external .now) (a .tolerance)
 
 -- there is room for the numbers, the codes and the trailer
 room : (c : tie.Start) → 8 * length (numbers (survey c)) + length (c .args .bases .now) + 14 ≤ length (c .args .file .now)

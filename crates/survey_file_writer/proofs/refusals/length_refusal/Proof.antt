@@ -22,7 +22,7 @@ use Rattle.survey_file_writer.proofs.refusals.length_refusal.Tie as tie
 abbrev survey : tie.Start → UniversalKrigingOptions → Float → Survey
 survey c o t =
     let a = c .args in
-    surveyOf (a .values .now) (a .coords .now) (a .bases .now) (a .external .now) (a .nodes .now) (a .node-external .now) o t
+    surveyOf (a .values .now) (a .coords .now) (a .bases .now) (a .external .now) o (a .nodes .now) (a .node-external .now) t
 
 abbrev tests : tie.Start → UniversalKrigingOptions → Float → List Test
 tests c o t = lengthTests (survey c o t)

@@ -40,7 +40,7 @@ add-result-5 c =
 returns : tie.Need-returns
 returns c o t =
     let a = at-entry c .args in
-    let l = length-numbers (surveyOf (a .values .now) (a .coords .now) (a .bases .now) (a .external .now) (a .nodes .now) (a .node-external .now) o t) in
+    let l = length-numbers (surveyOf (a .values .now) (a .coords .now) (a .bases .now) (a .external .now) o (a .nodes .now) (a .node-external .now) t) in
     omega (arith, c .taken-externals .ensures)
 
 pub number-count-spec : {M : Type 1} → statement M

@@ -14,7 +14,7 @@ use Rattle.survey_file_writer.proofs.refusals.some_number_not_finite.Ti
 abbrev survey : tie.Start → Survey
 survey c =
     let a = c .args in
-    surveyOf (a .values .now) (a .coords .now) (a .bases .now) (a .external .now) (a .nodes .now) (a .node-external .now) (a .options) (a .tolerance)
+    surveyOf (a .values .now) (a .coords .now) (a .bases .now) (a .external .now) (a .options) (a .nodes .now) (a .node-external .now) (a .tolerance)
 
 abbrev tolerance-left : tie.Start → Bool
 tolerance-left c = not (finite (c .args .tolerance))

@@ -20,7 +20,7 @@ Inv-loop values coords bases options table nodes node-external tolerance drift p
     × (finite-drift ≡ driftFinite n p (entryIn drift p))
     × (length predicted ≡ length predicted₀) × (length variance ≡ length variance₀) × (length verdicts ≡ length verdicts₀)
     × (length weights ≡ length weights₀) × (length multipliers ≡ length multipliers₀)
-    × ((external trend : List Float) → let s = surveyOf values coords bases external nodes node-external options tolerance in
+    × ((external trend : List Float) → let s = surveyOf values coords bases external options nodes node-external tolerance in
     DriftIn s drift
     → Progress s (areasOf work predicted₀ variance₀ verdicts₀ weights₀ multipliers₀ trend) (nodeOf s work) q
     (areasOf work predicted variance verdicts weights multipliers trend))
@@ -82,4 +82,4 @@ at-first c = at-weights (c .before)
 abbrev pub survey-of : State tie.At-loop → List Float → Survey
 survey-of l external =
     let a = at-entry l .args in
-    surveyOf (a .values .now) (a .coords .now) (a .bases .now) external (a .nodes .now) (a .node-external .now) (a .options) (a .tolerance)
+    surveyOf (a .values .now) (a .coords .now) (a .bases .now) external (a .options) (a .nodes .now) (a .node-external .now) (a .tolerance)
