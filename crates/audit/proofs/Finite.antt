@@ -49,8 +49,8 @@ module _ (a : Audited) where
       told-as
       (both (both (both (each-finite (a .weighed .n) (a .weighed .weight)) (drift-told (a .weighed .n) (a .weighed .p) (a .weighed .drift)))
       (each-finite (a .weighed .p) (a .weighed .nodeDrift))) (passes (finite (a .figure))))
-      (λ h. record { weights = h .0 .0 .0; columns = h .0 .0 .1; nodeColumns = h .0 .1; figure = h .1 })
-      (λ f. (((f .weights, f .columns), f .nodeColumns), f .figure))
+      (λ h. record { weights = h .0 .0 .0; drift = h .0 .0 .1; nodeDrift = h .0 .1; figure = h .1 })
+      (λ f. (((f .weights, f .drift), f .nodeDrift), f .figure))
 
   abbrev Cause : Type 0
   Cause =
@@ -85,6 +85,6 @@ module _ (a : Audited) where
 -- not both
 pub finite-clash : {a : Audited} → AllFinite a → SomeNotFinite a → ⊥
 finite-clash f (aWeight i l n) = n (f .weights i l)
-finite-clash f (anEntry i j l m n) = n (f .columns i j l m)
-finite-clash f (aNodeEntry j m n) = n (f .nodeColumns j m)
+finite-clash f (anEntry i j l m n) = n (f .drift i j l m)
+finite-clash f (aNodeEntry j m n) = n (f .nodeDrift j m)
 finite-clash f (theFigure n) = n (f .figure)

@@ -53,10 +53,10 @@ unfoldable pub driftFinite : ℕ → ℕ → (ℕ → ℕ → Float) → Bool
 unfolding all
 driftFinite n p drift = all n (λ i. all p (λ j. finite (drift i j)))
 
--- no "weight, .. F entry, .. f0 entry .. is not finite", where `columns` says it of F
+-- no "weight, .. F entry, .. f0 entry .. is not finite", where `finiteDrift` says it of F
 unfoldable pub finiteGiven : Bool → Weighed → Bool
 unfolding all
-finiteGiven columns w = all (w .n) (λ i. finite (w .weight i)) && columns && all (w .p) (λ j. finite (w .nodeDrift j))
+finiteGiven finiteDrift w = all (w .n) (λ i. finite (w .weight i)) && finiteDrift && all (w .p) (λ j. finite (w .nodeDrift j))
 
 unfoldable pub columnsFinite : Weighed → Bool
 unfolding finiteGiven driftFinite
@@ -67,10 +67,10 @@ unfoldable pub columnMet : Weighed → ℕ → Bool
 unfolding weighted within
 columnMet w j = within (w .tolerance) (weighted w (λ i. w .drift i (j - 1))) (w .nodeDrift (j - 1))
 
--- 255 where a weight, an F entry or an f0 entry is not finite; else the first row of 1..p missed; else 0: where `columns` says that F is finite
+-- 255 where a weight, an F entry or an f0 entry is not finite; else the first row of 1..p missed; else 0: where `finiteDrift` says that F is finite
 unfoldable pub columnVerdictGiven : Bool → Weighed → ℕ
 unfolding finiteGiven columnMet firstMissed
-columnVerdictGiven columns w = cond (finiteGiven columns w) (firstMissed (w .p) 1 (columnMet w)) 255
+columnVerdictGiven finiteDrift w = cond (finiteGiven finiteDrift w) (firstMissed (w .p) 1 (columnMet w)) 255
 
 -- and where F itself is looked at
 unfoldable pub columnVerdict : Weighed → ℕ

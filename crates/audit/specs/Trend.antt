@@ -48,8 +48,8 @@ pub record TrendBound (a : Audited) : Type 0 where
 -- all that a verdict asks to be finite
 pub record AllFinite (a : Audited) : Type 0 where
   pub weights : (i : ℕ) → i < a .weighed .n → T (finite (a .weighed .weight i))
-  pub columns : (i j : ℕ) → i < a .weighed .n → j < a .weighed .p → T (finite (a .weighed .drift i j))
-  pub nodeColumns : (j : ℕ) → j < a .weighed .p → T (finite (a .weighed .nodeDrift j))
+  pub drift : (i j : ℕ) → i < a .weighed .n → j < a .weighed .p → T (finite (a .weighed .drift i j))
+  pub nodeDrift : (j : ℕ) → j < a .weighed .p → T (finite (a .weighed .nodeDrift j))
   pub figure : T (finite (a .figure))
 
 -- "a weight, an F entry, an f0 entry or the figure is not finite"

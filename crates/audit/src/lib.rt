@@ -175,20 +175,20 @@ pub fn audit_columns(
 // Row p + 1, and the verdict: 255 where the figure is not finite, else that of rows 1 to p where it is not 0, else p + 1 where the row is missed, else 0.
 // Of f0 it takes how many there are, and of F nothing.
 pub fn audit_figure(
-    columns: usize,
+    drift_verdict: usize,
     weights: &[f64],
     f0: &[f64],
     values: &[f64],
     figure: f64,
     tolerance: f64,
 ) -> usize
-    ensures { λ r. ⌜ r ≡ verdictWith columns (auditedIn (weighedIn (now (weights .entry)) [] (now (f0 .entry)) tolerance) (now (values .entry)) figure) ⌝ }
+    ensures { λ r. ⌜ r ≡ verdictWith «drift_verdict» (auditedIn (weighedIn (now (weights .entry)) [] (now (f0 .entry)) tolerance) (now (values .entry)) figure) ⌝ }
 {
     if !ieee::is_finite(figure) {
         return 255;
     }
-    if columns != 0 {
-        return columns;
+    if drift_verdict != 0 {
+        return drift_verdict;
     }
     if row_met(weights, values, 0, 1, figure, tolerance) {
         return 0;

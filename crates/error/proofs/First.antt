@@ -36,6 +36,10 @@ one b h = rw h
 pub other : {a : Bool} (b : Bool) → a ≡ false → (a || b) ≡ b
 other b h = rw h
 
+pub last-one : (a : Bool) → (a || false) ≡ a
+last-one true = refl
+last-one false = refl
+
 -- a condition that is two at once
 pub also : {a : Bool} (b : Bool) → a ≡ true → (a && b) ≡ b
 also b h = rw h

@@ -1,3 +1,4 @@
 pub mod Tells
 pub mod Rules
+pub mod Short
 pub mod First

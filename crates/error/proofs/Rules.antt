@@ -3,14 +3,14 @@
 use Prim.Native.Nat.{ℕ, _<_}
 use native.Mathlib.Decide.{decLt}
 use native.Mathlib.Omega.{arith}
-use mathlib.Core.Path.{_≡_, refl, sym, subst}
+use mathlib.Core.Path.{_≡_, refl, sym, subst, _∙_}
 use mathlib.Core.Logic.{_≢_, inl, inr, _↔_}
 use mathlib.Core.Bool.{Bool, true, false, not, cond}
 use mathlib.Core.List.{List, [], _∷_, _++_}
 use lib.Dec.{T, T-not, eqb, ltb, eqb→eq, ltb→lt, lt→ltb}
 use lib.Ieee.Fits.{and-i, and-l, and-r, eq→eqb}
 use Rattle.error.specs.Tests.{Test, firstOf, Tells}
-use Rattle.error.specs.Rules.{Told, no-more, tells, Rule, rule, Ruled, NoneApplies, Condition, Lowest, positive, lacks, rising}
+use Rattle.error.specs.Rules.{Told, no-more, tells, Rule, rule, Ruled, NoneApplies, Condition, Lowest, First, rulesBefore, positive, lacks, distinct, rising}
 
 pub joined : {ts us : List Test} {rs ps : List Rule} → Told ts rs → Told us ps → Told (ts ++ us) (rs ++ ps)
 joined no-more h = h
@@ -88,6 +88,61 @@ no-condition (r ∷ rs) n k c = go (which r rs k c) (λ x. no-condition rs (n .1
     go : Which r rs k → ¬ Condition rs k → ⊥
     go (own e x) f = n .0 x
     go (later m x) f = f x
+
+-- ---- by place: of the rules before that of the number given none applies, whatever their numbers are
+pub none-before : (rs : List Rule) (k : ℕ) → Ruled rs k → NoneApplies (rulesBefore k rs)
+none-before [] k r = tt
+none-before (r ∷ rs) k (inl x) = go (eqb (r .number) k) (eq→eqb (sym (x .1)))
+  where
+    go : (b : Bool) → T b → NoneApplies (cond b [] (r ∷ rulesBefore k rs))
+    go true t = tt
+    go false t = absurd t
+none-before (r ∷ rs) k (inr x) = go (eqb (r .number) k) (none-before rs k (x .1))
+  where
+    go : (b : Bool) → NoneApplies (rulesBefore k rs) → NoneApplies (cond b [] (r ∷ rulesBefore k rs))
+    go true n = tt
+    go false n = (x .0, n)
+
+-- a condition's number is among the numbers, so it is none that they lack, and it is not 0
+held-number : (rs : List Rule) (j k : ℕ) → T (lacks j rs) → Condition rs k → j ≢ k
+held-number [] j k l c = absurd c
+held-number (r ∷ rs) j k l c = go (which r rs k c) (λ x. held-number rs j k (and-r (not (eqb (r .number) j)) (lacks j rs) l) x)
+  where
+    go : Which r rs k → (Condition rs k → j ≢ k) → j ≢ k
+    go (own e x) f h = T-not (eqb (r .number) j) (and-l (not (eqb (r .number) j)) (lacks j rs) l) (eq→eqb (e ∙ sym h))
+    go (later m x) f h = f x h
+
+nonzero : (rs : List Rule) (k : ℕ) → T (positive rs) → Condition rs k → k ≢ 0
+nonzero [] k p c = absurd c
+nonzero (r ∷ rs) k p c = go (which r rs k c) (λ x. nonzero rs k (and-r (ltb 0 (r .number)) (positive rs) p) x)
+  where
+    go : Which r rs k → (Condition rs k → k ≢ 0) → k ≢ 0
+    go (own e x) f h = let l = ltb→lt 0 (r .number) (and-l (ltb 0 (r .number)) (positive rs) p) in omega arith
+    go (later m x) f h = f x h
+
+ruled-applies : (rs : List Rule) (k : ℕ) → T (distinct rs) → k ≢ 0 → Ruled rs k → Condition rs k
+ruled-applies [] k d z r = absurd (z r)
+ruled-applies (r ∷ rs) k d z (inl x) = own-condition r rs k (sym (x .1)) (x .0)
+ruled-applies (r ∷ rs) k d z (inr x) =
+    let c = ruled-applies rs k (and-r (lacks (r .number) rs) (distinct rs) d) z (x .1) in
+    later-condition r rs k (held-number rs (r .number) k (and-l (lacks (r .number) rs) (distinct rs) d) c) c
+
+first-ruled : (rs : List Rule) (k : ℕ) → Condition rs k → NoneApplies (rulesBefore k rs) → Ruled rs k
+first-ruled [] k c n = absurd c
+first-ruled (r ∷ rs) k c n = go (eqb (r .number) k) (eqb→eq (r .number) k) c n (λ d m. first-ruled rs k d m)
+  where
+    go : (b : Bool) → (T b → r .number ≡ k) → cond b (r .applies) (Condition rs k) → NoneApplies (cond b [] (r ∷ rulesBefore k rs))
+        → (Condition rs k → NoneApplies (rulesBefore k rs) → Ruled rs k) → Ruled (r ∷ rs) k
+    go true e x m f = inl (x, sym (e tt))
+    go false e x m f = inr (m .0, f x (m .1))
+
+-- ORDER BY PLACE: where no number stands twice, a number is given exactly where its condition holds and no rule before its own applies
+pub first-wins : {ts : List Test} {rs : List Rule} → Told ts rs → T (positive rs) → T (distinct rs) → (k : ℕ)
+    → ((firstOf ts ≡ k) × (k ≢ 0)) ↔ First rs k
+first-wins {ts} {rs} h p d k = (there, λ f. (ruled-exactly h k .1 (first-ruled rs k (f .applies) (f .none-before)), nonzero rs k p (f .applies)))
+  where
+    there : (firstOf ts ≡ k) × (k ≢ 0) → First rs k
+    there x = let r = ruled-exactly h k .0 (x .0) in record { applies = ruled-applies rs k d (x .1) r; none-before = none-before rs k r }
 
 -- ---- a number that no rule has is not given
 pub never-given : (rs : List Rule) (k : ℕ) → T (lacks k rs) → k ≢ 0 → ¬ Ruled rs k

@@ -3,3 +3,4 @@ pub mod Kinds
 pub mod Tests
 pub mod Rules
 pub mod Outcome
+pub mod Short

@@ -34,6 +34,22 @@ pub record Lowest (rs : List Rule) (k : ℕ) : Type 0 where
   pub applies : Condition rs k
   pub none-below : (j : ℕ) → j < k → ¬ Condition rs j
 
+-- ---- order by place, whatever the numbers are
+-- the numbers, in the order in which their rules count
+abbrev pub numbersOf : List Rule → List ℕ
+numbersOf [] = []
+numbersOf (r ∷ rs) = r .number ∷ numbersOf rs
+
+-- the rules that count before the number k
+abbrev pub rulesBefore : ℕ → List Rule → List Rule
+rulesBefore k [] = []
+rulesBefore k (r ∷ rs) = cond (eqb (r .number) k) [] (r ∷ rulesBefore k rs)
+
+-- a number by its place: its condition holds, and of the rules before it none applies
+pub record First (rs : List Rule) (k : ℕ) : Type 0 where
+  pub applies : Condition rs k
+  pub none-before : NoneApplies (rulesBefore k rs)
+
 -- the tests are those of the rules: the same numbers in the same order, each test telling its rule's condition
 pub data Told : List Test → List Rule → Type 1 where
   no-more : Told [] []
@@ -49,6 +65,11 @@ positive (r ∷ rs) = ltb 0 (r .number) && positive rs
 abbrev pub lacks : ℕ → List Rule → Bool
 lacks k [] = true
 lacks k (r ∷ rs) = not (eqb (r .number) k) && lacks k rs
+
+-- no number stands twice
+abbrev pub distinct : List Rule → Bool
+distinct [] = true
+distinct (r ∷ rs) = lacks (r .number) rs && distinct rs
 
 -- they rise, from above n
 abbrev pub rising : ℕ → List Rule → Bool

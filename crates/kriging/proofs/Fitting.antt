@@ -24,7 +24,7 @@ use Rattle.solution.specs.Slopes.{slope, estimated}
 use Rattle.solution.proofs.Room.{estimated-is}
 use Rattle.survey.specs.Limits.{base}
 use Rattle.survey.specs.Survey.{Survey, wells, columns, size}
-use Rattle.kriging_theory.specs.Areas.{Areas}
+use Rattle.kriging_theory.specs.Areas.{Areas, areasOf}
 use Rattle.kriging_theory.specs.Drift.{DriftIn, drift}
 use Rattle.kriging_theory.specs.Assembly.{between, joined, entry, assembled}
 use Rattle.kriging_theory.specs.Slopes.{trendOf}
@@ -68,6 +68,12 @@ module _ (s : Survey) where
       ap (λ (k : ℕ). estimated (wells s + k) work (s .values) trend) e
       ∙ estimated-is (size s) work (s .values) trend hw (omega arith)
       ∙ ap (λ (k : ℕ). written 0 k (trendOf s work) trend) w
+
+  -- beside what the nodes leave it is the answer
+  pub with-trend : {work predicted variance weights multipliers trend estimate : List Float} {verdicts : List ℕ} {x : Areas} → trend ≡ estimate
+      → areasOf work predicted variance verdicts weights multipliers estimate ≡ x → areasOf work predicted variance verdicts weights multipliers trend ≡ x
+  with-trend {work} {predicted} {variance} {weights} {multipliers} {verdicts = verdicts} e h =
+      ap (λ (xs : List Float). areasOf work predicted variance verdicts weights multipliers xs) e ∙ h
 
   pub matrix-laid : (F work : List Float) → DriftIn s F
       → laid (size s) (joined (wells s) (between (s .options) (s .coords)) (λ i j. getD F (i * columns s + j) nan)) work ≡ assembled s work

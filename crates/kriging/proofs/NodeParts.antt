@@ -63,11 +63,11 @@ module _ (s : Survey) (work : List Float) (q : ℕ) where
           nodeDrift = λ j h. refl;
         }
 
-    pub columns-is : columnVerdictGiven given (weighedIn (take (wells s) zs) F (nodeRow s q) (s .tolerance)) ≡ solutionOf s work q .columns
+    pub columns-is : columnVerdictGiven given (weighedIn (take (wells s) zs) F (nodeRow s q) (s .tolerance)) ≡ solutionOf s work q .driftVerdict
     unfolding solutionOf columnVerdict
     columns-is = same-given same given _ (hg ∙ same-drift (wells s) (columns s) (entryIn F (columns s)) (drift s) hF)
 
-    pub verdict-is : {c : ℕ} {g : Float} → c ≡ solutionOf s work q .columns → g ≡ nodeOf s work q .figure
+    pub verdict-is : {c : ℕ} {g : Float} → c ≡ solutionOf s work q .driftVerdict → g ≡ nodeOf s work q .figure
         → verdictWith c (auditedIn (weighedIn (take (wells s) zs) [] (nodeRow s q) (s .tolerance)) (s .values) g) ≡ nodeOf s work q .verdict
     unfolding nodeOf nodeWith
     verdict-is {c} {g} e f =

@@ -19,7 +19,8 @@ use Rattle.ieee.specs.Floats.{zeroFloat}
 use Rattle.survey.specs.Survey.{Survey, wells, nodeCount, columns, size}
 use Rattle.kriging_theory.specs.Areas.{Areas, areasOf}
 use Rattle.kriging_theory.specs.Node.{Node, nodeOf}
-use Rattle.kriging_theory.specs.Fit.{multiplier, nodesAnswered}
+use Rattle.kriging_theory.specs.Slopes.{trendOf}
+use Rattle.kriging_theory.specs.Fit.{multiplier, answered}
 
 -- a row of so many of a list's numbers lies inside
 pub row-inside : (w q m len : ℕ) → q < m → w * m ≤ len → q * w + w ≤ len
@@ -98,7 +99,10 @@ module _ (s : Survey) (a : Areas) (node : ℕ → Node) where
 
   -- and all of them: what was in the multipliers' places before the zeros does not count
   pub all-nodes : {p : ℕ} → columns s ≡ p → (q : ℕ) (e : Areas) (cs : List Float) → q ≡ nodeCount s → a .multipliers ≡ written 0 p (λ j. zeroFloat) cs
-      → Progress s a node q e → e ≡ nodesAnswered s (areasOf (a .work) (a .predicted) (a .variance) (a .verdicts) (a .weights) cs (a .trend)) (e .work) node
+      → Progress s a node q e
+      → areasOf (e .work) (e .predicted) (e .variance) (e .verdicts) (e .weights) (e .multipliers) (written 0 (columns s) (trendOf s (e .work)) (a .trend))
+      ≡ answered s (areasOf (a .work) (a .predicted) (a .variance) (a .verdicts) (a .weights) cs (a .trend)) (e .work) node
+  unfolding answered
   all-nodes {p} ep q e cs m z h i = record {
     work = e .work;
     predicted = (h .predicted ∙ ap (λ (k : ℕ). written 0 k (λ r. node r .figure) (a .predicted)) m) i;
@@ -115,5 +119,5 @@ module _ (s : Survey) (a : Areas) (node : ℕ → Node) where
         ∙ written-over 0 (columns s) (λ j. zeroFloat) (lastOf s node q) cs
         ∙ ap (λ (k : ℕ). written 0 (columns s) (lastOf s node k) cs) m)
         i;
-    trend = h .trend i;
+    trend = written 0 (columns s) (trendOf s (e .work)) (a .trend);
   }

@@ -1,8 +1,9 @@
--- All that the contract of a fit says, from its equation: the theorems about the definition, joined.
+-- The contract of a fit shows the seven parts of its promise one after the other.
 use Prim.Native.Nat.{ℕ}
-use mathlib.Core.Path.{_≡_, refl, sym, subst}
+use mathlib.Core.Path.{_≡_}
 use mathlib.Core.Logic.{_≢_, _↔_}
 use mathlib.Core.Bool.{true}
+use lib.Dec.{lit≤}
 use Rattle.error.specs.Rules.{Ruled, NoneApplies}
 use Rattle.error.specs.Outcome.{Outcome}
 use Rattle.elimination.specs.Elimination.{stepped, StopsAt, Through}
@@ -15,14 +16,13 @@ use Rattle.kriging_theory.specs.Fit.{fitted}
 use Rattle.kriging_theory.specs.Untouched.{Untouched}
 use Rattle.kriging_theory.specs.System.{Kriged}
 use Rattle.kriging_theory.specs.Trend.{TrendKept}
-use Rattle.kriging_theory.proofs.Endings.{fit-ends, untouched}
-use Rattle.kriging_theory.proofs.SystemNode.{kriged}
-use Rattle.kriging_theory.proofs.Trend.{trend-in-the-base}
+use Rattle.kriging_theory.specs.Promise.{Promise}
+use Rattle.kriging_theory.proofs.Promise as theory
 
 module _ (s : Survey) (a : Areas) where
-  -- the clauses, in their order: equation, ruled, stopped, accepted, kept, kriged, trend
-  abbrev Promise : Outcome Areas → Type 0
-  Promise e =
+  -- equation, ruled, stopped, accepted, kept, kriged, bounded
+  abbrev Parts : Outcome Areas → Type 0
+  Parts e =
       (e ≡ fitted base s a)
       × (((k : ℕ) → k ≢ 0 → k ≢ 19 → (e .number ≡ k) ↔ Ruled (rules base s a) k) × (e .number ≢ 0 → e .number ≢ 19 → e .areas ≡ a))
       × (((e .number ≡ 19) ↔ (NoneApplies (rules base s a) × ((i : ℕ) × StopsAt true (size s) i (assembled s (a .work)))))
@@ -33,15 +33,7 @@ module _ (s : Survey) (a : Areas) where
       × (e .number ≡ 0 → Kriged s (e .areas))
       × TrendKept s e
 
-  pub promised : {e : Outcome Areas} → e ≡ fitted base s a → Promise e
-  promised h =
-      let ends = fit-ends base s a in
-      subst Promise (sym h) (
-        refl,
-        (ends .refused, ends .refused-areas),
-        (ends .nineteen, ends .nineteen-areas),
-        ends .accepted,
-        untouched base s a,
-        kriged base s a,
-        trend-in-the-base s a,
-      )
+  pub promised : {e : Outcome Areas} → e ≡ fitted base s a → Parts e
+  promised {e} h =
+      let p : Promise base s a e = theory.promised base (lit≤ tt) s a h in
+      (p .equation, p .ruled, p .stopped, p .accepted, p .kept, p .kriged, p .bounded)

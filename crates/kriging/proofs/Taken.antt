@@ -8,10 +8,11 @@ use lib.ListN.{length}
 use Rattle.error.specs.Rules.{NoneApplies, Condition}
 use Rattle.error.proofs.Tells.{stable, equal}
 use Rattle.error.proofs.Rules.{none-exactly, no-condition}
+use Rattle.error.proofs.Short.{areaAt, long-at}
 use Rattle.survey.specs.Limits.{base}
 use Rattle.survey.specs.Survey.{Survey, wells, nodeCount, columns, externals, size, columnsHeld}
 use Rattle.survey.proofs.Codes.{held-exact}
-use Rattle.kriging_theory.specs.Areas.{Areas}
+use Rattle.kriging_theory.specs.Areas.{Areas, answerAreas}
 use Rattle.kriging_theory.specs.Rules.{rules}
 use Rattle.kriging_theory.specs.Refusals.{tests, refusal}
 use Rattle.kriging_theory.proofs.Endings.{told}
@@ -28,10 +29,10 @@ module _ (s : Survey) (a : Areas) (taken : refusal base s a ≡ 0) where
   at-least h = omega arith
 
   -- ---- counts
-  pub few-wells : wells s ≤ 48
+  pub few-wells : wells s ≤ base .wells
   few-wells = at-least (λ l. none 9 (inl l))
 
-  pub few-columns : columns s ≤ 12
+  pub few-columns : columns s ≤ base .columns
   few-columns = at-least (λ l. none 9 (inr (inl l)))
 
   pub columns-counted : columnsHeld (s .bases) ≡ columns s
@@ -58,20 +59,24 @@ module _ (s : Survey) (a : Areas) (taken : refusal base s a ≡ 0) where
   pub work-long : 2 * size s * size s ≤ length (a .work)
   work-long = at-least (none 17)
 
+  -- those of the answer, by their place in the list
+  answer-long : (i : ℕ) → areaAt (answerAreas s a) i .taken ≤ areaAt (answerAreas s a) i .places
+  answer-long = long-at (answerAreas s a) (none 18)
+
   pub predicted-long : nodeCount s ≤ length (a .predicted)
-  predicted-long = at-least (λ l. none 18 (inl l))
+  predicted-long = answer-long 0
 
   pub variance-long : nodeCount s ≤ length (a .variance)
-  variance-long = at-least (λ l. none 18 (inr (inl l)))
+  variance-long = answer-long 1
 
   pub verdicts-long : nodeCount s ≤ length (a .verdicts)
-  verdicts-long = at-least (λ l. none 18 (inr (inr (inl l))))
+  verdicts-long = answer-long 2
 
   pub weights-long : wells s * nodeCount s ≤ length (a .weights)
-  weights-long = at-least (λ l. none 18 (inr (inr (inr (inl l)))))
+  weights-long = answer-long 3
 
   pub multipliers-long : columns s ≤ length (a .multipliers)
-  multipliers-long = at-least (λ l. none 18 (inr (inr (inr (inr (inl l))))))
+  multipliers-long = answer-long 4
 
   pub trend-long : columns s ≤ length (a .trend)
-  trend-long = at-least (λ l. none 18 (inr (inr (inr (inr (inr l))))))
+  trend-long = answer-long 5

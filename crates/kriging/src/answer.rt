@@ -9,11 +9,13 @@ ghost use lib.Ieee.{Float, nan};
 ghost use Rattle.area.specs.Area.{written};
 ghost use Rattle.ieee.specs.Floats.{zeroFloat};
 ghost use Rattle.exponential.specs.Exponential.{fractionTable};
-ghost use Rattle.survey.specs.Survey.{surveyOf, columnSum, externalCount};
+ghost use Rattle.survey.specs.Limits.{mostSize};
+ghost use Rattle.survey.specs.Survey.{surveyOf, columns, columnSum, externalCount};
 ghost use Rattle.kriging_theory.specs.Areas.{areasOf};
 ghost use Rattle.kriging_theory.specs.Drift.{DriftIn};
 ghost use Rattle.kriging_theory.specs.Node.{nodeOf};
-ghost use Rattle.kriging_theory.specs.Fit.{nodesAnswered};
+ghost use Rattle.kriging_theory.specs.Slopes.{trendOf};
+ghost use Rattle.kriging_theory.specs.Fit.{answered};
 
 // Numbers, stored to an area from place `at` on.
 fn store(numbers: &[f64], area: &mut [f64], at: usize)
@@ -55,7 +57,7 @@ pub(crate) fn krige_nodes(
     weights: &mut [f64],
     multipliers: &mut [f64],
 )
-    requires { ⌜ (2 * length (now values) ≤ length (now coords)) × (columnSum (now bases) ≡ p) × (length (now values) + p ≤ 60)
+    requires { ⌜ (2 * length (now values) ≤ length (now coords)) × (columnSum (now bases) ≡ p) × (length (now values) + p ≤ mostSize)
         × (externalCount (now bases) * (length (now nodes) / 2) ≤ length (now «node_external»))
         × (2 * (length (now values) + p) * (length (now values) + p) ≤ length (now work))
         × (length (now nodes) / 2 ≤ length (now predicted)) × (length (now nodes) / 2 ≤ length (now variance))
@@ -66,8 +68,8 @@ pub(crate) fn krige_nodes(
         options (now (nodes .entry)) (now («node_external» .entry)) tolerance in
         DriftIn s (now (drift .entry))
         → areasOf (now (work .entry)) (now (predicted .exit)) (now (variance .exit)) (now (verdicts .exit)) (now (weights .exit))
-        (now (multipliers .exit)) trend
-        ≡ nodesAnswered s
+        (now (multipliers .exit)) (written 0 (columns s) (trendOf s (now (work .entry))) trend)
+        ≡ answered s
         (areasOf (now (work .entry)) (now (predicted .entry)) (now (variance .entry)) (now (verdicts .entry))
         (now (weights .entry)) (now (multipliers .entry)) trend)
         (now (work .entry)) (nodeOf s (now (work .entry)))) ⌝ }

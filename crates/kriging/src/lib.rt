@@ -13,6 +13,7 @@ use elimination::Elimination;
 use error::Judgement;
 use error::Refusal;
 use survey::Limits;
+use survey::MOST_DRIFT;
 use survey::UniversalKrigingOptions;
 ghost use mathlib.Core.Path.{_≡_};
 ghost use mathlib.Core.Logic.{_≢_, _↔_};
@@ -158,7 +159,7 @@ fn fit_taken(
     let p = survey_checks::counts::drift_columns(bases);
     let size = n + p;
     let table = exponential::fraction_table(); // it is written out whole, so once, and lent
-    let mut drift = [0.0; 576];
+    let mut drift = [0.0; MOST_DRIFT];
     fill_drift(bases, external, coords, n, p, &mut drift);
     assemble(coords, options, &table, &drift, n, p, work);
     match elimination::gauss_jordan_invert_uked(work, size) {

@@ -1,4 +1,5 @@
 // One node: its right-hand side, z, figure, variance and verdict.
+use survey::MOST_SIZE;
 use survey::UniversalKrigingOptions;
 use variogram::Variogram;
 ghost use mathlib.Core.Path.{_≡_};
@@ -10,6 +11,7 @@ ghost use Rattle.area.specs.Area.{written};
 ghost use Rattle.exponential.specs.Exponential.{fractionTable};
 ghost use Rattle.audit.specs.Audit.{driftFinite, columnVerdictGiven};
 ghost use Rattle.audit.specs.Lists.{entryIn, weighedIn};
+ghost use Rattle.survey.specs.Limits.{mostSize};
 ghost use Rattle.survey.specs.Survey.{surveyOf, columnSum, externalCount, size, xOf, yOf};
 ghost use Rattle.kriging_theory.specs.Drift.{driftRow, DriftIn};
 ghost use Rattle.kriging_theory.specs.Node.{gammaTo, rightHandOf, zOf, varianceOf, nodeOf};
@@ -61,9 +63,9 @@ fn fill_right_hand(
 
 // A node without the values: z, its variance, and the verdict of rows 1 to p.
 struct Solution {
-    z: [f64; 60],
+    z: [f64; MOST_SIZE],
     variance: f64,
-    columns: usize,
+    drift_verdict: usize,
 }
 
 fn solve_node(
@@ -74,28 +76,28 @@ fn solve_node(
     n: usize,
     tolerance: f64,
 ) -> Solution
-    requires { ⌜ (n ≤ length (now b)) × (length (now b) ≤ 60) × (2 * length (now b) * length (now b) ≤ length (now work)) ⌝ }
-    ensures places { λ r. ⌜ length (r .z) ≡ 60 ⌝ }
+    requires { ⌜ (n ≤ length (now b)) × (length (now b) ≤ mostSize) × (2 * length (now b) * length (now b) ≤ length (now work)) ⌝ }
+    ensures places { λ r. ⌜ length (r .z) ≡ mostSize ⌝ }
     ensures z { λ r. ⌜ take (length (now (b .entry))) (r .z) ≡ zOf (length (now (b .entry))) (now (work .entry)) (now (b .entry)) ⌝ }
     ensures variance { λ r. ⌜ r .variance ≡ varianceOf (length (now (b .entry))) (r .z) (now (b .entry)) ⌝ }
-    ensures columns { λ r. ⌜ r .columns ≡ columnVerdictGiven «finite_drift»
+    ensures drift { λ r. ⌜ r .«drift_verdict» ≡ columnVerdictGiven «finite_drift»
         (weighedIn (take n (r .z)) (now (drift .entry)) (drop n (now (b .entry))) tolerance) ⌝ }
 {
     let size = b.len();
-    let mut z = [0.0; 60];
+    let mut z = [0.0; MOST_SIZE];
     solution::fill_z(work, size, b, &mut z);
     let variance = ieee::max(solution::weighted_sum(&z, b, size), 0.0);
-    let columns = audit::audit_columns(&z[..n], drift, finite_drift, &b[n..], tolerance);
+    let drift_verdict = audit::audit_columns(&z[..n], drift, finite_drift, &b[n..], tolerance);
     Solution {
         z: z,
         variance: variance,
-        columns: columns,
+        drift_verdict: drift_verdict,
     }
 }
 
 // What a node gets: z with its weights, its figure, its variance and its verdict.
 pub struct Node {
-    pub z: [f64; 60],
+    pub z: [f64; MOST_SIZE],
     pub figure: f64,
     pub variance: f64,
     pub verdict: usize,
@@ -119,10 +121,10 @@ pub(crate) fn krige_node(
     work: &[f64],
 ) -> Node
     requires { ⌜ (2 * length (now values) ≤ length (now coords)) × (columnSum (now bases) ≡ p) × (externalCount (now bases) ≡ k)
-        × (length (now values) + p ≤ 60) × (2 * q + 1 < length (now nodes)) × (q * k + k ≤ length (now «node_external»))
+        × (length (now values) + p ≤ mostSize) × (2 * q + 1 < length (now nodes)) × (q * k + k ≤ length (now «node_external»))
         × (2 * (length (now values) + p) * (length (now values) + p) ≤ length (now work))
         × («finite_drift» ≡ driftFinite (length (now values)) p (entryIn (now drift) p)) × (now table ≡ fractionTable) ⌝ }
-    ensures places { λ r. ⌜ length (r .z) ≡ 60 ⌝ }
+    ensures places { λ r. ⌜ length (r .z) ≡ mostSize ⌝ }
     ensures byte { λ r. ⌜ r .verdict < 256 ⌝ }
     ensures node { λ r. ⌜ ((external : List Float)
         → let s = surveyOf (now (values .entry)) (now (coords .entry)) (now (bases .entry)) external
@@ -133,7 +135,7 @@ pub(crate) fn krige_node(
 {
     let n = values.len();
     let size = n + p;
-    let mut b = [0.0; 60];
+    let mut b = [0.0; MOST_SIZE];
     fill_right_hand(
         coords,
         bases,
@@ -150,7 +152,7 @@ pub(crate) fn krige_node(
     let z = solution.z;
     let figure = solution::weighted_sum(&z, values, n);
     let verdict = audit::audit_figure(
-        solution.columns,
+        solution.drift_verdict,
         &z[..n],
         &b[n..size],
         values,

@@ -4,10 +4,11 @@ use error::Refusal;
 use survey::Limits;
 use survey::UniversalKrigingOptions;
 ghost use mathlib.Core.Path.{_≡_};
-ghost use mathlib.Core.Bool.{_||_};
+ghost use mathlib.Core.List.{[], _∷_};
 ghost use Prim.Native.Nat.{_*_};
 ghost use lib.Dec.{ltb};
 ghost use Rattle.error.specs.Numbers.{judged};
+ghost use Rattle.error.specs.Short.{area, tooShort};
 ghost use Rattle.survey.specs.Survey.{surveyOf};
 ghost use Rattle.kriging_theory.specs.Areas.{areasOf};
 ghost use Rattle.kriging_theory.specs.Refusals.{refusal};
@@ -34,7 +35,8 @@ fn short_answer(
     multipliers: usize,
     trend: usize,
 ) -> bool
-    ensures { λ r. ⌜ r ≡ (ltb predicted m || (ltb variance m || (ltb verdicts m || (ltb weights (n * m) || (ltb multipliers p || ltb trend p))))) ⌝ }
+    ensures { λ r. ⌜ r ≡ tooShort (area predicted m ∷ area variance m ∷ area verdicts m ∷ area weights (n * m)
+        ∷ area multipliers p ∷ area trend p ∷ []) ⌝ }
 {
     if predicted < m {
         return true;

@@ -4,15 +4,17 @@ use native.Mathlib.Omega.{arith}
 use mathlib.Core.Path.{_≡_, refl}
 use mathlib.Core.Logic.{_≢_, _⊎_, inl, inr, _↔_}
 use mathlib.Core.Bool.{true}
+use mathlib.Core.List.{[], _∷_}
 use lib.Dec.{T}
 use lib.ListN.{length, getD}
 use lib.Ieee.{nan}
 use lib.Ieee.Scale.{finite}
 use Rattle.area.proofs.Kept.{kept-same}
 use Rattle.area.proofs.Start.{kept-start}
-use Rattle.error.specs.Rules.{NoneApplies, Condition, Lowest, Told, no-more, tells}
-use Rattle.error.proofs.Tells.{stable, equal, either, below}
-use Rattle.error.proofs.Rules.{joined, no-condition, lowest-wins}
+use Rattle.error.specs.Rules.{NoneApplies, Condition, Lowest, First, Told, no-more, tells, numbersOf}
+use Rattle.error.proofs.Tells.{stable, equal}
+use Rattle.error.proofs.Rules.{joined, no-condition, lowest-wins, first-wins}
+use Rattle.error.proofs.Short.{short-told, areaAt, long-at}
 use Rattle.ieee.proofs.FiniteLists.{is-finite}
 use Rattle.elimination.specs.Call.{Ends}
 use Rattle.elimination.proofs.Call.{work-told, kept-work, ends, whichever}
@@ -20,7 +22,7 @@ use Rattle.survey.specs.declared.Limits.{Limits}
 use Rattle.survey.specs.Limits.{base}
 use Rattle.survey.specs.Survey.{Survey, wells, nodeCount, columns, size, valueAt}
 use Rattle.survey.proofs.Told.{survey-told}
-use Rattle.kriging_theory.specs.Areas.{Areas, withWork}
+use Rattle.kriging_theory.specs.Areas.{Areas, withWork, answerAreas}
 use Rattle.kriging_theory.specs.Assembly.{assembled}
 use Rattle.kriging_theory.specs.Node.{nodeOf}
 use Rattle.kriging_theory.specs.Rules.{answerRules, rules}
@@ -29,14 +31,7 @@ use Rattle.kriging_theory.specs.Fit.{answered, fitCall, fitted}
 use Rattle.kriging_theory.specs.Untouched.{Untouched}
 
 answer-told : (s : Survey) (a : Areas) → Told (answerTests s a) (answerRules s a)
-answer-told s a =
-    tells 18
-    (either (below (length (a .predicted)) (nodeCount s))
-    (either (below (length (a .variance)) (nodeCount s))
-    (either (below (length (a .verdicts)) (nodeCount s))
-    (either (below (length (a .weights)) (wells s * nodeCount s))
-    (either (below (length (a .multipliers)) (columns s)) (below (length (a .trend)) (columns s)))))))
-    no-more
+answer-told s a = tells 18 (short-told (answerAreas s a)) no-more
 
 at-least : {m n : ℕ} → ¬ (n < m) → m ≤ n
 at-least h = omega arith
@@ -54,6 +49,15 @@ module _ (limits : Limits) (s : Survey) (a : Areas) where
   pub fit-ends : Ends (rules limits s a) true (size s) (assembled s (a .work)) a (withWork a) (λ work. answered s a work (nodeOf s work)) (fitted limits s a)
   unfolding fitted refusal
   fit-ends = ends (tests limits s a) (rules limits s a) (fitCall limits s a) refl told tt tt long
+
+  -- the order in which its numbers count, in full
+  pub order : numbersOf (rules limits s a) ≡ 1 ∷ 2 ∷ 3 ∷ 4 ∷ 5 ∷ 6 ∷ 7 ∷ 8 ∷ 9 ∷ 10 ∷ 11 ∷ 12 ∷ 17 ∷ 18 ∷ []
+  order = refl
+
+  -- a number is given exactly where its condition holds and no rule before its own applies
+  pub first-in-a-fit : (k : ℕ) → ((refusal limits s a ≡ k) × (k ≢ 0)) ↔ First (rules limits s a) k
+  unfolding refusal
+  first-in-a-fit = first-wins told tt tt
 
   -- "The lowest applying number wins in a fit."
   pub lowest-in-a-fit : (k : ℕ) → ((refusal limits s a ≡ k) × (k ≢ 0)) ↔ Lowest (rules limits s a) k
@@ -123,21 +127,24 @@ module _ (limits : Limits) (s : Survey) (a : Areas) (accepted : fitted limits s 
   pub finite-values : (i : ℕ) → i < wells s → T (finite (valueAt s i))
   finite-values i l = is-finite (valueAt s i) (λ n. none 11 (inr (inl (record { place = i; inside = l; is = n }))))
 
-  -- the answer areas are long enough
+  -- the answer areas are long enough, by their place in the list
+  answer-long : (i : ℕ) → areaAt (answerAreas s a) i .taken ≤ areaAt (answerAreas s a) i .places
+  answer-long = long-at (answerAreas s a) (none 18)
+
   pub predicted-long : nodeCount s ≤ length (a .predicted)
-  predicted-long = at-least (λ l. none 18 (inl l))
+  predicted-long = answer-long 0
 
   pub variance-long : nodeCount s ≤ length (a .variance)
-  variance-long = at-least (λ l. none 18 (inr (inl l)))
+  variance-long = answer-long 1
 
   pub verdicts-long : nodeCount s ≤ length (a .verdicts)
-  verdicts-long = at-least (λ l. none 18 (inr (inr (inl l))))
+  verdicts-long = answer-long 2
 
   pub weights-long : wells s * nodeCount s ≤ length (a .weights)
-  weights-long = at-least (λ l. none 18 (inr (inr (inr (inl l)))))
+  weights-long = answer-long 3
 
   pub multipliers-long : columns s ≤ length (a .multipliers)
-  multipliers-long = at-least (λ l. none 18 (inr (inr (inr (inr (inl l))))))
+  multipliers-long = answer-long 4
 
   pub trend-long : columns s ≤ length (a .trend)
-  trend-long = at-least (λ l. none 18 (inr (inr (inr (inr (inr l))))))
+  trend-long = answer-long 5

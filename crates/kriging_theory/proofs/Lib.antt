@@ -10,3 +10,4 @@ pub mod Nodes
 pub mod NodesAlone
 pub mod Values
 pub mod ValuesAlone
+pub mod Promise

@@ -59,7 +59,7 @@ solutionBy t work q n D =
     record {
       z = z;
       variance = varianceOf (n + columns t) z b;
-      columns = columnVerdict (record {
+      driftVerdict = columnVerdict (record {
         n = n;
         p = columns t;
         weight = λ i. getD z i nan;

@@ -1,7 +1,9 @@
 -- The areas that a caller lends a fit, at entry or at exit.
-use Prim.Native.Nat.{ℕ}
-use mathlib.Core.List.{List}
+use Prim.Native.Nat.{ℕ, _*_}
+use mathlib.Core.List.{List, [], _∷_}
 use lib.Ieee.{Float}
+use Rattle.error.specs.Short.{Lent, lent}
+use Rattle.survey.specs.Survey.{Survey, wells, nodeCount, columns}
 
 -- the work area, and those of the answer: figures, variances, verdicts, weights node after node, multipliers, and the trend
 pub record Areas : Type 0 where
@@ -37,14 +39,14 @@ withWork a work = record {
   trend = a .trend;
 }
 
--- the same areas with another trend
-abbrev pub withTrend : Areas → List Float → Areas
-withTrend a trend = record {
-  work = a .work;
-  predicted = a .predicted;
-  variance = a .variance;
-  verdicts = a .verdicts;
-  weights = a .weights;
-  multipliers = a .multipliers;
-  trend = trend;
-}
+-- "an answer area too short: m figures and variances; in a fit also m verdicts, n·m weights (node after node), p coefficients", now called multipliers;
+-- and the trend: "An area shorter than p is refused by 18."
+abbrev pub answerAreas : Survey → Areas → List Lent
+answerAreas s a =
+    lent (a .predicted) (nodeCount s)
+    ∷ lent (a .variance) (nodeCount s)
+    ∷ lent (a .verdicts) (nodeCount s)
+    ∷ lent (a .weights) (wells s * nodeCount s)
+    ∷ lent (a .multipliers) (columns s)
+    ∷ lent (a .trend) (columns s)
+    ∷ []

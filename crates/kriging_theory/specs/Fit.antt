@@ -12,7 +12,7 @@ use Rattle.elimination.specs.Elimination.{stepped}
 use Rattle.elimination.specs.Call.{Call, called}
 use Rattle.survey.specs.declared.Limits.{Limits}
 use Rattle.survey.specs.Survey.{Survey, wells, nodeCount, columns, size}
-use Rattle.kriging_theory.specs.Areas.{Areas, withWork, withTrend}
+use Rattle.kriging_theory.specs.Areas.{Areas, withWork}
 use Rattle.kriging_theory.specs.Assembly.{entry, assembled}
 use Rattle.kriging_theory.specs.Node.{Node, nodeOf}
 use Rattle.kriging_theory.specs.Slopes.{trendOf}
@@ -22,22 +22,19 @@ use Rattle.kriging_theory.specs.Refusals.{refusal}
 abbrev pub multiplier : Survey → (ℕ → Node) → ℕ → Float
 multiplier s node j = cond (eqb (nodeCount s) 0) zeroFloat (getD (node (nodeCount s - 1) .z) (wells s + j) nan)
 
--- what the nodes leave in the areas: "m figures and variances; .. m verdicts, n·m weights (node after node), p coefficients", now called multipliers
-abbrev pub nodesAnswered : Survey → Areas → List Float → (ℕ → Node) → Areas
-nodesAnswered s a work node = record {
+-- the areas of an accepted fit: "m figures and variances; .. m verdicts, n·m weights (node after node), p coefficients", now called multipliers; and
+-- "A new area of p numbers gets the trend's estimate", which no node has a part in
+unfoldable pub answered : Survey → Areas → List Float → (ℕ → Node) → Areas
+unfolding trendOf
+answered s a work node = record {
   work = work;
   predicted = written 0 (nodeCount s) (λ q. node q .figure) (a .predicted);
   variance = written 0 (nodeCount s) (λ q. node q .variance) (a .variance);
   verdicts = written 0 (nodeCount s) (λ q. node q .verdict) (a .verdicts);
   weights = written 0 (wells s * nodeCount s) (λ t. getD (node (t / wells s) .z) (t % wells s) nan) (a .weights);
   multipliers = written 0 (columns s) (multiplier s node) (a .multipliers);
-  trend = a .trend;
+  trend = written 0 (columns s) (trendOf s work) (a .trend);
 }
-
--- the areas of an accepted fit: the nodes', and "A new area of p numbers gets the trend's estimate", which no node has a part in
-unfoldable pub answered : Survey → Areas → List Float → (ℕ → Node) → Areas
-unfolding trendOf
-answered s a work node = withTrend (nodesAnswered s a work node) (written 0 (columns s) (trendOf s work) (a .trend))
 
 -- the fit as a call that eliminates, and skips a zero factor
 abbrev pub fitCall : Limits → Survey → Areas → Call Areas

@@ -11,3 +11,4 @@ pub mod System
 pub mod LeastSquares
 pub mod Untouched
 pub mod Alike
+pub mod Promise

@@ -59,7 +59,7 @@ weighedOf s q z = record {
 pub record Solution : Type 0 where
   pub z : List Float
   pub variance : Float
-  pub columns : ℕ
+  pub driftVerdict : ℕ
 
 -- of node q, from the finished elimination
 unfoldable pub solutionOf : Survey → List Float → ℕ → Solution
@@ -67,7 +67,7 @@ unfolding rightHand zOf varianceOf columnVerdict
 solutionOf s work q =
     let b = rightHand s q in
     let z = zOf (size s) work b in
-    record { z = z; variance = varianceOf (size s) z b; columns = columnVerdict (weighedOf s q z) }
+    record { z = z; variance = varianceOf (size s) z b; driftVerdict = columnVerdict (weighedOf s q z) }
 
 -- ---- with the values
 
@@ -87,7 +87,7 @@ unfoldable pub nodeWith : Survey → ℕ → Solution → Node
 unfolding figureOf verdictWith
 nodeWith s q v =
     let figure = figureOf s (v .z) in
-    record { z = v .z; figure = figure; variance = v .variance; verdict = verdictWith (v .columns) (auditOf s q (v .z) figure) }
+    record { z = v .z; figure = figure; variance = v .variance; verdict = verdictWith (v .driftVerdict) (auditOf s q (v .z) figure) }
 
 -- node q, from the finished elimination
 unfoldable pub nodeOf : Survey → List Float → ℕ → Node

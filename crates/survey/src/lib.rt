@@ -7,6 +7,17 @@ ghost use mathlib.Core.Path.{_≡_};
 ghost use Rattle.survey.specs.Options.{defaultBases, defaultOptions};
 ghost use Rattle.survey.specs.Limits.{base};
 
+// What a call takes at most: every capacity below and in the crates above is computed from these. specs/Limits has them for the contracts.
+pub const MOST_WELLS: usize = 48;
+
+pub const MOST_COLUMNS: usize = 12;
+
+pub const MOST_NODES: usize = 100;
+// The size of the greatest kriging system, n + p, and how many numbers its drift columns have, n * p.
+pub const MOST_SIZE: usize = MOST_WELLS + MOST_COLUMNS;
+
+pub const MOST_DRIFT: usize = MOST_WELLS * MOST_COLUMNS;
+
 // Options of a fit. Its drift bases, a list of codes, are lent beside them.
 pub struct UniversalKrigingOptions {
     // Variogram model of the wells and of the nodes.
@@ -54,9 +65,9 @@ impl Limits {
         ensures { λ r. ⌜ r ≡ base ⌝ }
     {
         Self {
-            wells: 48,
-            columns: 12,
-            nodes: 100,
+            wells: MOST_WELLS,
+            columns: MOST_COLUMNS,
+            nodes: MOST_NODES,
         }
     }
 }

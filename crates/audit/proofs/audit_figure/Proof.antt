@@ -28,22 +28,22 @@ at-figure c = c .before .before .before
 -- the verdict by its three tests
 by-tests : (c : tie.Start) (x y z : Bool)
     → let a = c .args in
-    finite (a .figure) ≡ x → eqb (a .columns) 0 ≡ y → within (a .tolerance) (dotted (a .weights .now) (a .values .now) 0 1) (a .figure) ≡ z
-    → verdictWith (a .columns) (auditedIn (weighedIn (a .weights .now) [] (a .f0 .now) (a .tolerance)) (a .values .now) (a .figure))
-    ≡ cond x (cond y (cond z 0 (length (a .f0 .now) + 1)) (a .columns)) 255
+    finite (a .figure) ≡ x → eqb (a .drift-verdict) 0 ≡ y → within (a .tolerance) (dotted (a .weights .now) (a .values .now) 0 1) (a .figure) ≡ z
+    → verdictWith (a .drift-verdict) (auditedIn (weighedIn (a .weights .now) [] (a .f0 .now) (a .tolerance)) (a .values .now) (a .figure))
+    ≡ cond x (cond y (cond z 0 (length (a .f0 .now) + 1)) (a .drift-verdict)) 255
 by-tests c x y z e g h =
     let a = c .args in
     let last = length (a .f0 .now) + 1 in
     let met = within (a .tolerance) (dotted (a .weights .now) (a .values .now) 0 1) (a .figure) in
-    joined (a .weights .now) [] (a .f0 .now) (a .tolerance) (a .columns) (a .values .now) (a .figure)
-    ∙ ap₂ (λ (u v : Bool). cond u (cond v (cond met 0 last) (a .columns)) 255) e g
-    ∙ ap (λ (v : Bool). cond x (cond y (cond v 0 last) (a .columns)) 255) h
+    joined (a .weights .now) [] (a .f0 .now) (a .tolerance) (a .drift-verdict) (a .values .now) (a .figure)
+    ∙ ap₂ (λ (u v : Bool). cond u (cond v (cond met 0 last) (a .drift-verdict)) 255) e g
+    ∙ ap (λ (v : Bool). cond x (cond y (cond v 0 last) (a .drift-verdict)) 255) h
 
 -- past the first two tests the figure is finite and the verdict of rows 1 to p is 0
-two-passed : (c : tie.After-row-met) → let a = at-entry (at-figure c) .args in (finite (a .figure) ≡ true) × (eqb (a .columns) 0 ≡ true)
+two-passed : (c : tie.After-row-met) → let a = at-entry (at-figure c) .args in (finite (a .figure) ≡ true) × (eqb (a .drift-verdict) 0 ≡ true)
 two-passed c =
     let f = at-figure c .is-finite in
-    (sym (f .ensures) ∙ not-false (f .result) (c .before .before .if1 .left), eq-eqb (at-entry (at-figure c) .args .columns) 0 (c .before .if2 .left))
+    (sym (f .ensures) ∙ not-false (f .result) (c .before .before .if1 .left), eq-eqb (at-entry (at-figure c) .args .drift-verdict) 0 (c .before .if2 .left))
 
 -- The needs, grouped below the lines of src/ that they are for.
 
@@ -63,7 +63,7 @@ returns-2 c =
     let t = c .before .before in
     let f = t .is-finite in
     let s = at-entry t in
-    sym (by-tests s true false _ (sym (f .ensures) ∙ not-false (f .result) (c .before .if1 .left)) (ne-eqb (s .args .columns) 0 (c .if2 .taken)) refl)
+    sym (by-tests s true false _ (sym (f .ensures) ∙ not-false (f .result) (c .before .if1 .left)) (ne-eqb (s .args .drift-verdict) 0 (c .if2 .taken)) refl)
 
 -- if row_met(weights, values, 0, 1, figure, tolerance)
 row-met-requires : tie.Need-row-met-requires

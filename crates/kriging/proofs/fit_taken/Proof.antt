@@ -17,15 +17,15 @@ use Rattle.elimination.specs.Inverse.{laid}
 use Rattle.elimination.specs.Call.{afterElimination}
 use Rattle.elimination.proofs.Laid.{kept-laid}
 use Rattle.elimination.proofs.Stops.{refused-exactly}
+use Rattle.survey.specs.Limits.{base, mostDrift}
 use Rattle.survey.specs.Survey.{Survey, wells, columns, size}
 use Rattle.kriging_theory.specs.Drift.{DriftIn, drift}
 use Rattle.kriging_theory.specs.Assembly.{between, joined, entry, assembled}
-use Rattle.kriging_theory.specs.Areas.{withTrend}
 use Rattle.kriging_theory.specs.Node.{nodeOf}
-use Rattle.kriging_theory.specs.Fit.{nodesAnswered, answered}
+use Rattle.kriging_theory.specs.Fit.{answered}
 use Rattle.kriging.proofs.Taken.{few-wells, few-columns, columns-counted, coords-twice, externals-whole, node-externals}
 use Rattle.kriging.proofs.Taken.{work-long, predicted-long, variance-long, verdicts-long, weights-long, multipliers-long, trend-long}
-use Rattle.kriging.proofs.Fitting.{drift-laid, matrix-laid, trend-is, taken-there}
+use Rattle.kriging.proofs.Fitting.{drift-laid, matrix-laid, trend-is, with-trend, taken-there}
 use Rattle.kriging.proofs.fit_taken.Proof.States.{at-entry, at-table, at-columns, at-laid, at-drift, at-matrix, at-ended}
 use Rattle.kriging.proofs.fit_taken.Proof.States.{at-trend, at-done, at-solved, at-nodes, survey-of, areas-of}
 use Rattle.kriging.proofs.fit_taken.Statement.{statement}
@@ -36,14 +36,14 @@ mod States
 counted : (c : tie.After-drift-columns) → c .drift-columns .result ≡ columns (survey-of c)
 counted c = c .drift-columns .ensures ∙ columns-counted (survey-of c) (areas-of c) (at-entry c .pre)
 
--- F fits its 576 places
-fits : (c : tie.After-drift-columns) → wells (survey-of c) * columns (survey-of c) ≤ 576
+-- F fits its places
+fits : (c : tie.After-drift-columns) → wells (survey-of c) * columns (survey-of c) ≤ mostDrift
 fits c =
     let s = survey-of c in
     let n = few-wells s (areas-of c) (at-entry c .pre) in
     let p = few-columns s (areas-of c) (at-entry c .pre) in
-    let l : wells s < 49 = omega arith in
-    omega (arith, row-end (columns s) (wells s) 49 l, p)
+    let l : wells s < base .wells + 1 = omega arith in
+    omega (arith, row-end (columns s) (wells s) (base .wells + 1) l, p)
 
 -- let p = survey_checks::counts::drift_columns(bases);
 drift-columns-requires : tie.Need-drift-columns-requires
@@ -108,7 +108,7 @@ fill-drift-requires c κs =
     let t = at-entry d .pre in
     let e = externals-whole s a t in
     let k = coords-twice s a t in
-    (sym (counted d), omega arith, omega arith, subst (λ (p : ℕ). wells s * p ≤ 576) (sym (counted d)) (fits d))
+    (sym (counted d), omega arith, omega arith, subst (λ (p : ℕ). wells s * p ≤ mostDrift) (sym (counted d)) (fits d))
 
 -- assemble(coords, options, &table, &drift, n, p, work);
 slice-aggregate-assemble : tie.Need-slice-aggregate-assemble
@@ -219,9 +219,9 @@ returns c =
     let a = areas-of d in
     let t = at-trend (n .before) .fill-trend in
     ap (outcome 0)
-    (n .krige-nodes .ensures (at-entry d .args .external .now) (t .last .1 .1 .1 .0) (drift-in (at-drift (at-matrix g)))
-    ∙ ap (withTrend (nodesAnswered s a (g .gauss-jordan-invert-uked .last .0) (nodeOf s (g .gauss-jordan-invert-uked .last .0))))
-    (t .ensures ∙ trend-is s (g .gauss-jordan-invert-uked .last .0) (a .trend) _ (counted d) (finished-long g) (trend-long s a (at-entry d .pre))))
+    (with-trend s
+    (t .ensures ∙ trend-is s (g .gauss-jordan-invert-uked .last .0) (a .trend) _ (counted d) (finished-long g) (trend-long s a (at-entry d .pre)))
+    (n .krige-nodes .ensures (at-entry d .args .external .now) (a .trend) (drift-in (at-drift (at-matrix g)))))
     ∙ taken-there s a Done (g .gauss-jordan-invert-uked .last .0) (at-entry d .pre)
     (ap (λ (r : Elimination). elimination.outcomeOf r (g .gauss-jordan-invert-uked .last .0)) (sym (at-done lent .enum-told .given .1))
     ∙ eliminated-in g)

@@ -94,7 +94,7 @@ cast-verdicts c = record { fits = c .before .krige-node .ensures .1 .0 }
 slice-write-verdicts : tie.Need-slice-write-verdicts Inv-loop μ-loop
 slice-write-verdicts c = let l = c .before .before .before in omega (arith, below (c .before .before), at-entry l .pre .7, l .loop .inv .8)
 
--- z has its 60 places: the wells' lie inside, and there are n of them
+-- z has its places: the wells' lie inside, and there are n of them
 z-inside : (c : State tie.After-krige-node) → length (at-entry (loop-of c) .args .values .now) ≤ length (c .krige-node .result .z)
 z-inside c = omega (arith, c .krige-node .ensures .0, at-entry (loop-of c) .pre .2)
 

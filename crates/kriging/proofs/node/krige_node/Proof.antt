@@ -10,6 +10,7 @@ use lib.Ieee.{Float, nan}
 use Rattle.audit.specs.Audit.{verdictWith}
 use Rattle.audit.specs.Lists.{weighedIn, auditedIn}
 use Rattle.audit.proofs.Bounds.{columns-bound, verdict-bound}
+use Rattle.survey.specs.Limits.{mostSize}
 use Rattle.survey.specs.Survey.{Survey, surveyOf, wells, nodeX, nodeY}
 use Rattle.kriging_theory.specs.Drift.{driftRow}
 use Rattle.kriging_theory.specs.Node.{gammaTo, rightHandOf, rightHand}
@@ -72,7 +73,7 @@ fill-right-hand-requires c κs = search needs
 array-share-prefix-b : tie.Need-array-share-prefix-b
 array-share-prefix-b c = search needs
 
--- b has its 60 places, and so the part of it that is lent has size ones
+-- b has its places, and so the part of it that is lent has size ones
 b-length : (c : tie.After-b3) → let r = at-right c in length (take (size-of (at-entry r)) (b-of r)) ≡ size-of (at-entry r)
 b-length c =
     let r = at-right c in
@@ -87,7 +88,7 @@ solve-node-requires c κs =
     let work = at-entry (at-right c) .args .work .now in
     (omega (arith, b-length c), omega (arith, b-length c, p .3), subst (λ (l : ℕ). 2 * l * l ≤ length work) (sym (b-length c)) (p .6))
 
--- z has its 60 places
+-- z has its places
 z-inside : (c : tie.After-solve-node) → length (at-entry (at-right (at-b c)) .args .values .now) ≤ length (c .solve-node .result .z)
 z-inside c = omega (arith, c .solve-node .ensures .0, at-entry (at-right (at-b c)) .pre .3)
 
@@ -132,7 +133,7 @@ wells-of v = length (at-entry (at-right (at-b v)) .args .values .now)
 abbrev f0-of : tie.After-solve-node → List Float
 f0-of v = let r = at-right (at-b v) in drop (wells-of v) (take (size-of (at-entry r)) (b-of r))
 
-f0-length : (v : tie.After-solve-node) → length (f0-of v) ≤ 60
+f0-length : (v : tie.After-solve-node) → length (f0-of v) ≤ mostSize
 f0-length v =
     let r = at-right (at-b v) in
     omega (arith, length-drop (wells-of v) (take (size-of (at-entry r)) (b-of r)), b-length (at-b v), at-entry r .pre .3)
@@ -141,7 +142,7 @@ f0-length v =
 audited : (c : tie.After-audit-figure) → let v = at-solved (at-figure c) in
     let a = at-entry (at-right (at-b v)) .args in
     c .audit-figure .result
-    ≡ verdictWith (v .solve-node .result .columns)
+    ≡ verdictWith (v .solve-node .result .«drift_verdict»)
     (auditedIn (weighedIn (take (wells-of v) (v .solve-node .result .z)) [] (f0-of v) (a .tolerance)) (a .values .now) (figure-of c))
 audited c =
     let v = at-solved (at-figure c) in
@@ -149,7 +150,7 @@ audited c =
     let a = at-entry r .args in
     c .audit-figure .ensures
     ∙ ap
-    (λ (f0 : List Float). verdictWith (v .solve-node .result .columns)
+    (λ (f0 : List Float). verdictWith (v .solve-node .result .«drift_verdict»)
     (auditedIn (weighedIn (take (wells-of v) (v .solve-node .result .z)) [] f0 (a .tolerance)) (a .values .now) (figure-of c)))
     (part-is (wells-of v) (a .p) (b-of r)
     (omega (arith, r .fill-right-hand .kept .1 .1 .1 .1 .1 .1 .1 .1 .1 .0, at-entry r .pre .3)))
@@ -159,7 +160,7 @@ byte : (c : tie.After-audit-figure) → c .audit-figure .result ≤ 255
 byte c =
     let v = at-solved (at-figure c) in
     let few = f0-length v in
-    let columns : v .solve-node .result .columns ≤ 255 =
+    let columns : v .solve-node .result .«drift_verdict» ≤ 255 =
     subst (λ (k : ℕ). k ≤ 255) (sym (v .solve-node .ensures .1 .1 .1)) (columns-bound _ _ (omega (arith, few))) in
     subst (λ (k : ℕ). k ≤ 255) (sym (audited c)) (verdict-bound _ _ columns (omega (arith, few)))
 

@@ -12,6 +12,7 @@ use Rattle.ieee.specs.Floats.{zeroFloat, maxOf}
 use Rattle.audit.specs.Audit.{columnVerdictGiven}
 use Rattle.audit.specs.Lists.{weighedIn}
 use Rattle.solution.proofs.Room.{solved-is}
+use Rattle.survey.specs.Limits.{mostSize}
 use Rattle.kriging_theory.specs.Node.{zOf, varianceOf}
 use Rattle.kriging.proofs.node.solve_node.Statement.{statement}
 use Rattle.kriging.proofs.node.solve_node.Tie as tie
@@ -54,8 +55,8 @@ max-requires c κs = search needs
 array-share-prefix-z : tie.Need-array-share-prefix-z
 array-share-prefix-z c = search needs
 
--- z has its 60 places
-long : (c : tie.After-z4) → length (at-z c .fill-z .last .1 .1 .1 .0) ≡ 60
+-- z has its places
+long : (c : tie.After-z4) → length (at-z c .fill-z .last .1 .1 .1 .0) ≡ mostSize
 long c = at-z c .fill-z .kept .1 .1 .1 .0
 
 slice-aggregate-audit-columns : tie.Need-slice-aggregate-audit-columns

@@ -3,20 +3,21 @@
 use Prim.Native.Nat.{ℕ, _+_, _*_, _^_, _<_}
 use native.Mathlib.Omega.{arith}
 use mathlib.Core.Path.{_≡_, refl, sym, ap, _∙_}
-use mathlib.Core.Bool.{Bool, _||_}
-use mathlib.Core.List.{List, _++_}
+use mathlib.Core.Bool.{Bool}
+use mathlib.Core.List.{List, [], _∷_, _++_}
 use borrow.Author.Needs.{needs}
 use lib.Dec.{ltb}
 use lib.ListN.{length}
 use Rattle.error.specs.Numbers.{judged}
 use Rattle.error.specs.Tests.{Test, firstOf}
+use Rattle.error.specs.Short.{lent, tooShort}
 use Rattle.error.proofs.First.{here, past, none, refused, accepted}
 use Rattle.elimination.specs.Call.{workTests}
 use Rattle.survey.specs.Survey.{Survey, surveyOf, wells, nodeCount, columns, size}
 use Rattle.survey.specs.Refusals.{surveyTests, surveyRefusal}
 use Rattle.survey.proofs.Accepted.{survey-first, counted-exactly}
-use Rattle.kriging_theory.specs.Areas.{Areas, areasOf}
-use Rattle.kriging_theory.specs.Refusals.{shortAnswer, answerTests, tests, refusal}
+use Rattle.kriging_theory.specs.Areas.{Areas, areasOf, answerAreas}
+use Rattle.kriging_theory.specs.Refusals.{answerTests, tests, refusal}
 use Rattle.kriging.proofs.refusals.fit_refusal.Statement.{statement}
 use Rattle.kriging.proofs.refusals.fit_refusal.Tie as tie
 
@@ -132,12 +133,11 @@ abbrev short-for : tie.Start → ℕ → Bool
 short-for c p =
     let s = survey c in
     let a = areas c in
-    ltb (length (a .predicted)) (nodeCount s)
-    || (ltb (length (a .variance)) (nodeCount s)
-    || (ltb (length (a .verdicts)) (nodeCount s)
-    || (ltb (length (a .weights)) (wells s * nodeCount s) || (ltb (length (a .multipliers)) p || ltb (length (a .trend)) p))))
+    let n = wells s in
+    let m = nodeCount s in
+    tooShort (lent (a .predicted) m ∷ lent (a .variance) m ∷ lent (a .verdicts) m ∷ lent (a .weights) (n * m) ∷ lent (a .multipliers) p ∷ lent (a .trend) p ∷ [])
 
-answer-is : (c : tie.After-short-answer) → let s = at-work (c .before) in c .short-answer .result ≡ shortAnswer (survey s) (areas s)
+answer-is : (c : tie.After-short-answer) → let s = at-work (c .before) in c .short-answer .result ≡ tooShort (answerAreas (survey s) (areas s))
 answer-is c = c .short-answer .ensures ∙ ap (short-for (at-work (c .before))) (exactly (c .before .before .before))
 
 returns-3 : tie.Need-returns-3

@@ -1,17 +1,20 @@
 -- `kriging::refusals::short_answer` meets its contract: area after area.
 use Prim.Native.Nat.{_*_}
 use mathlib.Core.Path.{_≡_, sym, _∙_}
-use mathlib.Core.Bool.{Bool, _||_}
+use mathlib.Core.Bool.{Bool, false, _||_}
 use borrow.Author.Needs.{needs}
 use borrow.Author.Tests.{lt-ltb, le-ltb}
 use lib.Dec.{ltb}
-use Rattle.error.proofs.First.{one, other}
+use Rattle.error.proofs.First.{one, other, last-one}
 use Rattle.kriging.proofs.refusals.short_answer.Statement.{statement}
 use Rattle.kriging.proofs.refusals.short_answer.Tie as tie
 
 -- What is left to look at, area after area.
+abbrev trend-left : tie.Start → Bool
+trend-left c = ltb (c .args .trend) (c .args .p) || false
+
 abbrev multipliers-left : tie.Start → Bool
-multipliers-left c = ltb (c .args .multipliers) (c .args .p) || ltb (c .args .trend) (c .args .p)
+multipliers-left c = ltb (c .args .multipliers) (c .args .p) || trend-left c
 
 abbrev weights-left : tie.Start → Bool
 weights-left c = ltb (c .args .weights) (c .args .n * c .args .m) || multipliers-left c
@@ -65,7 +68,9 @@ returns-5 c = sym (past-4 (c .before) ∙ one _ (lt-ltb _ _ (c .if5 .taken)))
 
 -- trend < p
 returns-6 : tie.Need-returns-6
-returns-6 c = let a = at-entry (c .before) .args in sym (past-4 (c .before) ∙ other _ (le-ltb (a .multipliers) (a .p) (c .if5 .left)))
+returns-6 c =
+    let a = at-entry (c .before) .args in
+    sym (past-4 (c .before) ∙ other _ (le-ltb (a .multipliers) (a .p) (c .if5 .left)) ∙ last-one (ltb (a .trend) (a .p)))
 
 pub short-answer-spec : {M : Type 1} → statement M
 short-answer-spec = tie.close (tie.spec returns returns-2 returns-3 below-product-requires returns-4 returns-5 returns-6)
