@@ -10,9 +10,9 @@ use Rattle.area.specs.Area.{part, copied}
 use Rattle.ieee.specs.Bytes.{f64sIn}
 use Rattle.survey_file_theory.specs.Contents.{numberCount}
 use Rattle.survey_file_theory.specs.File.{fileLength}
-use Rattle.survey_file_theory.specs.Areas.{Areas, filledWith}
-use Rattle.survey_file_theory.specs.Rules.{WellFormed, Room}
-use Rattle.survey_file_theory.specs.Refusals.{shortArea}
+use Rattle.error.specs.Short.{tooShort}
+use Rattle.survey_file_theory.specs.Areas.{Areas, filledWith, listAreas}
+use Rattle.survey_file_theory.specs.Rules.{WellFormed, ListsFit}
 use Rattle.survey_file_theory.specs.Reader.{surveyIn}
 use Rattle.survey_file_reader.specs.declared.trailer.Counts.{Counts}
 use Rattle.survey_file_reader.specs.Counts.{areasOf, countsIn, shortOf}
@@ -27,7 +27,7 @@ pub record Meets (bytes : List ℕ) (areas : Areas) (k : Counts) : Type 0 where
   pub nodes : 2 * k .nodes ≤ length (areas .nodes)
   pub nodeExternal : k .externals * k .nodes ≤ length (areas .nodeExternal)
 
-pub meets : (version : ℕ) (bytes : List ℕ) (areas : Areas) (k : Counts) → k ≡ countsIn bytes → WellFormed version bytes → Room bytes areas
+pub meets : (version : ℕ) (bytes : List ℕ) (areas : Areas) (k : Counts) → k ≡ countsIn bytes → WellFormed version bytes → ListsFit bytes areas
     → Meets bytes areas k
 meets version bytes areas k e w r =
     let m = w .meet in
@@ -45,7 +45,7 @@ meets version bytes areas k e w r =
 pub short-is : (bytes : List ℕ) (areas : Areas) (k : Counts) (short : Bool) → k ≡ countsIn bytes
     → short ≡ shortOf k (length (areas .values)) (length (areas .coords)) (length (areas .bases))
     (length (areas .external)) (length (areas .nodes)) (length (areas .nodeExternal))
-    → short ≡ shortArea bytes areas
+    → short ≡ tooShort (listAreas bytes areas)
 short-is bytes areas k short e f =
     let with : Counts → Bool = λ j. shortOf j (length (areas .values)) (length (areas .coords)) (length (areas .bases))
     (length (areas .external)) (length (areas .nodes)) (length (areas .nodeExternal)) in

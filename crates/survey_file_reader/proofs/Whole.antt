@@ -16,7 +16,7 @@ use Rattle.survey_file_theory.specs.declared.Header.{Header}
 use Rattle.survey_file_theory.specs.File.{trailerLength}
 use Rattle.survey_file_theory.specs.Areas.{Areas, filledWith}
 use Rattle.survey_file_theory.specs.Trailer.{wellsIn, nodesIn, basesIn}
-use Rattle.survey_file_theory.specs.Rules.{WellFormed, Room}
+use Rattle.survey_file_theory.specs.Rules.{WellFormed, ListsFit}
 use Rattle.survey_file_theory.specs.Refusals.{malformed, readerRefusal}
 use Rattle.survey_file_theory.specs.Reader.{surveyIn, headerOf, Outcome, callWhere, reader, Ends}
 use Rattle.survey_file_theory.proofs.Told.{malformed-told}
@@ -31,7 +31,7 @@ module _ (version : ℕ) (bytes : List ℕ) where
       omega (arith, w .least, codes-before version bytes w)
 
   -- past 18 too, the areas have room
-  pub accepted : (areas : Areas) → readerRefusal version bytes areas ≡ 0 → WellFormed version bytes × Room bytes areas
+  pub accepted : (areas : Areas) → readerRefusal version bytes areas ≡ 0 → WellFormed version bytes × ListsFit bytes areas
   unfolding reader callWhere
   accepted areas e = read-exactly version bytes areas .0 (ap (λ (k : ℕ). callWhere k bytes areas .number) e)
 

@@ -1,9 +1,10 @@
 -- What the parts of the reader find: the counts of a file, its last bytes, and the areas as the calls name them.
 use Prim.Native.Nat.{ℕ, _*_, _<_}
 use mathlib.Core.Bool.{Bool, not, _||_}
-use mathlib.Core.List.{List}
+use mathlib.Core.List.{List, [], _∷_}
 use lib.Dec.{eqb, ltb}
 use lib.Ieee.{Float}
+use Rattle.error.specs.Short.{area, tooShort}
 use Rattle.survey_file_theory.specs.Areas.{Areas}
 use Rattle.survey_file_theory.specs.Trailer.{startIn, wellsIn, nodesIn, basesIn, externalsIn, modelIn, versionIn, zeroIn, lastZeroIn}
 use Rattle.survey_file_reader.specs.declared.trailer.Counts.{Counts}
@@ -35,8 +36,11 @@ wrongEnding version bytes =
 -- 18: "each list's length", of areas of these lengths
 abbrev pub shortOf : Counts → ℕ → ℕ → ℕ → ℕ → ℕ → ℕ → Bool
 shortOf counts values coords bases external nodes nodeExternal =
-    ltb values (counts .wells)
-    || (ltb coords (2 * counts .wells)
-    || (ltb bases (counts .bases)
-    || (ltb external (counts .externals * counts .wells)
-    || (ltb nodes (2 * counts .nodes) || ltb nodeExternal (counts .externals * counts .nodes)))))
+    tooShort
+    (area values (counts .wells)
+    ∷ area coords (2 * counts .wells)
+    ∷ area bases (counts .bases)
+    ∷ area external (counts .externals * counts .wells)
+    ∷ area nodes (2 * counts .nodes)
+    ∷ area nodeExternal (counts .externals * counts .nodes)
+    ∷ [])

@@ -14,7 +14,7 @@ use survey_file_theory::Read;
 ghost use mathlib.Core.Path.{_≡_};
 ghost use Rattle.survey_file_theory.specs.File.{baseVersion};
 ghost use Rattle.survey_file_theory.specs.Areas.{filledWith};
-ghost use Rattle.survey_file_theory.specs.Rules.{WellFormed, Room};
+ghost use Rattle.survey_file_theory.specs.Rules.{WellFormed, ListsFit};
 ghost use Rattle.survey_file_theory.specs.Reader.{surveyIn, outcomeOf, reader, Ends};
 ghost use Rattle.survey_file_reader.specs.Counts.{areasOf};
 
@@ -28,7 +28,7 @@ fn read_lists(
     nodes: &mut [f64],
     node_external: &mut [f64],
 )
-    requires { ⌜ WellFormed baseVersion (now bytes) × Room (now bytes)
+    requires { ⌜ WellFormed baseVersion (now bytes) × ListsFit (now bytes)
         (areasOf (now values) (now coords) (now bases) (now external) (now nodes) (now «node_external»)) ⌝ }
     ensures { λ _. ⌜ areasOf (now (values .exit)) (now (coords .exit)) (now (bases .exit)) (now (external .exit))
         (now (nodes .exit)) (now («node_external» .exit))

@@ -14,7 +14,7 @@ use Rattle.survey.specs.Survey.{Survey}
 use Rattle.survey_file_theory.specs.Contents.{numberCount}
 use Rattle.survey_file_theory.specs.Areas.{Areas, filledWith}
 use Rattle.survey_file_theory.specs.Trailer.{startIn, wellsIn, nodesIn, basesIn, externalsIn}
-use Rattle.survey_file_theory.specs.Rules.{WellFormed, Room}
+use Rattle.survey_file_theory.specs.Rules.{WellFormed, ListsFit}
 use Rattle.survey_file_theory.specs.Reader.{surveyIn, ListLengths, Filled}
 use Rattle.survey_file_theory.proofs.WellFormed.{codes-before}
 
@@ -46,7 +46,7 @@ lengths version bytes w =
 copied-of : {A : Type 0} (d : A) (xs area : List A) (n : ℕ) → length xs ≡ n → n ≤ length area → copied d xs area ≡ xs ++ drop n area
 copied-of {A} d xs area n e h = copied-is d xs area (omega arith) ∙ ap (λ (k : ℕ). xs ++ drop k area) e
 
-pub filled : (bytes : List ℕ) (s : Survey) (areas : Areas) → ListLengths bytes s → Room bytes areas → Filled bytes s areas (filledWith s areas)
+pub filled : (bytes : List ℕ) (s : Survey) (areas : Areas) → ListLengths bytes s → ListsFit bytes areas → Filled bytes s areas (filledWith s areas)
 filled bytes s areas l r =
     record {
       values = copied-of nan (s .values) (areas .values) (wellsIn bytes) (l .values) (r .values);

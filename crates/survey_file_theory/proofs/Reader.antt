@@ -10,7 +10,7 @@ use Rattle.error.proofs.Rules.{ruled-exactly, none-exactly}
 use Rattle.survey.specs.Survey.{Survey}
 use Rattle.survey_file_theory.specs.Areas.{Areas, filledWith}
 use Rattle.survey_file_theory.specs.Trailer.{wellsIn, nodesIn, basesIn}
-use Rattle.survey_file_theory.specs.Rules.{WellFormed, Room, readerRules}
+use Rattle.survey_file_theory.specs.Rules.{WellFormed, ListsFit, readerRules}
 use Rattle.survey_file_theory.specs.Refusals.{readerRefusal}
 use Rattle.survey_file_theory.specs.Reader.{surveyIn, readBytes, headerOf, callWhere, reader, Reads, Ends}
 use Rattle.survey_file_theory.proofs.Told.{reader-told}
@@ -33,7 +33,7 @@ module _ (version : ℕ) (bytes : List ℕ) (areas : Areas) where
       let r = ruled-exactly (reader-told version bytes areas) k in
       (λ e. r .0 (sym number-is ∙ e), λ x. number-is ∙ r .1 x)
 
-  pub read-exactly : (reader version bytes areas .number ≡ 0) ↔ (WellFormed version bytes × Room bytes areas)
+  pub read-exactly : (reader version bytes areas .number ≡ 0) ↔ (WellFormed version bytes × ListsFit bytes areas)
   unfolding readerRefusal
   read-exactly =
       let n = none-exactly (reader-told version bytes areas) tt in
@@ -51,13 +51,13 @@ module _ (version : ℕ) (bytes : List ℕ) (areas : Areas) where
       there (inr (m, inl x)) = absurd (let e = x .1 in omega arith)
       there (inr (m, inr x)) = absurd (let e = x .1 in omega arith)
 
-  pub eighteen-exactly : (reader version bytes areas .number ≡ 18) ↔ (WellFormed version bytes × (¬ Room bytes areas))
+  pub eighteen-exactly : (reader version bytes areas .number ≡ 18) ↔ (WellFormed version bytes × (¬ ListsFit bytes areas))
   eighteen-exactly = (
     λ e. there (reader-ruled 18 .0 e),
     λ x. reader-ruled 18 .1 (inr (well-formed-exactly version bytes .0 (x .0), inl (short-exactly bytes areas .1 (x .1), refl))),
   )
     where
-      there : Ruled (readerRules version bytes areas) 18 → WellFormed version bytes × (¬ Room bytes areas)
+      there : Ruled (readerRules version bytes areas) 18 → WellFormed version bytes × (¬ ListsFit bytes areas)
       there (inl x) = absurd (let e = x .1 in omega arith)
       there (inr (m, inl x)) = (well-formed-exactly version bytes .1 m, short-exactly bytes areas .0 (x .0))
       there (inr (m, inr x)) = absurd (let e = x .1 in omega arith)
@@ -70,12 +70,12 @@ module _ (version : ℕ) (bytes : List ℕ) (areas : Areas) where
   )
 
   -- ---- what the call leaves
-  pub reader-reads : WellFormed version bytes → Room bytes areas → reader version bytes areas ≡ callWhere 0 bytes areas
+  pub reader-reads : WellFormed version bytes → ListsFit bytes areas → reader version bytes areas ≡ callWhere 0 bytes areas
   unfolding reader
   reader-reads w r = ap (λ (k : ℕ). callWhere k bytes areas) (sym number-is ∙ read-exactly .1 (w, r))
 
   -- the answer is of what `readBytes` reads
-  pub reader-survey : (s : Survey) → readBytes version bytes ≡ some s → Room bytes areas
+  pub reader-survey : (s : Survey) → readBytes version bytes ≡ some s → ListsFit bytes areas
       → reader version bytes areas
       ≡ record { number = 0; header = some (headerOf (wellsIn bytes) (nodesIn bytes) (basesIn bytes) s); areas = filledWith s areas }
   unfolding callWhere
@@ -95,7 +95,7 @@ module _ (version : ℕ) (bytes : List ℕ) (areas : Areas) where
       go zero h = absurd (h refl)
       go (suc k) h = (refl, refl)
 
-  done : WellFormed version bytes → Room bytes areas → Reads bytes areas (callWhere 0 bytes areas)
+  done : WellFormed version bytes → ListsFit bytes areas → Reads bytes areas (callWhere 0 bytes areas)
   unfolding callWhere
   done w r =
       let l = lengths version bytes w in

@@ -16,7 +16,7 @@ use Rattle.survey.specs.Survey.{Survey, wells, nodeCount, externals}
 use Rattle.survey_file_theory.specs.Contents.{numbers, withoutIgnored, Filable}
 use Rattle.survey_file_theory.specs.File.{fileOf, writerFile}
 use Rattle.survey_file_theory.specs.Areas.{Areas, filledWith, Holds}
-use Rattle.survey_file_theory.specs.Rules.{WellFormed, Room, Writable}
+use Rattle.survey_file_theory.specs.Rules.{WellFormed, ListsFit, Writable}
 use Rattle.survey_file_theory.specs.Refusals.{writerRefusal}
 use Rattle.survey_file_theory.specs.Reader.{surveyIn, readBytes, headerOf, reader, answerOf}
 use Rattle.survey_file_theory.specs.Reader as Reader
@@ -118,7 +118,7 @@ reading-back : (v : ℕ) (s : Survey) (bytes : List ℕ) (areas : Areas) → Wel
     → reader v bytes areas ≡ answerOf s areas
 unfolding Reader.callWhere
 reading-back v s bytes areas w c e h =
-    let room : Room bytes areas =
+    let room : ListsFit bytes areas =
     record {
       values = rw (c .wells) (h .values);
       coords = rw (c .wells) (h .coords);

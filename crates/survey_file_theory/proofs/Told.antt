@@ -1,19 +1,20 @@
 -- Each test of the reader and of the writer tells its rule's condition.
 use Prim.Native.Nat.{ℕ, _*_}
 use native.Mathlib.Omega.{arith}
-use mathlib.Core.Path.{_≡_, _∙_, sym}
-use mathlib.Core.List.{List}
+use mathlib.Core.Path.{_≡_, refl, _∙_, sym}
+use mathlib.Core.List.{List, [], _∷_}
 use lib.ListN.{length}
 use Rattle.error.specs.Tests.{Tells}
 use Rattle.error.proofs.Tells.{told-as, either, different, below, not-finite-is}
-use Rattle.error.specs.Rules.{Told, no-more, tells}
+use Rattle.error.specs.Rules.{Told, no-more, tells, numbersOf}
+use Rattle.error.proofs.Short.{short-told}
 use Rattle.survey.specs.Survey.{Survey, wells, nodeCount}
 use Rattle.survey.proofs.Told.{coords-told, nodes-told, external-told, node-external-told, numbers-told}
 use Rattle.survey_file_theory.specs.File.{longestFile, greatestCount, trailerLength, writerFile}
-use Rattle.survey_file_theory.specs.Areas.{Areas}
-use Rattle.survey_file_theory.specs.Trailer.{wellsIn, nodesIn, basesIn, externalsIn, lengthIn, modelIn, versionIn, zeroIn, lastZeroIn}
-use Rattle.survey_file_theory.specs.Rules.{statedLength, Malformed, ShortArea, SomeNumberNotFinite, readerRules, writerRules}
-use Rattle.survey_file_theory.specs.Refusals.{malformed, shortArea, someNumberNotFinite, readerTests, writerTests}
+use Rattle.survey_file_theory.specs.Areas.{Areas, listAreas}
+use Rattle.survey_file_theory.specs.Trailer.{lengthIn, modelIn, versionIn, zeroIn, lastZeroIn}
+use Rattle.survey_file_theory.specs.Rules.{statedLength, Malformed, SomeNumberNotFinite, readerRules, writerRules}
+use Rattle.survey_file_theory.specs.Refusals.{malformed, someNumberNotFinite, readerTests, writerTests}
 
 -- ---- the reader
 same-length : (bytes : List ℕ) → lengthIn bytes ≡ statedLength bytes
@@ -29,16 +30,8 @@ malformed-told version bytes =
     (either (below 4 (modelIn bytes))
     (either (different (versionIn bytes) version) (either (different (zeroIn bytes) 0) (different (lastZeroIn bytes) 0)))))))
 
-pub short-told : (bytes : List ℕ) (areas : Areas) → Tells (shortArea bytes areas) (ShortArea bytes areas)
-short-told bytes areas =
-    either (below (length (areas .values)) (wellsIn bytes))
-    (either (below (length (areas .coords)) (2 * wellsIn bytes))
-    (either (below (length (areas .bases)) (basesIn bytes))
-    (either (below (length (areas .external)) (externalsIn bytes * wellsIn bytes))
-    (either (below (length (areas .nodes)) (2 * nodesIn bytes)) (below (length (areas .nodeExternal)) (externalsIn bytes * nodesIn bytes))))))
-
 pub reader-told : (version : ℕ) (bytes : List ℕ) (areas : Areas) → Told (readerTests version bytes areas) (readerRules version bytes areas)
-reader-told version bytes areas = tells 16 (malformed-told version bytes) (tells 18 (short-told bytes areas) no-more)
+reader-told version bytes areas = tells 16 (malformed-told version bytes) (tells 18 (short-told (listAreas bytes areas)) no-more)
 
 -- ---- the writer
 all-numbers-told : (s : Survey) → Tells (someNumberNotFinite s) (SomeNumberNotFinite s)
@@ -58,3 +51,10 @@ writer-told version s area =
     (either (below longestFile file)
     (either (below greatestCount (wells s)) (either (below greatestCount (nodeCount s)) (below greatestCount (length (s .bases))))))
     (tells 18 (below (length area) file) no-more))))))
+
+-- ---- the order in which their numbers count, in full
+pub reader-order : (version : ℕ) (bytes : List ℕ) (areas : Areas) → numbersOf (readerRules version bytes areas) ≡ 16 ∷ 18 ∷ []
+reader-order version bytes areas = refl
+
+pub writer-order : (version : ℕ) (s : Survey) (area : List ℕ) → numbersOf (writerRules version s area) ≡ 1 ∷ 2 ∷ 6 ∷ 8 ∷ 11 ∷ 16 ∷ 18 ∷ []
+writer-order version s area = refl

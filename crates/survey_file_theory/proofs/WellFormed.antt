@@ -1,4 +1,4 @@
--- Which bytes the reader takes: those that are well formed, in areas with room; `Malformed` and `ShortArea` are exactly the opposites.
+-- Which bytes the reader takes: those that are well formed, in areas with room; `Malformed` and `TooShort` are exactly the opposites.
 use Prim.Native.Nat.{ℕ, _-_, _*_, _≤_, _<_}
 use native.Mathlib.Omega.{arith}
 use mathlib.Core.Path.{_≡_, ap}
@@ -7,13 +7,15 @@ use mathlib.Core.Bool.{Bool}
 use mathlib.Core.List.{List}
 use mathlib.Core.Option.{none, some}
 use lib.ListN.{length}
+use Rattle.error.specs.Short.{TooShort}
 use Rattle.error.proofs.Tells.{affirm, refute, stable, equal}
+use Rattle.error.proofs.Short.{areaAt, short-told, none-short, long-at}
 use Rattle.survey.specs.Survey.{Survey}
-use Rattle.survey_file_theory.specs.Areas.{Areas}
+use Rattle.survey_file_theory.specs.Areas.{Areas, listAreas}
 use Rattle.survey_file_theory.specs.Trailer.{wellsIn, nodesIn, basesIn, externalsIn, modelIn, versionIn, zeroIn, lastZeroIn}
-use Rattle.survey_file_theory.specs.Rules.{statedLength, Malformed, WellFormed, ShortArea, Room}
+use Rattle.survey_file_theory.specs.Rules.{statedLength, Malformed, WellFormed, ListsFit}
 use Rattle.survey_file_theory.specs.Reader.{surveyIn, unlessMalformed, readBytes}
-use Rattle.survey_file_theory.proofs.Told.{malformed-told, short-told}
+use Rattle.survey_file_theory.proofs.Told.{malformed-told}
 
 -- ---- the file
 well-formed : (version : ℕ) (bytes : List ℕ) → ¬ Malformed version bytes → WellFormed version bytes
@@ -57,29 +59,20 @@ pub codes-before : (version : ℕ) (bytes : List ℕ) → WellFormed version byt
 codes-before version bytes w = let m = w .meet in omega arith
 
 -- ---- the areas
-room : (bytes : List ℕ) (areas : Areas) → ¬ ShortArea bytes areas → Room bytes areas
+room : (bytes : List ℕ) (areas : Areas) → ¬ TooShort (listAreas bytes areas) → ListsFit bytes areas
 room bytes areas n =
-    let first : ¬ (length (areas .values) < wellsIn bytes) = λ x. n (inl x) in
-    let second : ¬ (length (areas .coords) < 2 * wellsIn bytes) = λ x. n (inr (inl x)) in
-    let third : ¬ (length (areas .bases) < basesIn bytes) = λ x. n (inr (inr (inl x))) in
-    let fourth : ¬ (length (areas .external) < externalsIn bytes * wellsIn bytes) = λ x. n (inr (inr (inr (inl x)))) in
-    let fifth : ¬ (length (areas .nodes) < 2 * nodesIn bytes) = λ x. n (inr (inr (inr (inr (inl x))))) in
-    let sixth : ¬ (length (areas .nodeExternal) < externalsIn bytes * nodesIn bytes) = λ x. n (inr (inr (inr (inr (inr x))))) in
-    omega arith
+    let long : (i : ℕ) → areaAt (listAreas bytes areas) i .taken ≤ areaAt (listAreas bytes areas) i .places = long-at (listAreas bytes areas) n in
+    record { values = long 0; coords = long 1; bases = long 2; external = long 3; nodes = long 4; nodeExternal = long 5 }
 
-not-short : (bytes : List ℕ) (areas : Areas) → Room bytes areas → ¬ ShortArea bytes areas
-not-short bytes areas r (inl x) = let l = r .values in omega arith
-not-short bytes areas r (inr (inl x)) = let l = r .coords in omega arith
-not-short bytes areas r (inr (inr (inl x))) = let l = r .bases in omega arith
-not-short bytes areas r (inr (inr (inr (inl x)))) = let l = r .external in omega arith
-not-short bytes areas r (inr (inr (inr (inr (inl x))))) = let l = r .nodes in omega arith
-not-short bytes areas r (inr (inr (inr (inr (inr x))))) = let l = r .nodeExternal in omega arith
+not-short : (bytes : List ℕ) (areas : Areas) → ListsFit bytes areas → ¬ TooShort (listAreas bytes areas)
+not-short bytes areas r =
+    none-short (listAreas bytes areas) (r .values, (r .coords, (r .bases, (r .external, (r .nodes, (r .nodeExternal, tt))))))
 
-pub room-exactly : (bytes : List ℕ) (areas : Areas) → Room bytes areas ↔ (¬ ShortArea bytes areas)
+pub room-exactly : (bytes : List ℕ) (areas : Areas) → ListsFit bytes areas ↔ (¬ TooShort (listAreas bytes areas))
 room-exactly bytes areas = (not-short bytes areas, room bytes areas)
 
-pub short-exactly : (bytes : List ℕ) (areas : Areas) → ShortArea bytes areas ↔ (¬ Room bytes areas)
-short-exactly bytes areas = (λ x r. not-short bytes areas r x, λ n. stable (short-told bytes areas) (λ x. n (room bytes areas x)))
+pub short-exactly : (bytes : List ℕ) (areas : Areas) → TooShort (listAreas bytes areas) ↔ (¬ ListsFit bytes areas)
+short-exactly bytes areas = (λ x r. not-short bytes areas r x, λ n. stable (short-told (listAreas bytes areas)) (λ x. n (room bytes areas x)))
 
 -- ---- what is read, exactly when
 pub reads : (version : ℕ) (bytes : List ℕ) → WellFormed version bytes → readBytes version bytes ≡ some (surveyIn bytes)

@@ -1,10 +1,12 @@
 -- The areas that the reader's caller lends, one for each list, and what a survey leaves in them.
 use Prim.Native.Nat.{ℕ, _*_, _≤_}
-use mathlib.Core.List.{List}
+use mathlib.Core.List.{List, [], _∷_}
 use lib.ListN.{length}
 use lib.Ieee.{Float, nan}
 use Rattle.area.specs.Area.{copied}
+use Rattle.error.specs.Short.{Lent, lent}
 use Rattle.survey.specs.Survey.{Survey, wells, nodeCount, externals}
+use Rattle.survey_file_theory.specs.Trailer.{wellsIn, nodesIn, basesIn, externalsIn}
 
 pub record Areas : Type 0 where
   pub values : List Float
@@ -25,6 +27,17 @@ filledWith s areas =
       nodes = copied nan (s .nodes) (areas .nodes);
       nodeExternal = copied nan (s .nodeExternal) (areas .nodeExternal);
     }
+
+-- 18: "an answer area too short: .. for the file's reader, each list's length"
+abbrev pub listAreas : List ℕ → Areas → List Lent
+listAreas bytes areas =
+    lent (areas .values) (wellsIn bytes)
+    ∷ lent (areas .coords) (2 * wellsIn bytes)
+    ∷ lent (areas .bases) (basesIn bytes)
+    ∷ lent (areas .external) (externalsIn bytes * wellsIn bytes)
+    ∷ lent (areas .nodes) (2 * nodesIn bytes)
+    ∷ lent (areas .nodeExternal) (externalsIn bytes * nodesIn bytes)
+    ∷ []
 
 -- areas that have room for a survey's lists
 pub record Holds (s : Survey) (areas : Areas) : Type 0 where

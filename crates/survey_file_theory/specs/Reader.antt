@@ -20,7 +20,7 @@ use Rattle.survey_file_theory.specs.declared.Read.{Read}
 use Rattle.survey_file_theory.specs.Contents.{numberCount, withoutIgnored}
 use Rattle.survey_file_theory.specs.Areas.{Areas, filledWith}
 use Rattle.survey_file_theory.specs.Trailer.{startIn, wellsIn, nodesIn, basesIn, externalsIn, modelIn, codesIn}
-use Rattle.survey_file_theory.specs.Rules.{WellFormed, Room, readerRules}
+use Rattle.survey_file_theory.specs.Rules.{WellFormed, ListsFit, readerRules}
 use Rattle.survey_file_theory.specs.Refusals.{malformed, readerRefusal}
 
 -- ---- what bytes say that are not malformed
@@ -131,7 +131,7 @@ pub record Reads (bytes : List ℕ) (areas : Areas) (o : Outcome) : Type 0 where
 pub record Ends (version : ℕ) (bytes : List ℕ) (areas : Areas) (o : Outcome) : Type 0 where
   -- the number is that of the first rule that applies, 0 where none does
   pub ruled : (k : ℕ) → (o .number ≡ k) ↔ Ruled (readerRules version bytes areas) k
-  pub accepted : (o .number ≡ 0) ↔ (WellFormed version bytes × Room bytes areas)
+  pub accepted : (o .number ≡ 0) ↔ (WellFormed version bytes × ListsFit bytes areas)
   -- "A refusal carries only its number and writes nothing"
   pub refused : o .number ≢ 0 → (o .header ≡ none) × (o .areas ≡ areas)
   pub reads : o .number ≡ 0 → Reads bytes areas o

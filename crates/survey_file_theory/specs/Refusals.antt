@@ -6,11 +6,12 @@ use lib.Dec.{eqb, ltb}
 use lib.ListN.{length}
 use lib.Ieee.Scale.{finite}
 use Rattle.error.specs.Tests.{Test, test, firstOf}
+use Rattle.error.specs.Short.{tooShort}
 use Rattle.survey.specs.Survey.{Survey, wells, nodeCount}
 use Rattle.survey.specs.Refusals.{wrongCoords, oddNodes, wrongExternal, wrongNodeExternal, numberNotFinite}
 use Rattle.survey_file_theory.specs.File.{longestFile, greatestCount, trailerLength, writerFile}
-use Rattle.survey_file_theory.specs.Areas.{Areas}
-use Rattle.survey_file_theory.specs.Trailer.{wellsIn, nodesIn, basesIn, externalsIn, lengthIn, modelIn, versionIn, zeroIn, lastZeroIn}
+use Rattle.survey_file_theory.specs.Areas.{Areas, listAreas}
+use Rattle.survey_file_theory.specs.Trailer.{lengthIn, modelIn, versionIn, zeroIn, lastZeroIn}
 
 -- 16: "under 14 or over 65,536 bytes, lengths that do not meet exactly, another model or version, trailer zeros not zero"
 abbrev pub malformed : ℕ → List ℕ → Bool
@@ -22,18 +23,9 @@ malformed version bytes =
     || (ltb 4 (modelIn bytes)
     || (not (eqb (versionIn bytes) version) || (not (eqb (zeroIn bytes) 0) || not (eqb (lastZeroIn bytes) 0)))))))
 
--- 18: "an answer area too short: .. for the file's reader, each list's length"
-abbrev pub shortArea : List ℕ → Areas → Bool
-shortArea bytes areas =
-    ltb (length (areas .values)) (wellsIn bytes)
-    || (ltb (length (areas .coords)) (2 * wellsIn bytes)
-    || (ltb (length (areas .bases)) (basesIn bytes)
-    || (ltb (length (areas .external)) (externalsIn bytes * wellsIn bytes)
-    || (ltb (length (areas .nodes)) (2 * nodesIn bytes) || ltb (length (areas .nodeExternal)) (externalsIn bytes * nodesIn bytes)))))
-
 -- "after 16"
 abbrev pub readerTests : ℕ → List ℕ → Areas → List Test
-readerTests version bytes areas = test 16 (malformed version bytes) ∷ test 18 (shortArea bytes areas) ∷ []
+readerTests version bytes areas = test 16 (malformed version bytes) ∷ test 18 (tooShort (listAreas bytes areas)) ∷ []
 
 -- 11: as of a survey, "r and t included"
 unfoldable pub someNumberNotFinite : Survey → Bool

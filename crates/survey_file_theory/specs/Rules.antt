@@ -6,12 +6,13 @@ use mathlib.Core.List.{List, [], _∷_}
 use lib.Dec.{T}
 use lib.ListN.{length}
 use Rattle.error.specs.Rules.{Rule, rule}
+use Rattle.error.specs.Short.{TooShort}
 use Rattle.ieee.specs.Finite.{NotFinite, allFinite}
 use Rattle.survey.specs.Survey.{Survey, wells, nodeCount, externals}
 use Rattle.survey.specs.Rules.{WrongCoords, OddNodes, WrongExternal, WrongNodeExternal, NumberNotFinite}
 use Rattle.survey_file_theory.specs.Contents.{numbers}
 use Rattle.survey_file_theory.specs.File.{writerFile}
-use Rattle.survey_file_theory.specs.Areas.{Areas}
+use Rattle.survey_file_theory.specs.Areas.{Areas, listAreas}
 use Rattle.survey_file_theory.specs.Trailer.{startIn, wellsIn, nodesIn, basesIn, externalsIn, modelIn, versionIn, zeroIn, lastZeroIn}
 
 -- ---- the reader
@@ -46,18 +47,8 @@ pub record WellFormed (version : ℕ) (bytes : List ℕ) : Type 0 where
   pub zero-byte : zeroIn bytes ≡ 0
   pub last-zero-byte : lastZeroIn bytes ≡ 0
 
--- 18: "an answer area too short: .. for the file's reader, each list's length"
-abbrev pub ShortArea : List ℕ → Areas → Type 0
-ShortArea bytes areas =
-    (length (areas .values) < wellsIn bytes)
-    ⊎ (length (areas .coords) < 2 * wellsIn bytes)
-    ⊎ (length (areas .bases) < basesIn bytes)
-    ⊎ (length (areas .external) < externalsIn bytes * wellsIn bytes)
-    ⊎ (length (areas .nodes) < 2 * nodesIn bytes)
-    ⊎ (length (areas .nodeExternal) < externalsIn bytes * nodesIn bytes)
-
--- when none is
-pub record Room (bytes : List ℕ) (areas : Areas) : Type 0 where
+-- when no list's area is too short: each has room for its list
+pub record ListsFit (bytes : List ℕ) (areas : Areas) : Type 0 where
   pub values : wellsIn bytes ≤ length (areas .values)
   pub coords : 2 * wellsIn bytes ≤ length (areas .coords)
   pub bases : basesIn bytes ≤ length (areas .bases)
@@ -67,7 +58,7 @@ pub record Room (bytes : List ℕ) (areas : Areas) : Type 0 where
 
 -- "for the file's reader, each list's length, after 16"
 abbrev pub readerRules : ℕ → List ℕ → Areas → List Rule
-readerRules version bytes areas = rule 16 (Malformed version bytes) ∷ rule 18 (ShortArea bytes areas) ∷ []
+readerRules version bytes areas = rule 16 (Malformed version bytes) ∷ rule 18 (TooShort (listAreas bytes areas)) ∷ []
 
 -- ---- the writer
 -- 11: as of a survey, "r and t included"

@@ -7,15 +7,17 @@ use mathlib.Core.Logic.{_≢_, inl, inr}
 use mathlib.Core.Bool.{Bool, true, false, cond}
 use mathlib.Core.List.{List}
 use lib.ListN.{length}
-use Rattle.error.specs.Rules.{Lowest}
-use Rattle.error.proofs.Rules.{ruled-exactly}
+use Rattle.error.specs.Rules.{First}
+use Rattle.error.specs.Short.{TooShort}
+use Rattle.error.proofs.Rules.{ruled-exactly, no-condition}
+use Rattle.error.proofs.Short.{none-short}
 use Rattle.survey.specs.Limits.{base}
 use Rattle.survey.specs.Survey.{Survey, wells, nodeCount, columns, size}
-use Rattle.kriging_theory.specs.Areas.{Areas}
-use Rattle.kriging_theory.specs.Rules.{ShortAnswer, rules}
+use Rattle.kriging_theory.specs.Areas.{Areas, answerAreas}
+use Rattle.kriging_theory.specs.Rules.{rules}
 use Rattle.kriging_theory.specs.Refusals.{refusal}
 use Rattle.kriging_theory.specs.Fit.{fitted}
-use Rattle.kriging_theory.proofs.Endings.{told, fit-ends, lowest-in-a-fit}
+use Rattle.kriging_theory.proofs.Endings.{told, fit-ends, first-in-a-fit}
 use Rattle.survey_file_theory.specs.File.{baseVersion}
 use Rattle.survey_file_theory.specs.Refusals.{malformed}
 use Rattle.survey_file_theory.specs.Reader.{surveyIn}
@@ -27,12 +29,12 @@ use Rattle.survey_map.specs.Text.{fitText, surveyText, fileText, AmpleFo
 use Rattle.survey_map.proofs.Own.{lists-fit, own-work, own-predicted, own-variance, own-verdicts, own-weights, own-multipliers, own-trend}
 
 module _ (s : Survey) where
-  -- a number that is given is the lowest whose condition holds
-  lowest : (k : ℕ) → k ≢ 0 → k ≢ 19 → fitted base s ownAreas .number ≡ k → Lowest (rules base s ownAreas) k
+  -- a number that is given: its condition holds, and no rule before its own applies
+  first : (k : ℕ) → k ≢ 0 → k ≢ 19 → fitted base s ownAreas .number ≡ k → First (rules base s ownAreas) k
   unfolding refusal
-  lowest k z n e =
+  first k z n e =
       let r = fit-ends base s ownAreas .refused k z n .0 e in
-      lowest-in-a-fit base s ownAreas k .0 (ruled-exactly (told base s ownAreas) k .1 r, z)
+      first-in-a-fit base s ownAreas k .0 (ruled-exactly (told base s ownAreas) k .1 r, z)
 
   -- past 9 the counts are those of the areas
   work-fits : wells s ≤ 48 → columns s ≤ 12 → ¬ (length (ownAreas .work) < 2 * size s * size s)
@@ -41,27 +43,33 @@ module _ (s : Survey) where
       let square = mul-le-mul most most in
       omega (arith, own-work)
 
-  answer-fits : wells s ≤ 48 → columns s ≤ 12 → nodeCount s ≤ 100 → ¬ ShortAnswer s ownAreas
-  answer-fits n p m (inl l) = omega (arith, own-predicted)
-  answer-fits n p m (inr (inl l)) = omega (arith, own-variance)
-  answer-fits n p m (inr (inr (inl l))) = omega (arith, own-verdicts)
-  answer-fits n p m (inr (inr (inr (inl l)))) = let product = mul-le-mul n m in omega (arith, own-weights)
-  answer-fits n p m (inr (inr (inr (inr (inl l))))) = omega (arith, own-multipliers)
-  answer-fits n p m (inr (inr (inr (inr (inr l))))) = omega (arith, own-trend)
+  answer-fits : wells s ≤ 48 → columns s ≤ 12 → nodeCount s ≤ 100 → ¬ TooShort (answerAreas s ownAreas)
+  answer-fits n p m =
+      let product = mul-le-mul n m in
+      none-short (answerAreas s ownAreas) (
+        omega (arith, own-predicted),
+        (
+          omega (arith, own-variance),
+          (
+            omega (arith, own-verdicts),
+            (omega (arith, own-weights), (omega (arith, own-multipliers), (omega (arith, own-trend), tt))),
+          ),
+        ),
+      )
 
   at-most : {k most : ℕ} → ¬ (most < k) → k ≤ most
   at-most h = omega arith
 
   never-17 : fitted base s ownAreas .number ≢ 17
   never-17 e =
-      let l = lowest 17 (λ x. omega arith) (λ x. omega arith) e in
-      let few = l .none-below 9 (omega arith) in
+      let l = first 17 (λ x. omega arith) (λ x. omega arith) e in
+      let few = no-condition _ (l .none-before) 9 in
       work-fits (at-most (λ x. few (inl x))) (at-most (λ x. few (inr (inl x)))) (l .applies)
 
   never-18 : fitted base s ownAreas .number ≢ 18
   never-18 e =
-      let l = lowest 18 (λ x. omega arith) (λ x. omega arith) e in
-      let few = l .none-below 9 (omega arith) in
+      let l = first 18 (λ x. omega arith) (λ x. omega arith) e in
+      let few = no-condition _ (l .none-before) 9 in
       answer-fits (at-most (λ x. few (inl x))) (at-most (λ x. few (inr (inl x)))) (at-most (λ x. few (inr (inr x)))) (l .applies)
 
   -- so that neither is printed

@@ -4,7 +4,7 @@ use borrow.Author.Needs.{needs}
 use Rattle.error.specs.Numbers.{judged}
 use Rattle.survey_file_theory.specs.File.{baseVersion}
 use Rattle.survey_file_theory.specs.Areas.{Areas}
-use Rattle.survey_file_theory.specs.Rules.{WellFormed, Room}
+use Rattle.survey_file_theory.specs.Rules.{WellFormed, ListsFit}
 use Rattle.survey_file_theory.specs.Refusals.{readerRefusal}
 use Rattle.survey_file_reader.specs.Counts.{areasOf}
 use Rattle.survey_file_reader.proofs.Whole.{accepted, refused-is, done-is, has-ends}
@@ -51,7 +51,7 @@ left c =
 no-refusal : (c : tie.After-enum-told) → let s = at-entry (at-refusal c) in readerRefusal baseVersion (s .args .bytes .now) (lent s) ≡ 0
 no-refusal c = sym (at-refusal c .reader-refusal .ensures) ∙ ap judged (c .enum-told .given .1)
 
-is-accepted : (c : tie.After-enum-told) → let s = at-entry (at-refusal c) in WellFormed baseVersion (s .args .bytes .now) × Room (s .args .bytes .now) (lent s)
+is-accepted : (c : tie.After-enum-told) → let s = at-entry (at-refusal c) in WellFormed baseVersion (s .args .bytes .now) × ListsFit (s .args .bytes .now) (lent s)
 is-accepted c = let s = at-entry (at-refusal c) in accepted baseVersion (s .args .bytes .now) (lent s) (no-refusal c)
 
 -- let judgement = reader_refusal(

@@ -2,11 +2,11 @@
 use Prim.Native.Nat.{_*_, _<_}
 use native.Mathlib.Omega.{arith}
 use mathlib.Core.Path.{_≡_, sym, _∙_}
-use mathlib.Core.Bool.{Bool, _||_}
+use mathlib.Core.Bool.{Bool, false, _||_}
 use borrow.Author.Needs.{needs}
 use borrow.Author.Tests.{lt-ltb, le-ltb}
 use lib.Dec.{ltb}
-use Rattle.error.proofs.First.{one, other}
+use Rattle.error.proofs.First.{one, other, last-one}
 use Rattle.survey_file_reader.specs.Counts.{shortOf}
 use Rattle.survey_file_reader.proofs.Places.{small-product}
 use Rattle.survey_file_reader.proofs.refusals.is_short.Statement.{statement}
@@ -17,7 +17,7 @@ abbrev whole : tie.Start → Bool
 whole c = let a = c .args in shortOf (a .counts) (a .values) (a .coords) (a .bases) (a .external) (a .nodes) (a .node-external)
 
 abbrev last : tie.Start → Bool
-last c = let a = c .args in ltb (a .node-external) (a .counts .externals * a .counts .nodes)
+last c = let a = c .args in ltb (a .node-external) (a .counts .externals * a .counts .nodes) || false
 
 abbrev from-nodes : tie.Start → Bool
 from-nodes c = ltb (c .args .nodes) (2 * c .args .counts .nodes) || last c
@@ -120,7 +120,7 @@ returns-6 : tie.Need-returns-6
 returns-6 c =
     let h = c .before in
     let s = entry-5 h in
-    sym (past-4 (h .before .before) ∙ other (last s) (le-ltb (s .args .nodes) (2 * s .args .counts .nodes) (h .if5 .left)))
+    sym (past-4 (h .before .before) ∙ other (last s) (le-ltb (s .args .nodes) (2 * s .args .counts .nodes) (h .if5 .left)) ∙ last-one _)
 
 pub is-short-spec : {M : Type 1} → statement M
 is-short-spec =

@@ -4,10 +4,11 @@ use mathlib.Core.Path.{_≡_, refl, sym, _∙_}
 use mathlib.Core.List.{List, [], _∷_}
 use borrow.Author.Needs.{needs}
 use Rattle.error.specs.Tests.{Test, test, firstOf}
+use Rattle.error.specs.Short.{tooShort}
 use Rattle.error.proofs.First.{here, past, none}
 use Rattle.survey_file_theory.specs.File.{baseVersion}
-use Rattle.survey_file_theory.specs.Areas.{Areas}
-use Rattle.survey_file_theory.specs.Refusals.{malformed, shortArea, readerRefusal}
+use Rattle.survey_file_theory.specs.Areas.{Areas, listAreas}
+use Rattle.survey_file_theory.specs.Refusals.{malformed, readerRefusal}
 use Rattle.survey_file_reader.specs.Counts.{areasOf}
 use Rattle.survey_file_reader.proofs.Taken.{short-is}
 use Rattle.survey_file_reader.proofs.Whole.{codes-inside}
@@ -22,7 +23,7 @@ abbrev whole : tie.Start → ℕ
 whole c = readerRefusal baseVersion (c .args .bytes .now) (lent c)
 
 abbrev from-areas : tie.Start → List Test
-from-areas c = test 18 (shortArea (c .args .bytes .now) (lent c)) ∷ []
+from-areas c = test 18 (tooShort (listAreas (c .args .bytes .now) (lent c))) ∷ []
 
 opens : (c : tie.Start) → whole c ≡ firstOf (test 16 (malformed baseVersion (c .args .bytes .now)) ∷ from-areas c)
 unfolding readerRefusal
@@ -58,7 +59,7 @@ is-short-requires : tie.Need-is-short-requires
 is-short-requires c κs = search needs
 
 -- the counts at hand are the file's
-is-short-is : (c : tie.After-is-short) → let s = entry-2 c in c .is-short .result ≡ shortArea (s .args .bytes .now) (lent s)
+is-short-is : (c : tie.After-is-short) → let s = entry-2 c in c .is-short .result ≡ tooShort (listAreas (s .args .bytes .now) (lent s))
 is-short-is c =
     let s = entry-2 c in
     let k = c .before .read-counts in
