@@ -11,13 +11,14 @@ use lib.Ieee.{nan}
 use lib.Ieee.Scale.{finite}
 use Rattle.error.specs.Rules.{NoneApplies, Condition}
 use Rattle.error.proofs.Tells.{stable, both, equal, at-most}
+use Rattle.error.proofs.Short.{long-at}
 use Rattle.error.proofs.Rules.{no-condition}
 use Rattle.ieee.proofs.FiniteLists.{is-finite}
 use Rattle.variogram.specs.Distance.{offered}
 use Rattle.variogram.proofs.Distance.{is-offered}
 use Rattle.survey.specs.declared.Limits.{Limits}
 use Rattle.interpolator_theory.specs.declared.KrigingType.the-variants.{Universal}
-use Rattle.interpolator_theory.specs.Call.{Query, Areas, wells, nodeCount, size}
+use Rattle.interpolator_theory.specs.Call.{Query, Areas, answerAreas, wells, nodeCount, size}
 use Rattle.interpolator_theory.specs.Rules.{rules}
 
 pub record Accepted (q : Query) (a : Areas) : Type 0 where
@@ -46,8 +47,8 @@ accepted limits q a none =
           omega arith;
       coordinates = λ k l. is-finite (getD (q .points) k nan) (λ x. no-rule 11 (inr (inr (inl record { place = k; inside = l; is = x }))));
       work = let h : ¬ (length (a .work) < 2 * size q * size q) = no-rule 17 in omega arith;
-      figures = let h : ¬ (length (a .figures) < nodeCount q) = λ x. no-rule 18 (inl x) in omega arith;
-      variances = let h : ¬ (length (a .variances) < nodeCount q) = λ x. no-rule 18 (inr x) in omega arith;
+      figures = long-at (answerAreas q a) (no-rule 18) 0;
+      variances = long-at (answerAreas q a) (no-rule 18) 1;
     }
   where
     no-rule : (k : ℕ) → ¬ Condition (rules limits q a) k

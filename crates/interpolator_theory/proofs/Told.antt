@@ -2,11 +2,13 @@
 use Prim.Native.Nat.{_*_, _%_, _<_}
 use mathlib.Core.Path.{_≡_, refl, sym, subst}
 use mathlib.Core.Logic.{_⊎_, _↔_}
+use mathlib.Core.List.{[], _∷_}
 use lib.Dec.{T}
 use lib.ListN.{length}
 use Rattle.error.specs.Tests.{Tells}
 use Rattle.error.proofs.Tells.{opposite, both, either, equal, different, below, at-most, some-not-finite}
-use Rattle.error.specs.Rules.{Told, no-more, tells}
+use Rattle.error.specs.Rules.{Told, no-more, tells, numbersOf}
+use Rattle.error.proofs.Short.{short-told}
 use Rattle.error.proofs.Rules.{joined}
 use Rattle.elimination.proofs.Call.{work-told}
 use Rattle.survey.specs.declared.Limits.{Limits}
@@ -14,7 +16,7 @@ use Rattle.survey.specs.Limits.{base}
 use Rattle.survey.proofs.Told.{variogram-told, model-told}
 use Rattle.interpolator_theory.specs.declared.KrigingType.{KrigingType}
 use Rattle.interpolator_theory.specs.declared.KrigingType.the-variants.{Ordinary, Universal}
-use Rattle.interpolator_theory.specs.Call.{Query, Areas, wells, nodeCount, size}
+use Rattle.interpolator_theory.specs.Call.{Query, Areas, answerAreas, wells, nodeCount, size}
 use Rattle.interpolator_theory.specs.Rules.{WrongDimension, TooMany, NumberNotFinite, rules}
 use Rattle.interpolator_theory.specs.Refusals.{isUniversal, wrongDimension, numberNotFinite, tests}
 
@@ -41,8 +43,11 @@ all-told limits q a =
     (tells 11 (numbers-told q)
     (joined (model-told (q .variogram))
     (joined (work-told (size q) (a .work))
-    (tells 18 (either (below (length (a .figures)) (nodeCount q)) (below (length (a .variances)) (nodeCount q)))
-    no-more)))))))
+    (tells 18 (short-told (answerAreas q a)) no-more)))))))
+
+-- the order in which its numbers count, in full
+pub order : (limits : Limits) (q : Query) (a : Areas) → numbersOf (rules limits q a) ≡ 13 ∷ 1 ∷ 2 ∷ 9 ∷ 11 ∷ 12 ∷ 17 ∷ 18 ∷ []
+order limits q a = refl
 
 -- "9 n > 48 .. or m > 100": by the limits of the base
 pub base-limits : (q : Query) → TooMany base q ↔ ((48 < wells q) ⊎ (100 < nodeCount q))

@@ -1,8 +1,9 @@
 -- A call of the interpolator: what it takes, and what it is lent.
 use Prim.Native.Nat.{ℕ, _+_, _/_}
-use mathlib.Core.List.{List}
+use mathlib.Core.List.{List, [], _∷_}
 use lib.ListN.{length}
 use lib.Ieee.{Float}
+use Rattle.error.specs.Short.{Lent, lent}
 use Rattle.variogram.specs.declared.Variogram.{Variogram}
 use Rattle.interpolator_theory.specs.declared.KrigingType.{KrigingType}
 use Rattle.interpolator_theory.specs.declared.KrigingType.the-variants.{Ordinary, Universal}
@@ -54,3 +55,7 @@ added Universal = 4
 -- s, the size of the system
 abbrev pub size : Query → ℕ
 size q = wells q + added (q .krigingType)
+
+-- 18: "an answer area too short: m figures and variances"
+abbrev pub answerAreas : Query → Areas → List Lent
+answerAreas q a = lent (a .figures) (nodeCount q) ∷ lent (a .variances) (nodeCount q) ∷ []

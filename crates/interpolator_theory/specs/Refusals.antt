@@ -5,6 +5,7 @@ use mathlib.Core.List.{List, [], _∷_, _++_}
 use lib.Dec.{eqb, ltb}
 use lib.ListN.{length}
 use Rattle.error.specs.Tests.{Test, test, firstOf}
+use Rattle.error.specs.Short.{tooShort}
 use Rattle.ieee.specs.Finite.{allFinite}
 use Rattle.variogram.specs.Distance.{offered}
 use Rattle.elimination.specs.Call.{workTests}
@@ -12,7 +13,7 @@ use Rattle.survey.specs.declared.Limits.{Limits}
 use Rattle.survey.specs.Refusals.{differ, variogramNotFinite, modelTests}
 use Rattle.interpolator_theory.specs.declared.KrigingType.{KrigingType}
 use Rattle.interpolator_theory.specs.declared.KrigingType.the-variants.{Ordinary, Universal}
-use Rattle.interpolator_theory.specs.Call.{Query, Areas, wells, nodeCount, size}
+use Rattle.interpolator_theory.specs.Call.{Query, Areas, answerAreas, wells, nodeCount, size}
 
 -- "with Universal"
 abbrev pub isUniversal : KrigingType → Bool
@@ -39,10 +40,6 @@ tooMany limits q = ltb (limits .wells) (wells q) || ltb (limits .nodes) (nodeCou
 abbrev pub numberNotFinite : Query → Bool
 numberNotFinite q = variogramNotFinite (q .variogram) || (not (allFinite (q .values)) || (not (allFinite (q .points)) || not (allFinite (q .targets))))
 
--- 18: "an answer area too short: m figures and variances"
-abbrev pub shortAnswer : Query → Areas → Bool
-shortAnswer q a = ltb (length (a .figures)) (nodeCount q) || ltb (length (a .variances)) (nodeCount q)
-
 -- the tests, in the order of the rules
 abbrev pub tests : Limits → Query → Areas → List Test
 tests limits q a =
@@ -53,7 +50,7 @@ tests limits q a =
     ∷ test 11 (numberNotFinite q)
     ∷ (modelTests (q .variogram)
     ++ (workTests (size q) (a .work)
-    ++ (test 18 (shortAnswer q a)
+    ++ (test 18 (tooShort (answerAreas q a))
     ∷ [])))
 
 -- the number that refuses the call before it eliminates, and 0 where none does

@@ -6,12 +6,13 @@ use mathlib.Core.Logic.{_≢_, _⊎_}
 use mathlib.Core.List.{List, [], _∷_, _++_}
 use lib.ListN.{length}
 use Rattle.error.specs.Rules.{Rule, rule}
+use Rattle.error.specs.Short.{TooShort}
 use Rattle.ieee.specs.Finite.{SomeNotFinite}
 use Rattle.elimination.specs.Call.{workRules}
 use Rattle.survey.specs.declared.Limits.{Limits}
 use Rattle.survey.specs.Rules.{VariogramNotFinite, modelRules}
 use Rattle.interpolator_theory.specs.declared.KrigingType.the-variants.{Universal}
-use Rattle.interpolator_theory.specs.Call.{Query, Areas, wells, nodeCount, size}
+use Rattle.interpolator_theory.specs.Call.{Query, Areas, answerAreas, wells, nodeCount, size}
 
 -- 13: "d not 1, 2 or 3, or d = 1 with Universal"
 abbrev pub WrongDimension : Query → Type 0
@@ -33,10 +34,6 @@ TooMany limits q = (limits .wells < wells q) ⊎ (limits .nodes < nodeCount q)
 abbrev pub NumberNotFinite : Query → Type 0
 NumberNotFinite q = VariogramNotFinite (q .variogram) ⊎ SomeNotFinite (q .values) ⊎ SomeNotFinite (q .points) ⊎ SomeNotFinite (q .targets)
 
--- 18: "an answer area too short: m figures and variances"
-abbrev pub ShortAnswer : Query → Areas → Type 0
-ShortAnswer q a = (length (a .figures) < nodeCount q) ⊎ (length (a .variances) < nodeCount q)
-
 -- "Interpolator: 13, 1, 2, 9, 11, 12, 17, 18, 19": all but 19, which is the elimination's.
 -- 12 is that of every call that takes a model, 17 that of every call that eliminates.
 abbrev pub rules : Limits → Query → Areas → List Rule
@@ -48,5 +45,5 @@ rules limits q a =
     ∷ rule 11 (NumberNotFinite q)
     ∷ (modelRules (q .variogram)
     ++ (workRules (size q) (a .work)
-    ++ (rule 18 (ShortAnswer q a)
+    ++ (rule 18 (TooShort (answerAreas q a))
     ∷ [])))

@@ -4,8 +4,10 @@ use error::Refusal;
 use survey::Limits;
 ghost use mathlib.Core.Path.{_≡_};
 ghost use mathlib.Core.Bool.{_||_};
+ghost use mathlib.Core.List.{[], _∷_};
 ghost use lib.Dec.{ltb};
 ghost use Rattle.error.specs.Numbers.{judged};
+ghost use Rattle.error.specs.Short.{area, tooShort};
 ghost use Rattle.semivariogram_theory.specs.Call.{samplesOf, areasOf};
 ghost use Rattle.semivariogram_theory.specs.Refusals.{refusal};
 
@@ -24,7 +26,7 @@ fn outside(number: usize, least: usize, most: usize) -> bool
 
 // 18: whether one of three areas of these lengths is too short for so many bins.
 fn short_answer(bins: usize, distances: usize, semivariances: usize, counts: usize) -> bool
-    ensures { λ r. ⌜ r ≡ (ltb distances bins || (ltb semivariances bins || ltb counts bins)) ⌝ }
+    ensures { λ r. ⌜ r ≡ tooShort (area distances bins ∷ area semivariances bins ∷ area counts bins ∷ []) ⌝ }
 {
     if distances < bins {
         return true;

@@ -9,10 +9,11 @@ use lib.Ieee.{nan}
 use lib.Ieee.Scale.{finite}
 use Rattle.error.specs.Rules.{NoneApplies, Condition}
 use Rattle.error.proofs.Tells.{stable, equal}
+use Rattle.error.proofs.Short.{areaAt, long-at}
 use Rattle.error.proofs.Rules.{none-exactly, no-condition}
 use Rattle.ieee.proofs.FiniteLists.{is-finite}
 use Rattle.survey.specs.declared.Limits.{Limits}
-use Rattle.semivariogram_theory.specs.Call.{Samples, Areas, samples}
+use Rattle.semivariogram_theory.specs.Call.{Samples, Areas, answerAreas, samples}
 use Rattle.semivariogram_theory.specs.Rules.{rules}
 use Rattle.semivariogram_theory.specs.Refusals.{refusal}
 use Rattle.semivariogram_theory.proofs.Told.{told}
@@ -37,17 +38,15 @@ accepted limits q a h =
     let d3 : ¬ (3 < q .dimension) = λ x. not 13 (inr x) in
     let b1 : ¬ (q .bins < 1) = λ x. not 15 (inl x) in
     let b64 : ¬ (64 < q .bins) = λ x. not 15 (inr x) in
-    let first : ¬ (length (a .distances) < q .bins) = λ x. not 18 (inl x) in
-    let second : ¬ (length (a .semivariances) < q .bins) = λ x. not 18 (inr (inl x)) in
-    let third : ¬ (length (a .counts) < q .bins) = λ x. not 18 (inr (inr x)) in
+    let long : (i : ℕ) → areaAt (answerAreas q a) i .taken ≤ areaAt (answerAreas q a) i .places = long-at (answerAreas q a) (not 18) in
     record {
       dimension = omega arith;
       points = stable (equal (length (q .points)) (samples q * q .dimension)) (not 1);
       coordinates = λ k l. is-finite (getD (q .points) k nan) (λ x. not 11 (inr (record { place = k; inside = l; is = x })));
       bins = omega arith;
-      distances = omega arith;
-      semivariances = omega arith;
-      counts = omega arith;
+      distances = long 0;
+      semivariances = long 1;
+      counts = long 2;
     }
 
 -- "n > 48" is refused by 9

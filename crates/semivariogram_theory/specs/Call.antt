@@ -1,8 +1,9 @@
 -- A call of the semivariogram: what it takes, what it is lent, and how it ends.
 use Prim.Native.Nat.{ℕ}
-use mathlib.Core.List.{List}
+use mathlib.Core.List.{List, [], _∷_}
 use lib.ListN.{length}
 use lib.Ieee.{Float}
+use Rattle.error.specs.Short.{Lent, lent}
 
 -- what the call takes: points of d numbers, row after row, and the value at each
 pub record Samples : Type 0 where
@@ -34,3 +35,7 @@ areasOf distances semivariances counts = record { distances = distances; semivar
 -- n, the number of samples
 abbrev pub samples : Samples → ℕ
 samples q = length (q .values)
+
+-- 18: "an answer area too short: .. for bins, the bin count, three times"
+abbrev pub answerAreas : Samples → Areas → List Lent
+answerAreas q a = lent (a .distances) (q .bins) ∷ lent (a .semivariances) (q .bins) ∷ lent (a .counts) (q .bins) ∷ []

@@ -5,9 +5,10 @@ use mathlib.Core.List.{List, [], _∷_}
 use lib.Dec.{eqb, ltb}
 use lib.ListN.{length}
 use Rattle.error.specs.Tests.{Test, test, firstOf}
+use Rattle.error.specs.Short.{tooShort}
 use Rattle.ieee.specs.Finite.{allFinite}
 use Rattle.survey.specs.declared.Limits.{Limits}
-use Rattle.semivariogram_theory.specs.Call.{Samples, Areas, samples}
+use Rattle.semivariogram_theory.specs.Call.{Samples, Areas, answerAreas, samples}
 
 -- "bins not 1..64"
 abbrev pub mostBins : ℕ
@@ -37,10 +38,6 @@ tooMany limits q = ltb (limits .wells) (samples q)
 abbrev pub notFinite : Samples → Bool
 notFinite q = not (allFinite (q .values)) || not (allFinite (q .points))
 
--- 18: "an answer area too short: .. for bins, the bin count, three times"
-abbrev pub shortAnswer : Samples → Areas → Bool
-shortAnswer q a = ltb (length (a .distances)) (q .bins) || (ltb (length (a .semivariances)) (q .bins) || ltb (length (a .counts)) (q .bins))
-
 -- "Semivariogram: 13, 1, 14, 15, 9, 11, 18"
 abbrev pub tests : Limits → Samples → Areas → List Test
 tests limits q a =
@@ -50,7 +47,7 @@ tests limits q a =
     ∷ test 15 (wrongBins q)
     ∷ test 9 (tooMany limits q)
     ∷ test 11 (notFinite q)
-    ∷ test 18 (shortAnswer q a)
+    ∷ test 18 (tooShort (answerAreas q a))
     ∷ []
 
 -- the number that refuses the call, and 0 where it is accepted

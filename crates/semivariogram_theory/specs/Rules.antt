@@ -4,9 +4,10 @@ use mathlib.Core.Logic.{_≢_, _⊎_}
 use mathlib.Core.List.{List, [], _∷_}
 use lib.ListN.{length}
 use Rattle.error.specs.Rules.{Rule, rule}
+use Rattle.error.specs.Short.{TooShort}
 use Rattle.ieee.specs.Finite.{SomeNotFinite}
 use Rattle.survey.specs.declared.Limits.{Limits}
-use Rattle.semivariogram_theory.specs.Call.{Samples, Areas, samples}
+use Rattle.semivariogram_theory.specs.Call.{Samples, Areas, answerAreas, samples}
 
 -- 13: "d not 1, 2 or 3"
 abbrev pub WrongDimension : Samples → Type 0
@@ -32,10 +33,6 @@ TooMany limits q = limits .wells < samples q
 abbrev pub NumberNotFinite : Samples → Type 0
 NumberNotFinite q = SomeNotFinite (q .values) ⊎ SomeNotFinite (q .points)
 
--- 18: "an answer area too short: .. for bins, the bin count, three times"
-abbrev pub ShortAnswer : Samples → Areas → Type 0
-ShortAnswer q a = (length (a .distances) < q .bins) ⊎ (length (a .semivariances) < q .bins) ⊎ (length (a .counts) < q .bins)
-
 -- "Semivariogram: 13, 1, 14, 15, 9, 11, 18"
 abbrev pub rules : Limits → Samples → Areas → List Rule
 rules limits q a =
@@ -45,5 +42,5 @@ rules limits q a =
     ∷ rule 15 (WrongBins q)
     ∷ rule 9 (TooMany limits q)
     ∷ rule 11 (NumberNotFinite q)
-    ∷ rule 18 (ShortAnswer q a)
+    ∷ rule 18 (TooShort (answerAreas q a))
     ∷ []

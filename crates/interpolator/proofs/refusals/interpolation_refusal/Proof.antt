@@ -2,19 +2,20 @@
 use Prim.Native.Nat.{ℕ, _+_, _*_, _%_, _≤_}
 use native.Mathlib.Omega.{arith}
 use mathlib.Core.Path.{_≡_, refl, sym, ap, _∙_}
-use mathlib.Core.Bool.{not}
+use mathlib.Core.Bool.{Bool, not, _||_}
 use mathlib.Core.List.{List, [], _∷_, _++_}
 use borrow.Author.Needs.{needs}
 use borrow.Author.Tests.{eq-eqb, ne-eqb}
 use lib.Dec.{ltb}
 use lib.ListN.{length}
 use Rattle.error.specs.Tests.{Test, test, firstOf}
-use Rattle.error.proofs.First.{here, past, none, refused, accepted}
+use Rattle.error.specs.Short.{tooShort}
+use Rattle.error.proofs.First.{here, past, none, last-one, refused, accepted}
 use Rattle.elimination.specs.Call.{workTests}
 use Rattle.survey.specs.Refusals.{modelTests}
-use Rattle.interpolator_theory.specs.Call.{Query, Areas, areasOf, size}
+use Rattle.interpolator_theory.specs.Call.{Query, Areas, answerAreas, areasOf, nodeCount, size}
 use Rattle.interpolator.specs.Outcome.{queryOf}
-use Rattle.interpolator_theory.specs.Refusals.{wrongPoints, wrongTargets, tooMany, numberNotFinite, shortAnswer, wrongDimension, refusal}
+use Rattle.interpolator_theory.specs.Refusals.{wrongPoints, wrongTargets, tooMany, numberNotFinite, wrongDimension, refusal}
 use Rattle.interpolator.proofs.Sizes.{some-axis, added-few}
 use Rattle.interpolator.proofs.refusals.interpolation_refusal.Statement.{statement}
 use Rattle.interpolator.proofs.refusals.interpolation_refusal.Tie as tie
@@ -31,7 +32,7 @@ whole c = refusal (c .args .limits) (query c) (areas c)
 
 -- What is left to test, past the first tests.
 abbrev left-18 : tie.Start → List Test
-left-18 c = test 18 (shortAnswer (query c) (areas c)) ∷ []
+left-18 c = test 18 (tooShort (answerAreas (query c) (areas c))) ∷ []
 
 abbrev left-17 : tie.Start → List Test
 left-17 c = workTests (size (query c)) (c .args .work .now) ++ left-18 c
@@ -204,12 +205,19 @@ past-17 c = let h = c .before in past-12 (h .before .before) ∙ past 17 _ (sym 
 either-above-requires-2 : tie.Need-either-above-requires-2
 either-above-requires-2 c κs = search needs
 
+-- two areas, as the list has them
+answer-is : (c : tie.After-either-above2) → let s = entry-6 (c .before) in tooShort (answerAreas (query s) (areas s)) ≡ c .either-above2 .result
+answer-is c =
+    let s = entry-6 (c .before) in
+    let m = nodeCount (query s) in
+    ap (λ (b : Bool). ltb (length (areas s .figures)) m || b) (last-one (ltb (length (areas s .variances)) m)) ∙ sym (c .either-above2 .ensures)
+
 returns-8 : tie.Need-returns-8
-returns-8 c = let h = c .before in sym (past-17 (h .before) ∙ here 18 _ (sym (h .either-above2 .ensures) ∙ c .if7 .taken))
+returns-8 c = let h = c .before in sym (past-17 (h .before) ∙ here 18 _ (answer-is h ∙ c .if7 .taken))
 
 -- Judgement::Accepted
 returns-9 : tie.Need-returns-9
-returns-9 c = let h = c .before in sym (past-17 (h .before) ∙ past 18 _ (sym (h .either-above2 .ensures) ∙ c .if7 .left) ∙ none)
+returns-9 c = let h = c .before in sym (past-17 (h .before) ∙ past 18 _ (answer-is h ∙ c .if7 .left) ∙ none)
 
 pub interpolation-refusal-spec : {M : Type 1} → statement M
 interpolation-refusal-spec =

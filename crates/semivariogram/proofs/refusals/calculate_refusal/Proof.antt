@@ -7,10 +7,11 @@ use borrow.Author.Needs.{needs}
 use borrow.Author.Tests.{lt-ltb, le-ltb}
 use lib.ListN.{length}
 use Rattle.error.specs.Tests.{Test, test, firstOf}
+use Rattle.error.specs.Short.{tooShort}
 use Rattle.error.proofs.First.{here, past, none, one, other}
 use Rattle.ieee.specs.Finite.{allFinite}
-use Rattle.semivariogram_theory.specs.Call.{Samples, Areas, samplesOf, areasOf}
-use Rattle.semivariogram_theory.specs.Refusals.{wrongDimension, wrongPoints, tooFew, wrongBins, tooMany, notFinite, shortAnswer, refusal}
+use Rattle.semivariogram_theory.specs.Call.{Samples, Areas, answerAreas, samplesOf, areasOf}
+use Rattle.semivariogram_theory.specs.Refusals.{wrongDimension, wrongPoints, tooFew, wrongBins, tooMany, notFinite, refusal}
 use Rattle.semivariogram.proofs.refusals.calculate_refusal.Statement.{statement}
 use Rattle.semivariogram.proofs.refusals.calculate_refusal.Tie as tie
 
@@ -22,7 +23,7 @@ abbrev lent : tie.Start → Areas
 lent c = let a = c .args in areasOf (a .distances .now) (a .semivariances .now) (a .counts .now)
 
 abbrev from-areas : tie.Start → List Test
-from-areas c = test 18 (shortAnswer (taken c) (lent c)) ∷ []
+from-areas c = test 18 (tooShort (answerAreas (taken c) (lent c))) ∷ []
 
 abbrev from-numbers : tie.Start → List Test
 from-numbers c = test 11 (notFinite (taken c)) ∷ from-areas c
