@@ -103,9 +103,10 @@ uint8_t nakwemol_fit(
     const double *coords, size_t coords_count,
     const uint8_t *bases, size_t bases_count,
     const double *external, size_t external_count,
+    uint8_t model, double nugget, double sill, double range, double regularization,
     const double *nodes, size_t nodes_count,
     const double *node_external, size_t node_external_count,
-    uint8_t model, double nugget, double sill, double range, double regularization, double tolerance,
+    double tolerance,
     double *work, size_t work_count,
     double *predicted, size_t predicted_count,
     double *variance, size_t variance_count,
@@ -197,9 +198,10 @@ uint8_t nakwemol_write(
     const double *coords, size_t coords_count,
     const uint8_t *bases, size_t bases_count,
     const double *external, size_t external_count,
+    uint8_t model, double nugget, double sill, double range, double regularization,
     const double *nodes, size_t nodes_count,
     const double *node_external, size_t node_external_count,
-    uint8_t model, double nugget, double sill, double range, double regularization, double tolerance,
+    double tolerance,
     uint8_t *file, size_t file_count, size_t *length);
 
 /* e^-u as the Exponential and the Gaussian model take it (section 3): within 2^-50 of the exact value for a finite u at or above zero, 0 where u is infinite,

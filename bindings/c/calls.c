@@ -36,7 +36,7 @@ static void clear(void) {
 
 static uint8_t fit_range(uint8_t model, double range, size_t lent) {
     clear();
-    return nakwemol_fit(values, 2, coords, 4, bases, 1, none, 0, nodes, 2, none, 0, model, 0, 1, range, 0, 0,
+    return nakwemol_fit(values, 2, coords, 4, bases, 1, none, 0, model, 0, 1, range, 0, nodes, 2, none, 0, 0,
                         work, 19, predicted, lent, variance, 2, verdicts, 2, weights, 3, multipliers, 2, trend, 2);
 }
 
@@ -92,7 +92,7 @@ static void fits(void) {
 /* The first n of these levels at the first wells and the first m nodes, with so many places for the trend. */
 static uint8_t fit_levels(const double *levels, size_t n, size_t m, size_t lent) {
     clear();
-    return nakwemol_fit(levels, n, coords, 2 * n, bases, 1, none, 0, nodes, 2 * m, none, 0, NAKWEMOL_SPHERICAL, 0, 1, 1, 0, 0,
+    return nakwemol_fit(levels, n, coords, 2 * n, bases, 1, none, 0, NAKWEMOL_SPHERICAL, 0, 1, 1, 0, nodes, 2 * m, none, 0, 0,
                         work, 19, predicted, 2, variance, 2, verdicts, 2, weights, 3, multipliers, 2, trend, lent);
 }
 
@@ -126,7 +126,7 @@ static uint8_t fit_plain(double multiplier[3], double slope[3], size_t lent) {
     double area[72], figure, estimate, shares[3];
     uint8_t verdict;
     for (int j = 0; j < 3; j++) multiplier[j] = slope[j] = -9;
-    return nakwemol_fit(levels, 3, wells, 6, linear, 1, none, 0, wells, 2, none, 0, NAKWEMOL_SPHERICAL, 0, 1, 1, 0, 0,
+    return nakwemol_fit(levels, 3, wells, 6, linear, 1, none, 0, NAKWEMOL_SPHERICAL, 0, 1, 1, 0, wells, 2, none, 0, 0,
                         area, 72, &figure, 1, &estimate, 1, &verdict, 1, shares, 3, multiplier, 3, slope, lent);
 }
 
@@ -168,7 +168,7 @@ static void files(void) {
     uint8_t file[200], codes[1], model = 0;
     double read_values[2], read_coords[4], read_nodes[2], numbers[5], unread[1];
     size_t length = 0, sizes[3];
-    same("write", nakwemol_write(values, 2, coords, 4, bases, 1, none, 0, nodes, 2, none, 0, NAKWEMOL_LINEAR, 1, 2, 3, 4, 5, file, 200, &length),
+    same("write", nakwemol_write(values, 2, coords, 4, bases, 1, none, 0, NAKWEMOL_LINEAR, 1, 2, 3, 4, nodes, 2, none, 0, 5, file, 200, &length),
          NAKWEMOL_OK);
     same("length", (double)length, 119);
     same("read", nakwemol_read(file, length, read_values, 2, read_coords, 4, codes, 1, unread, 0, read_nodes, 2, unread, 0, sizes, numbers, &model),

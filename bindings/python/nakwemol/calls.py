@@ -13,15 +13,17 @@ LIBRARY = HERE.parents[2] / "target" / "staticlib" / "libnakwemol.so"
 NUMBERS = [POINTER(c_double), c_size_t]
 BYTES = [POINTER(c_uint8), c_size_t]
 COUNTS = [POINTER(c_size_t), c_size_t]
-LISTS = [*NUMBERS, *NUMBERS, *BYTES, *NUMBERS, *NUMBERS, *NUMBERS]
+WELLS = [*NUMBERS, *NUMBERS, *BYTES, *NUMBERS]
+NODES = [*NUMBERS, *NUMBERS]
 VARIOGRAM = [c_uint8, c_double, c_double, c_double]
+SURVEY = [*WELLS, *VARIOGRAM, c_double, *NODES, c_double]
 
 PARAMETERS = {
-    "nakwemol_fit": [*LISTS, *VARIOGRAM, c_double, c_double, *NUMBERS, *NUMBERS, *NUMBERS, *BYTES, *NUMBERS, *NUMBERS, *NUMBERS],
+    "nakwemol_fit": [*SURVEY, *NUMBERS, *NUMBERS, *NUMBERS, *BYTES, *NUMBERS, *NUMBERS, *NUMBERS],
     "nakwemol_interpolate": [*NUMBERS, *NUMBERS, *NUMBERS, c_size_t, c_uint8, *VARIOGRAM, *NUMBERS, *NUMBERS, *NUMBERS],
     "nakwemol_semivariogram": [*NUMBERS, *NUMBERS, c_size_t, c_size_t, *NUMBERS, *NUMBERS, *COUNTS, POINTER(c_size_t)],
-    "nakwemol_read": [*BYTES, *LISTS, POINTER(c_size_t * 3), POINTER(c_double * 5), POINTER(c_uint8)],
-    "nakwemol_write": [*LISTS, *VARIOGRAM, c_double, c_double, *BYTES, POINTER(c_size_t)],
+    "nakwemol_read": [*BYTES, *WELLS, *NODES, POINTER(c_size_t * 3), POINTER(c_double * 5), POINTER(c_uint8)],
+    "nakwemol_write": [*SURVEY, *BYTES, POINTER(c_size_t)],
 }
 
 

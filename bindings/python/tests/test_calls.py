@@ -72,12 +72,13 @@ class Calls(unittest.TestCase):
 
     def test_area_of_the_trend(self):
         """The exported call, which is lent its areas: one that is too short for the trend is 18, and leaves it; past the columns it is untouched."""
-        lists = *map(calls.numbers, ([2, 6], [0, 0, 2, 0])), calls.codes([1]), *map(calls.numbers, ([], [1, 0], []))
+        wells = *map(calls.numbers, ([2, 6], [0, 0, 2, 0])), calls.codes([1]), calls.numbers([])
+        nodes = tuple(map(calls.numbers, ([1, 0], [])))
 
         def fit(model, lent):
             work, predicted, variance, weights, multipliers, trend = (calls.numbers([-1.0] * length) for length in (18, 2, 2, 2, 2, lent))
             areas = work, predicted, variance, calls.codes([99] * 2), weights, multipliers, trend
-            number = calls.call("nakwemol_fit", *lists, model, 0.0, 1.0, 1.0, 0.0, 0.0, *areas)
+            number = calls.call("nakwemol_fit", *wells, model, 0.0, 1.0, 1.0, 0.0, *nodes, 0.0, *areas)
             return number, predicted[0], list(multipliers), list(trend)
 
         self.assertEqual(fit(1, 2), (0, 4.0, [0.5, -1.0], [4.0, -1.0]))

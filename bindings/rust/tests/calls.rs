@@ -55,7 +55,7 @@ fn area_of_the_trend() {
         let (mut work, mut verdicts, mut weights) = ([-1.0; 18], [99; 2], [-1.0; 2]);
         #[rustfmt::skip]
         let number = calls::fit(
-            &VALUES, &COORDS, &[1], &[], &NODE, &[], model, 0.0, 1.0, 1.0, 0.0, 0.0,
+            &VALUES, &COORDS, &[1], &[], model, 0.0, 1.0, 1.0, 0.0, &NODE, &[], 0.0,
             &mut work, &mut predicted, &mut variance, &mut verdicts, &mut weights, &mut multipliers, trend,
         );
         (number, predicted[0], multipliers)

@@ -7,11 +7,12 @@ use mathlib.Core.Logic.{_≢_, inl, inr}
 use mathlib.Core.Bool.{Bool, true, false, cond}
 use mathlib.Core.List.{List}
 use lib.ListN.{length}
-use Rattle.error.specs.Rules.{First}
+use Rattle.error.specs.Rules.{First, rulesBefore}
 use Rattle.error.specs.Short.{TooShort}
 use Rattle.error.proofs.Rules.{ruled-exactly, no-condition}
 use Rattle.error.proofs.Short.{none-short}
 use Rattle.survey.specs.Limits.{base}
+use Rattle.survey.specs.Rules.{TooMany}
 use Rattle.survey.specs.Survey.{Survey, wells, nodeCount, columns, size}
 use Rattle.kriging_theory.specs.Areas.{Areas, answerAreas}
 use Rattle.kriging_theory.specs.Rules.{rules}
@@ -63,13 +64,13 @@ module _ (s : Survey) where
   never-17 : fitted base s ownAreas .number ≢ 17
   never-17 e =
       let l = first 17 (λ x. omega arith) (λ x. omega arith) e in
-      let few = no-condition _ (l .none-before) 9 in
+      let few : ¬ TooMany base s (nodeCount s) = no-condition (rulesBefore 17 (rules base s ownAreas)) (l .none-before) 9 in
       work-fits (at-most (λ x. few (inl x))) (at-most (λ x. few (inr (inl x)))) (l .applies)
 
   never-18 : fitted base s ownAreas .number ≢ 18
   never-18 e =
       let l = first 18 (λ x. omega arith) (λ x. omega arith) e in
-      let few = no-condition _ (l .none-before) 9 in
+      let few : ¬ TooMany base s (nodeCount s) = no-condition (rulesBefore 18 (rules base s ownAreas)) (l .none-before) 9 in
       answer-fits (at-most (λ x. few (inl x))) (at-most (λ x. few (inr (inl x)))) (at-most (λ x. few (inr (inr x)))) (l .applies)
 
   -- so that neither is printed

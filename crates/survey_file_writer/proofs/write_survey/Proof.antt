@@ -36,13 +36,13 @@ survey-of c =
 abbrev file-of : tie.After-writer-refusal → List ℕ
 file-of c = at-entry c .args .file .now
 
--- every number that came is an f64: the options are the seventh parameter, the tolerance the one after them
+-- every number that came is an f64: the options are the fifth parameter, and two lists come before the tolerance
 handed : (c : tie.After-writer-refusal) → Handed (survey-of c)
 handed c =
     let l = at-lists c in
     let h = half-way l in
     let s = at-entry c in
-    let after-lists = s .good .1 .1 .1 .1 .1 .1 in
+    let after-lists = s .good .1 .1 .1 .1 in
     let o = owed options.the-type options-laws.the-laws (s .args .options) _ (after-lists .0) in
     let v = owed variogram.the-type variogram-laws.the-laws (s .args .options .variogram) _ (o .0) in
     record {
@@ -50,7 +50,7 @@ handed c =
       sill = v .1 .0 .1;
       range = v .1 .1 .0 .1;
       regularization = o .1 .0 .1;
-      tolerance = after-lists .1 .0 .1;
+      tolerance = after-lists .1 .1 .1 .0 .1;
       values = h .before .before .shared-slice-known .given;
       coords = h .before .shared-slice-known2 .given;
       external = l .before .before .shared-slice-known4 .given;
