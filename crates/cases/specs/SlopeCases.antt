@@ -9,8 +9,9 @@ use Rattle.ieee.specs.Floats.{zeroFloat, oneFloat}
 use Rattle.variogram.specs.Model.{variogram}
 use Rattle.variogram.specs.declared.VariogramModel.the-variants.{Spherical}
 use Rattle.survey.specs.Survey.{Survey, valueAt}
-use Rattle.kriging_theory.specs.System.{Index, Drift}
-use Rattle.kriging_theory.specs.LeastSquares.{same, InverseOf, estimateOf}
+use Rattle.system_theory.specs.System.{Index, Drift}
+use Rattle.kriging_theory.specs.System.{systemOf}
+use Rattle.kriging_theory.specs.LeastSquares.{same, InverseOf, exactSlope}
 use Rattle.cases.specs.FitCases.{fs}
 
 -- "(0,0) 2 and (2,0) 6", Constant, Spherical 0, 1, 1, r = 0: the matrix is 0 1 1, 1 0 1, 1 1 0
@@ -34,6 +35,6 @@ abbrev pub over : ℤ
 over = pos (2 * 2 ^ 1074)
 
 pub record SlopeCases : Type 0 where
-  pub exact : InverseOf twoWells inverse over
+  pub exact : InverseOf (systemOf twoWells) inverse over
   -- (2 + 6) / 2: "`trend 4010000000000000`" is 4
-  pub trend : estimateOf twoWells inverse (λ i. units (valueAt twoWells i)) (Drift 0) ≡ over *ℤ pos 4
+  pub trend : exactSlope (systemOf twoWells) inverse (λ i. units (valueAt twoWells i)) (Drift 0) ≡ over *ℤ pos 4

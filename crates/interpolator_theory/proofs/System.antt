@@ -1,7 +1,6 @@
 -- The interpolator's matrix is the kriging system's, entry by entry, beside the identity, and its right-hand side is the target's:
 -- of every query with a dimension that is offered.
 use Prim.Native.Nat.{ℕ, _+_, _-_, _*_, _<_, _≤_}
-use native.Mathlib.Decide.{decLt}
 use native.Mathlib.Omega.{arith}
 use mathlib.Core.Path.{_≡_, refl, ap, sym, _∙_}
 use mathlib.Core.Logic.{_≢_}
@@ -16,43 +15,25 @@ use Rattle.variogram.specs.Model.{semivariance}
 use Rattle.variogram.specs.Distance.{offered}
 use Rattle.variogram.proofs.Distance.{distance-offered}
 use Rattle.elimination.specs.Elimination.{at}
-use Rattle.elimination.proofs.Laid.{laid-left, laid-one, laid-zero}
+use Rattle.elimination.proofs.Laid.{laid-one, laid-zero}
+use Rattle.system_theory.specs.Drift.{Place, valueOf}
+use Rattle.system_theory.specs.System.{size as equations, driftAt, Index, Well, Drift, Within, coefficientOf, rightOf, rowOf}
+use Rattle.system_theory.proofs.System.{matrix-at as laid-matrix}
 use Rattle.interpolator_theory.specs.declared.KrigingType.{KrigingType}
 use Rattle.interpolator_theory.specs.declared.KrigingType.the-variants.{Ordinary, Universal}
 use Rattle.interpolator_theory.specs.Call.{Query, Areas, wells, added, size}
 use Rattle.interpolator_theory.specs.Assembly.{covariance, trend, trendAt, column, entry, rightSide}
-use Rattle.interpolator_theory.specs.System.{Place, placeOf, pointPlace, targetPlace, covarianceOf, valueOf, monomials, columns, driftAt}
-use Rattle.interpolator_theory.specs.System.{Index, Point, Drift, Within, coefficientOf, rightOf, rowOf}
+use Rattle.interpolator_theory.specs.System.{placeOf, pointPlace, targetPlace, covarianceOf, monomials, systemOf}
 use Rattle.interpolator_theory.specs.Exit.{assembled}
 use Rattle.interpolator_theory.proofs.Matrix.{symmetric}
 
--- ---- rows and equations
 -- "(s = n + 1)", "(s = n + 4)": as many are added as there are drift functions
 added-is : (t : KrigingType) → added t ≡ length (monomials t)
 added-is Ordinary = refl
 added-is Universal = refl
 
-pub size-is : (q : Query) → size q ≡ wells q + columns q
-size-is q = ap (λ (n : ℕ). wells q + n) (added-is (q .krigingType))
-
--- an equation has a row of the matrix, every row is an equation's, and no row is that of two
-pub row-below : (q : Query) (u : Index) → Within q u → rowOf q u < size q
-row-below q (Point i) h = let e = size-is q in omega arith
-row-below q (Drift l) h = let e = size-is q in omega arith
-
-pub every-row : (q : Query) (i : ℕ) → i < size q → (u : Index) × Within q u × (rowOf q u ≡ i)
-every-row q i h =
-    let e = size-is q in
-    elim (decLt i (wells q)) [
-      | yes p ↦ (Point i, p, refl)
-      | no n ↦ (Drift (i - wells q), omega arith, omega arith)
-    ]
-
-pub one-equation : (q : Query) (u v : Index) → Within q u → Within q v → rowOf q u ≡ rowOf q v → u ≡ v
-one-equation q (Point i) (Point j) hu hv e = ap Point e
-one-equation q (Point i) (Drift l) hu hv e = absurd (omega arith)
-one-equation q (Drift l) (Point j) hu hv e = absurd (omega arith)
-one-equation q (Drift l) (Drift k) hu hv e = ap Drift (omega arith)
+pub rows-are : (q : Query) → size q ≡ equations (systemOf q)
+rows-are q = ap (λ (n : ℕ). wells q + n) (added-is (q .krigingType))
 
 -- ---- drift functions and covariances, of a list of points
 values-are : (t : KrigingType) (a : Place) → map (λ m. valueOf m a) (monomials t) ≡ trend t (a .axis)
@@ -60,7 +41,7 @@ unfolding valueOf trend
 values-are Ordinary a = refl
 values-are Universal a = refl
 
-trend-is : (q : Query) (ys : List Float) (j l : ℕ) → trendAt q ys j l ≡ driftAt q l (placeOf ys (q .dimension) j)
+trend-is : (q : Query) (ys : List Float) (j l : ℕ) → trendAt q ys j l ≡ driftAt (systemOf q) l (placeOf ys (q .dimension) j)
 unfolding trendAt driftAt
 trend-is q ys j l = ap (λ (xs : List Float). getD xs l nan) (sym (values-are (q .krigingType) (placeOf ys (q .dimension) j)))
 
@@ -81,31 +62,33 @@ module _ (q : Query) (ok : offered (q .dimension) ≡ true) where
   back l = omega arith
 
   -- a column holds the right-hand sides at its point
-  column-is : (ys : List Float) (j : ℕ) (u : Index) → Within q u → column q ys j (rowOf q u) ≡ rightOf q (placeOf ys (q .dimension) j) u
+  column-is : (ys : List Float) (j : ℕ) (u : Index) → Within (systemOf q) u
+      → column q ys j (rowOf (systemOf q) u) ≡ rightOf (systemOf q) (placeOf ys (q .dimension) j) u
   unfolding column rightOf
-  column-is ys j (Point i) h = rw (inside i h) (covariance-is i ys j)
+  column-is ys j (Well i) h = rw (inside i h) (covariance-is i ys j)
   column-is ys j (Drift l) h = rw (past l, back l) (trend-is q ys j l)
 
-  pub entry-is : (u v : Index) → Within q u → Within q v → entry q (rowOf q u) (rowOf q v) ≡ coefficientOf q u v
+  pub entry-is : (u v : Index) → Within (systemOf q) u → Within (systemOf q) v
+      → entry q (rowOf (systemOf q) u) (rowOf (systemOf q) v) ≡ coefficientOf (systemOf q) u v
   unfolding entry coefficientOf rightOf
-  entry-is (Point i) (Point j) hu hv = rw (inside j hv) (column-is (q .points) j (Point i) hu)
-  entry-is (Point i) (Drift l) hu hv = rw (past l, inside i hu, back l) (trend-is q (q .points) i l)
-  entry-is (Drift l) (Point j) hu hv = rw (inside j hv) (column-is (q .points) j (Drift l) hu)
+  entry-is (Well i) (Well j) hu hv = rw (inside j hv) (column-is (q .points) j (Well i) hu)
+  entry-is (Well i) (Drift l) hu hv = rw (past l, inside i hu, back l) (trend-is q (q .points) i l)
+  entry-is (Drift l) (Well j) hu hv = rw (inside j hv) (column-is (q .points) j (Drift l) hu)
   entry-is (Drift l) (Drift k) hu hv = rw (past k, past l)
 
   -- ---- the right-hand side of a target
-  pub right-is : (t : ℕ) (u : Index) → Within q u → rightSide q t (rowOf q u) ≡ rightOf q (targetPlace q t) u
+  pub right-is : (t : ℕ) (u : Index) → Within (systemOf q) u → rightSide q t (rowOf (systemOf q) u) ≡ rightOf (systemOf q) (targetPlace q t) u
   right-is t u h = column-is (q .targets) t u h
 
   -- ---- symmetry
-  pub system-symmetric : (u v : Index) → Within q u → Within q v → coefficientOf q u v ≡ coefficientOf q v u
-  system-symmetric u v hu hv = sym (entry-is u v hu hv) ∙ symmetric q (rowOf q u) (rowOf q v) ∙ entry-is v u hv hu
+  pub system-symmetric : (u v : Index) → Within (systemOf q) u → Within (systemOf q) v → coefficientOf (systemOf q) u v ≡ coefficientOf (systemOf q) v u
+  system-symmetric u v hu hv = sym (entry-is u v hu hv) ∙ symmetric q (rowOf (systemOf q) u) (rowOf (systemOf q) v) ∙ entry-is v u hv hu
 
   -- ---- the work area: the matrix, and the identity beside it
   module _ (a : Areas) (long : 2 * size q * size q ≤ length (a .work)) where
-    pub matrix-at : (u v : Index) → Within q u → Within q v → at (2 * size q) (assembled q a) (rowOf q u) (rowOf q v) ≡ coefficientOf q u v
-    matrix-at u v hu hv =
-        laid-left (size q) (entry q) (a .work) nan long (rowOf q u) (rowOf q v) (row-below q u hu) (row-below q v hv) ∙ entry-is u v hu hv
+    pub matrix-at : (u v : Index) → Within (systemOf q) u → Within (systemOf q) v
+        → at (2 * size q) (assembled q a) (rowOf (systemOf q) u) (rowOf (systemOf q) v) ≡ coefficientOf (systemOf q) u v
+    matrix-at = laid-matrix (systemOf q) (size q) (rows-are q) (entry q) entry-is (a .work) long
 
     pub identity-one : (i : ℕ) → i < size q → at (2 * size q) (assembled q a) i (size q + i) ≡ oneFloat
     identity-one = laid-one (size q) (entry q) (a .work) nan long

@@ -20,14 +20,14 @@ use Rattle.elimination.specs.Elimination.{outcomeOf, eliminated}
 use Rattle.elimination.specs.Inverse.{besideIdentity, laid}
 use Rattle.elimination.specs.Call.{afterElimination}
 use Rattle.elimination.proofs.Call as Call
-use Rattle.solution.specs.Slopes.{slope, estimated}
+use Rattle.solution.specs.Slopes.{estimated}
+use Rattle.system_theory.specs.Slopes.{slope}
 use Rattle.solution.proofs.Room.{estimated-is}
 use Rattle.survey.specs.Limits.{base}
 use Rattle.survey.specs.Survey.{Survey, wells, columns, size}
 use Rattle.kriging_theory.specs.Areas.{Areas, areasOf}
 use Rattle.kriging_theory.specs.Drift.{DriftIn, drift}
 use Rattle.kriging_theory.specs.Assembly.{between, joined, entry, assembled}
-use Rattle.kriging_theory.specs.Slopes.{trendOf}
 use Rattle.kriging_theory.specs.Refusals.{refusal}
 use Rattle.kriging_theory.specs.Fit.{fitCall, fitted}
 use Rattle.kriging.proofs.MatrixEntries.{upper-left, upper-right, lower-left, lower-right}
@@ -61,13 +61,12 @@ module _ (s : Survey) where
 
   -- the trend from a finished elimination is the paper's
   pub trend-is : (work trend : List Float) (p : ℕ) → p ≡ columns s → 2 * size s * size s ≤ length work → columns s ≤ length trend
-      → estimated (wells s + p) work (s .values) trend ≡ written 0 (columns s) (trendOf s work) trend
-  unfolding trendOf slope
+      → estimated (wells s + p) work (s .values) trend ≡ written 0 (columns s) (slope (size s) work (s .values)) trend
   trend-is work trend p e hw ht =
       let w : size s - wells s ≡ columns s = omega arith in
       ap (λ (k : ℕ). estimated (wells s + k) work (s .values) trend) e
       ∙ estimated-is (size s) work (s .values) trend hw (omega arith)
-      ∙ ap (λ (k : ℕ). written 0 k (trendOf s work) trend) w
+      ∙ ap (λ (k : ℕ). written 0 k (slope (size s) work (s .values)) trend) w
 
   -- beside what the nodes leave it is the answer
   pub with-trend : {work predicted variance weights multipliers trend estimate : List Float} {verdicts : List ℕ} {x : Areas} → trend ≡ estimate

@@ -30,7 +30,7 @@ module _ (s : Survey) (a : Areas) where
       → e .areas ≡ withWork a (stepped true (size s) i (assembled s (a .work)))))
       × ((e .number ≡ 0) ↔ (NoneApplies (rules base s a) × Through true (size s) (size s) (assembled s (a .work))))
       × Untouched s a (e .areas)
-      × (e .number ≡ 0 → Kriged s (e .areas))
+      × (e .number ≡ 0 → Kriged s a (e .areas))
       × TrendKept s e
 
   pub promised : {e : Outcome Areas} → e ≡ fitted base s a → Parts e

@@ -82,7 +82,7 @@ pub fn universal_kriging_fit(
         -- past the named lengths every area is as it was, however the call ends
         let kept : Type 0 = Untouched s a (e .areas) in
         -- the areas of an accepted fit hold the unknowns of the kriging system: weights, figures, variances, multipliers; and the trend, from the same inverse
-        let kriged : Type 0 = e .number ≡ 0 → Kriged s (e .areas) in
+        let kriged : Type 0 = e .number ≡ 0 → Kriged s a (e .areas) in
         -- demand 3: in an accepted fit each node has exactly the verdict of its own weights and figure, and one that passed keeps the trend bound
         let bounded : Type 0 = TrendKept s e in
         ⌜ equation × ruled × stopped × accepted × kept × kriged × bounded ⌝ }

@@ -7,11 +7,11 @@ use lib.ListN.{getD}
 use lib.Ieee.{Float, nan}
 use Rattle.area.proofs.Start.{from-start}
 use Rattle.area.proofs.Rows.{row-end}
+use Rattle.system_theory.specs.Slopes.{slope}
 use Rattle.survey.specs.declared.Limits.{Limits}
-use Rattle.survey.specs.Survey.{Survey, wells, nodeCount, columns}
+use Rattle.survey.specs.Survey.{Survey, wells, nodeCount, columns, size}
 use Rattle.kriging_theory.specs.Areas.{Areas}
 use Rattle.kriging_theory.specs.Node.{nodeOf}
-use Rattle.kriging_theory.specs.Slopes.{trendOf}
 use Rattle.kriging_theory.specs.Fit.{multiplier, answered, worked, fitted}
 use Rattle.kriging_theory.proofs.Endings.{fit-ends, predicted-long, variance-long, verdicts-long, weights-long, multipliers-long, trend-long}
 
@@ -52,6 +52,6 @@ module _ (limits : Limits) (s : Survey) (a : Areas) (accepted : fitted limits s 
   unfolding answered
   multiplier-at j d h = at-exit (λ e. getD (e .multipliers) j d) ∙ from-start (columns s) _ (a .multipliers) j d (multipliers-long limits s a accepted) h
 
-  pub trend-at : (j : ℕ) (d : Float) → j < columns s → getD (fitted limits s a .areas .trend) j d ≡ trendOf s (worked s a) j
+  pub trend-at : (j : ℕ) (d : Float) → j < columns s → getD (fitted limits s a .areas .trend) j d ≡ slope (size s) (worked s a) (s .values) j
   unfolding answered
   trend-at j d h = at-exit (λ e. getD (e .trend) j d) ∙ from-start (columns s) _ (a .trend) j d (trend-long limits s a accepted) h

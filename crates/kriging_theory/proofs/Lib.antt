@@ -6,6 +6,7 @@ pub mod System
 pub mod SystemNode
 pub mod SystemDiagonal
 pub mod LeastSquares
+pub mod Worked
 pub mod Nodes
 pub mod NodesAlone
 pub mod Values

@@ -12,7 +12,7 @@ use Rattle.variogram.specs.Model.{semivariance}
 use Rattle.variogram.specs.Distance.{distance2d}
 use Rattle.survey.specs.Survey.{Survey, wells, size, externalCount, wellX, wellY, nodeX, nodeY, nodeExternalAt}
 use Rattle.kriging_theory.specs.Drift.{block, driftRow, nodeRow}
-use Rattle.kriging_theory.specs.Assembly.{entry, assembled}
+use Rattle.kriging_theory.specs.Assembly.{entry}
 use Rattle.kriging_theory.specs.Node.{rightHand, solutionOf, nodeWith, nodeOf}
 use Rattle.kriging_theory.specs.Alike.{SameWells, SameNode}
 
@@ -90,6 +90,6 @@ node-again s q r h work =
 pub size-same : (s t : Survey) → SameWells s t → size s ≡ size t
 size-same s t w = ap size (renamed w)
 
-pub assembled-same : (s t : Survey) → SameWells s t → (work : List Float) → assembled s work ≡ assembled t work
+pub entry-same : (s t : Survey) → SameWells s t → (i j : ℕ) → entry s i j ≡ entry t i j
 unfolding entry
-assembled-same s t w work = ap (λ (u : Survey). assembled u work) (renamed w)
+entry-same s t w i j = ap (λ (u : Survey). entry u i j) (renamed w)

@@ -1,9 +1,9 @@
 -- The assembled matrix is the kriging system's, entry by entry, beside the identity; its right-hand side and its variance are the node's;
 -- and it is symmetric, bit for bit.
 use Prim.Native.Nat.{ℕ, _+_, _-_, _*_, _<_, _≤_}
-use native.Mathlib.Decide.{decLt, ℕ-discrete}
+use native.Mathlib.Decide.{ℕ-discrete}
 use native.Mathlib.Omega.{arith}
-use mathlib.Core.Path.{_≡_, refl, ap, ap₂, sym, _∙_}
+use mathlib.Core.Path.{_≡_, refl, ap₂, sym, _∙_}
 use mathlib.Core.Logic.{_≢_}
 use mathlib.Core.Bool.{Bool, true, false, cond}
 use mathlib.Core.List.{List}
@@ -11,33 +11,22 @@ use borrow.Author.Tests.{lt-ltb, le-ltb, ne-eqb}
 use lib.Dec.{ltb}
 use lib.ListN.{length, getD, length-append}
 use lib.Ieee.{Float, nan, binary64, mul}
-use Rattle.variogram.proofs.Distance.{distance2d-back}
-use Rattle.survey.specs.declared.UniversalKrigingOptions.{UniversalKrigingOptions}
-use Rattle.survey.specs.Survey.{Survey, wells, columns, size, xOf, yOf}
+use Rattle.area.specs.Area.{table}
+use Rattle.area.proofs.Tables.{table-length, joined-at, joined-past}
 use Rattle.ieee.specs.Floats.{zeroFloat, oneFloat}
+use Rattle.ieee.specs.Sums.{runningSum}
+use Rattle.variogram.proofs.Distance.{distance2d-back}
+use Rattle.elimination.specs.Elimination.{at}
 use Rattle.elimination.proofs.Laid.{laid-left, laid-one, laid-zero}
+use Rattle.system_theory.specs.System.{Index, Well, Drift, Within, coefficientOf, rightOf, rowOf}
+use Rattle.system_theory.proofs.System.{matrix-at as laid-matrix, sum-is}
+use Rattle.survey.specs.declared.UniversalKrigingOptions.{UniversalKrigingOptions}
+use Rattle.survey.specs.Survey.{Survey, wells, size, xOf, yOf}
 use Rattle.kriging_theory.specs.Drift.{drift, nodeRow}
 use Rattle.kriging_theory.specs.Assembly.{between, joined, entry, assembled}
-use Rattle.ieee.specs.Sums.{runningSum}
-use Rattle.area.specs.Area.{table}
 use Rattle.kriging_theory.specs.Node.{rightHandOf, rightHand}
-use Rattle.kriging_theory.specs.System.{nodePlace, variogramOf, Index, Well, Drift, Within, coefficientOf, rightOf, varianceSum, rowOf}
-use Rattle.kriging_theory.proofs.SystemDrift.{drift-well, drift-node, node-row-length}
-use Rattle.area.proofs.Tables.{table-length, joined-at, joined-past}
-use Rattle.ieee.proofs.Sums.{sum-on}
-
--- ---- rows and unknowns
--- a row of the system is the row of one equation
-pub row-below : (s : Survey) (u : Index) → Within s u → rowOf s u < size s
-row-below s (Well i) h = omega arith
-row-below s (Drift l) h = omega arith
-
-pub every-row : (s : Survey) (i : ℕ) → i < size s → (u : Index) × Within s u × (rowOf s u ≡ i)
-every-row s i h =
-    elim (decLt i (wells s)) [
-      | yes p ↦ (Well i, p, refl)
-      | no n ↦ (Drift (i - wells s), omega arith, omega arith)
-    ]
+use Rattle.kriging_theory.specs.System.{nodePlace, variogramOf, systemOf, varianceSum}
+use Rattle.kriging_theory.proofs.SystemDrift.{drift-well, drift-node, node-row-length, rows-are}
 
 -- ---- entries
 module _ (s : Survey) where
@@ -50,7 +39,7 @@ module _ (s : Survey) where
   back : (l : ℕ) → wells s + l - wells s ≡ l
   back l = omega arith
 
-  pub entry-is : (u v : Index) → Within s u → Within s v → entry s (rowOf s u) (rowOf s v) ≡ coefficientOf s u v
+  pub entry-is : (u v : Index) → Within (systemOf s) u → Within (systemOf s) v → entry s (rowOf (systemOf s) u) (rowOf (systemOf s) v) ≡ coefficientOf (systemOf s) u v
   unfolding entry joined between coefficientOf variogramOf
   entry-is (Well i) (Well j) hu hv = rw (inside i hu, inside j hv)
   entry-is (Well i) (Drift l) hu hv = rw (inside i hu, past l, back l) (drift-well s i l)
@@ -58,13 +47,14 @@ module _ (s : Survey) where
   entry-is (Drift l) (Drift k) hu hv = rw (past l, past k)
 
 -- ---- the work area: the matrix, and the identity beside it
+pub matrix-at : (s : Survey) (work : List Float) → 2 * size s * size s ≤ length work → (u v : Index) → Within (systemOf s) u → Within (systemOf s) v
+    → at (2 * size s) (assembled s work) (rowOf (systemOf s) u) (rowOf (systemOf s) v) ≡ coefficientOf (systemOf s) u v
+matrix-at s work long = laid-matrix (systemOf s) (size s) (rows-are s) (entry s) (entry-is s) work long
+
 module _ (s : Survey) (work : List Float) (d : Float) (long : 2 * size s * size s ≤ length work) where
   -- in the left half, column j of row i
   left-half : (i j : ℕ) → i < size s → j < size s → getD (assembled s work) (i * (2 * size s) + j) d ≡ entry s i j
   left-half = laid-left (size s) (entry s) work d long
-
-  pub matrix-at : (u v : Index) → Within s u → Within s v → getD (assembled s work) (rowOf s u * (2 * size s) + rowOf s v) d ≡ coefficientOf s u v
-  matrix-at u v hu hv = left-half (rowOf s u) (rowOf s v) (row-below s u hu) (row-below s v hv) ∙ entry-is s u v hu hv
 
   -- in the right half, column j of row i
   pub identity-one : (i : ℕ) → i < size s → getD (assembled s work) (i * (2 * size s) + (size s + i)) d ≡ oneFloat
@@ -78,7 +68,7 @@ pub right-length : (s : Survey) (q : ℕ) → length (rightHand s q) ≡ size s
 unfolding rightHand rightHandOf
 right-length s q = length-append (table (wells s) _) (nodeRow s q) ∙ ap₂ (λ (m n : ℕ). m + n) (table-length (wells s) _) (node-row-length s q)
 
-pub right-is : (s : Survey) (q : ℕ) (u : Index) → Within s u → getD (rightHand s q) (rowOf s u) nan ≡ rightOf s (nodePlace s q) u
+pub right-is : (s : Survey) (q : ℕ) (u : Index) → Within (systemOf s) u → getD (rightHand s q) (rowOf (systemOf s) u) nan ≡ rightOf (systemOf s) (nodePlace s q) u
 unfolding rightHand rightHandOf rightOf variogramOf
 right-is s q (Well i) h = joined-at (wells s) _ (nodeRow s q) i nan h
 right-is s q (Drift l) h = joined-past (wells s) _ (nodeRow s q) l nan ∙ drift-node s q l
@@ -86,12 +76,9 @@ right-is s q (Drift l) h = joined-past (wells s) _ (nodeRow s q) l nan ∙ drift
 -- before minus zero, what is below zero and NaN become +0: z holds the unknowns, row by row
 pub variance-is : (s : Survey) (q : ℕ) (z : List Float)
     → runningSum (size s) (λ i. mul binary64 (getD z i nan) (getD (rightHand s q) i nan))
-    ≡ varianceSum s (nodePlace s q) (λ u. getD z (rowOf s u) nan)
+    ≡ varianceSum s (nodePlace s q) (λ u. getD z (rowOf (systemOf s) u) nan)
 unfolding varianceSum
-variance-is s q z =
-    sum-on (wells s) _ _ _ (columns s)
-    (λ i b. ap (λ (x : Float). mul binary64 (getD z i nan) x) (right-is s q (Well i) b))
-    (λ l b. ap (λ (x : Float). mul binary64 (getD z (wells s + l) nan) x) (right-is s q (Drift l) b))
+variance-is s q z = sum-is (systemOf s) (size s) (rows-are s) (nodePlace s q) (λ i. getD (rightHand s q) i nan) (right-is s q) (λ i. getD z i nan)
 
 -- ---- symmetry, bit for bit, for every survey
 between-back : (options : UniversalKrigingOptions) (coords : List Float) (i j : ℕ) → between options coords i j ≡ between options coords j i
@@ -123,8 +110,8 @@ pub symmetric : (s : Survey) (i j : ℕ) → entry s i j ≡ entry s j i
 unfolding entry
 symmetric s i j = joined-back (wells s) (s .options) (s .coords) (drift s) i j
 
-pub system-symmetric : (s : Survey) (u v : Index) → Within s u → Within s v → coefficientOf s u v ≡ coefficientOf s v u
-system-symmetric s u v hu hv = sym (entry-is s u v hu hv) ∙ symmetric s (rowOf s u) (rowOf s v) ∙ entry-is s v u hv hu
+pub system-symmetric : (s : Survey) (u v : Index) → Within (systemOf s) u → Within (systemOf s) v → coefficientOf (systemOf s) u v ≡ coefficientOf (systemOf s) v u
+system-symmetric s u v hu hv = sym (entry-is s u v hu hv) ∙ symmetric s (rowOf (systemOf s) u) (rowOf (systemOf s) v) ∙ entry-is s v u hv hu
 
 pub area-symmetric : (s : Survey) (work : List Float) (i j : ℕ) (d : Float) → 2 * size s * size s ≤ length work → i < size s → j < size s
     → getD (assembled s work) (i * (2 * size s) + j) d ≡ getD (assembled s work) (j * (2 * size s) + i) d

@@ -12,11 +12,12 @@ use Rattle.variogram.specs.Model.{semivariance}
 use Rattle.variogram.specs.Distance.{distance2d}
 use Rattle.variogram.proofs.Itself.{distance2d-itself, variogram-itself}
 use Rattle.error.specs.Rules.{NoneApplies}
+use Rattle.system_theory.specs.System.{Well, coefficientOf}
 use Rattle.survey.specs.declared.Limits.{Limits}
 use Rattle.survey.specs.Survey.{Survey, wells, wellX, wellY}
 use Rattle.kriging_theory.specs.Areas.{Areas}
 use Rattle.kriging_theory.specs.Rules.{rules}
-use Rattle.kriging_theory.specs.System.{wellPlace, variogramOf, Well, coefficientOf}
+use Rattle.kriging_theory.specs.System.{wellPlace, variogramOf, systemOf}
 use Rattle.kriging_theory.proofs.Endings.{finite-coords, coords-length}
 
 own-variogram : (v : Variogram) (x y : Float) → T (finite x) → T (finite y) → semivariance v (distance2d x y x y) ≡ zeroFloat
@@ -24,7 +25,7 @@ own-variogram v x y hx hy = ap (semivariance v) (distance2d-itself x y hx hy) �
 
 -- "0 + r on the diagonal": γ(x_i, x_i) + r
 pub diagonal : (limits : Limits) (s : Survey) (a : Areas) → NoneApplies (rules limits s a) → (i : ℕ) → i < wells s
-    → coefficientOf s (Well i) (Well i) ≡ add binary64 (variogramOf s (wellPlace s i) (wellPlace s i)) (s .options .regularization)
+    → coefficientOf (systemOf s) (Well i) (Well i) ≡ add binary64 (variogramOf s (wellPlace s i) (wellPlace s i)) (s .options .regularization)
 unfolding coefficientOf variogramOf
 diagonal limits s a none i h =
     let l = coords-length limits s a none in

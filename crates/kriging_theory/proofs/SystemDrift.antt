@@ -8,9 +8,11 @@ use mathlib.Core.List.{List, [], _∷_, _++_, map, map-append}
 use lib.Dec.{eqb}
 use lib.ListN.{length, getD, length-append, length-map}
 use lib.Ieee.{Float, nan}
-use Rattle.survey.specs.Survey.{Survey, codeColumns, columnSum, columns}
+use Rattle.system_theory.specs.Drift.{Place, Monomial, valueOf}
+use Rattle.system_theory.specs.System.{size as equations, driftAt}
+use Rattle.survey.specs.Survey.{Survey, codeColumns, columnSum, columns, wells, size}
 use Rattle.kriging_theory.specs.Drift.{block, driftRow, wellRow, nodeRow, drift}
-use Rattle.kriging_theory.specs.System.{Place, wellPlace, nodePlace, Monomial, valueOf, basis, monomials, driftAt}
+use Rattle.kriging_theory.specs.System.{wellPlace, nodePlace, basis, monomials, systemOf}
 
 -- ---- as many columns as the codes say
 length-cond : {A : Type 0} (b : Bool) (xs ys : List A) (m n : ℕ) → length xs ≡ m → length ys ≡ n → length (cond b xs ys) ≡ cond b m n
@@ -43,7 +45,7 @@ module _ (a : Place) where
   values-cond true ms ns xs ys h k = h
   values-cond false ms ns xs ys h k = k
 
-  basis-values : (used c : ℕ) → values (basis used c) ≡ block c (a .x) (a .y) (a .external used)
+  basis-values : (used c : ℕ) → values (basis used c) ≡ block c (a .axis 0) (a .axis 1) (a .external used)
   unfolding values basis valueOf
   basis-values used c =
       values-cond (eqb c 1) _ _ _ _ refl
@@ -53,15 +55,15 @@ module _ (a : Place) where
   used-next true used = sym (add-one used)
   used-next false used = sym (add-zero used)
 
-  row-values : (cs : List ℕ) (used : ℕ) → values (monomials used cs) ≡ driftRow cs (a .x) (a .y) (a .external) used
+  row-values : (cs : List ℕ) (used : ℕ) → values (monomials used cs) ≡ driftRow cs (a .axis 0) (a .axis 1) (a .external) used
   unfolding values monomials
   row-values [] used = refl
   row-values (c ∷ cs) used =
       map-append (λ (m : Monomial). valueOf m a) (basis used c) _
       ∙ ap₂ (λ (xs ys : List Float). xs ++ ys) (basis-values used c)
-      (row-values cs (cond (eqb c 4) (suc used) used) ∙ ap (λ (u : ℕ). driftRow cs (a .x) (a .y) (a .external) u) (used-next (eqb c 4) used))
+      (row-values cs (cond (eqb c 4) (suc used) used) ∙ ap (λ (u : ℕ). driftRow cs (a .axis 0) (a .axis 1) (a .external) u) (used-next (eqb c 4) used))
 
-  drift-at : (s : Survey) (l : ℕ) → driftAt s l a ≡ getD (driftRow (s .bases) (a .x) (a .y) (a .external) 0) l nan
+  drift-at : (s : Survey) (l : ℕ) → driftAt (systemOf s) l a ≡ getD (driftRow (s .bases) (a .axis 0) (a .axis 1) (a .external) 0) l nan
   unfolding driftAt values
   drift-at s l = ap (λ (xs : List Float). getD xs l nan) (row-values (s .bases) 0)
 
@@ -72,10 +74,14 @@ drift-count s =
     let a = wellPlace s 0 in
     sym (length-map (monomials 0 (s .bases)) (λ m. valueOf m a)) ∙ ap length (row-values a (s .bases) 0) ∙ row-length (s .bases) _ _ _ 0
 
+-- and so a row of the matrix for each equation
+pub rows-are : (s : Survey) → size s ≡ equations (systemOf s)
+rows-are s = ap (λ (p : ℕ). wells s + p) (sym (drift-count s))
+
 -- F_il is f_l at well i
-pub drift-well : (s : Survey) (i l : ℕ) → drift s i l ≡ driftAt s l (wellPlace s i)
+pub drift-well : (s : Survey) (i l : ℕ) → drift s i l ≡ driftAt (systemOf s) l (wellPlace s i)
 drift-well s i l = sym (drift-at (wellPlace s i) s l)
 
 -- f0_l is f_l at the node
-pub drift-node : (s : Survey) (q l : ℕ) → getD (nodeRow s q) l nan ≡ driftAt s l (nodePlace s q)
+pub drift-node : (s : Survey) (q l : ℕ) → getD (nodeRow s q) l nan ≡ driftAt (systemOf s) l (nodePlace s q)
 drift-node s q l = sym (drift-at (nodePlace s q) s l)

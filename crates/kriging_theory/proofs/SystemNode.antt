@@ -3,7 +3,7 @@
 -- of every accepted fit.
 use Prim.Native.Nat.{ℕ, _+_, _-_}
 use native.Mathlib.Omega.{arith}
-use mathlib.Core.Path.{_≡_, ap, _∙_}
+use mathlib.Core.Path.{_≡_, refl, ap, _∙_}
 use mathlib.Core.Bool.{Bool, cond}
 use mathlib.Core.List.{List}
 use borrow.Author.Tests.{eq-eqb, ne-eqb}
@@ -11,55 +11,49 @@ use lib.ListN.{getD}
 use lib.Ieee.{Float, nan, binary64, mul}
 use Rattle.area.proofs.Tables.{table-at}
 use Rattle.ieee.specs.Floats.{zeroFloat, notBelowZero}
-use Rattle.ieee.specs.Sums.{runningSum, addEach}
-use Rattle.ieee.proofs.Sums.{same-sum, same-added, sum-on}
-use Rattle.elimination.specs.Inverse.{inverseAt, timesInverse}
+use Rattle.ieee.proofs.Sums.{same-sum}
+use Rattle.system_theory.specs.System.{Index, Well, Drift, Within, rightOf, estimateOf, rowOf}
+use Rattle.system_theory.proofs.Rows.{row-below}
+use Rattle.system_theory.proofs.System.{same-over, slope-is, unknown-is as timed-unknown}
 use Rattle.survey.specs.declared.Limits.{Limits}
-use Rattle.survey.specs.Survey.{Survey, wells, nodeCount, columns, size, valueAt}
+use Rattle.survey.specs.Survey.{Survey, wells, nodeCount, size, valueAt}
 use Rattle.kriging_theory.specs.Areas.{Areas}
 use Rattle.kriging_theory.specs.Node.{zOf, figureOf, varianceOf, rightHand, solutionOf, nodeWith, nodeOf}
-use Rattle.kriging_theory.specs.Slopes.{trendOf}
-use Rattle.kriging_theory.specs.Fit.{multiplier, worked, fitted}
-use Rattle.kriging_theory.specs.System.{Place, nodePlace, Index, Well, Drift, Within, rightOf, varianceSum, rowOf, unknownOf, slopeOf, Kriged}
-use Rattle.kriging_theory.proofs.System.{row-below, right-is, variance-is}
+use Rattle.kriging_theory.specs.Fit.{worked, fitted}
+use Rattle.kriging_theory.specs.System.{nodePlace, systemOf, varianceSum, unknownAt, Kriged}
+use Rattle.kriging_theory.proofs.Endings.{work-long}
+use Rattle.kriging_theory.proofs.SystemDrift.{drift-count, rows-are}
+use Rattle.kriging_theory.proofs.System.{matrix-at, right-is, variance-is}
 use Rattle.kriging_theory.proofs.Exit.{work-at, figure-at, variance-at, weight-at, multiplier-at, trend-at}
 
 module _ (s : Survey) (work : List Float) (q : ℕ) where
   -- "z = inverse times b, summed from 0 by rising column", b the right-hand side of the system
-  pub unknown-is : (u : Index) → Within s u → getD (nodeOf s work q .z) (rowOf s u) nan ≡ unknownOf s work q u
-  unfolding nodeOf nodeWith solutionOf zOf timesInverse unknownOf
+  pub unknown-is : (u : Index) → Within (systemOf s) u → getD (nodeOf s work q .z) (rowOf (systemOf s) u) nan ≡ unknownAt s work q u
+  unfolding nodeOf nodeWith solutionOf zOf
   unknown-is u h =
-      table-at (size s) _ (rowOf s u) nan (row-below s u h)
-      ∙ sum-on (wells s) _ _ _ (columns s)
-      (λ i b. ap (λ (x : Float). mul binary64 (inverseAt (size s) work (rowOf s u) i) x) (right-is s q (Well i) b))
-      (λ l b. ap (λ (x : Float). mul binary64 (inverseAt (size s) work (rowOf s u) (wells s + l)) x) (right-is s q (Drift l) b))
+      table-at (size s) _ (rowOf (systemOf s) u) nan (rw (rows-are s) (row-below (systemOf s) u h))
+      ∙ timed-unknown (systemOf s) (size s) (rows-are s) (nodePlace s q) (λ i. getD (rightHand s q) i nan) (right-is s q) work u
 
   -- "Figure: Σ z_i·value_i"
-  pub figure-is : nodeOf s work q .figure ≡ runningSum (wells s) (λ i. mul binary64 (unknownOf s work q (Well i)) (valueAt s i))
-  unfolding nodeOf nodeWith figureOf
+  pub figure-is : nodeOf s work q .figure ≡ estimateOf (systemOf s) (valueAt s) (unknownAt s work q)
+  unfolding nodeOf nodeWith figureOf estimateOf
   figure-is = same-sum (wells s) _ _ (λ i b. ap (λ (x : Float). mul binary64 x (valueAt s i)) (unknown-is (Well i) b))
 
-  same-variance : (node : Place) (f g : Index → Float) → ((u : Index) → Within s u → f u ≡ g u) → varianceSum s node f ≡ varianceSum s node g
-  unfolding varianceSum
-  same-variance node f g h =
-      ap (λ (x : Float). addEach x (columns s) (λ l. mul binary64 (f (Drift l)) (rightOf s node (Drift l))))
-      (same-sum (wells s) _ _ (λ i b. ap (λ (x : Float). mul binary64 x (rightOf s node (Well i))) (h (Well i) b)))
-      ∙ same-added _ (columns s) _ _ (λ l b. ap (λ (x : Float). mul binary64 x (rightOf s node (Drift l))) (h (Drift l) b))
-
   -- "Variance: Σ z·b over all s entries", clamped
-  pub node-variance : nodeOf s work q .variance ≡ notBelowZero (varianceSum s (nodePlace s q) (unknownOf s work q))
-  unfolding nodeOf nodeWith solutionOf varianceOf
+  pub node-variance : nodeOf s work q .variance ≡ notBelowZero (varianceSum s (nodePlace s q) (unknownAt s work q))
+  unfolding nodeOf nodeWith solutionOf varianceOf varianceSum
   node-variance =
       ap notBelowZero
       (variance-is s q (zOf (size s) work (rightHand s q))
-      ∙ same-variance (nodePlace s q) _ (unknownOf s work q) unknown-is)
+      ∙ same-over (systemOf s) _ _ (λ u h. ap (λ (x : Float). mul binary64 x (rightOf (systemOf s) (nodePlace s q) u)) (unknown-is u h)))
 
--- THE SYSTEM, in every accepted fit: what the areas hold at exit is its answer, node by node
-pub kriged : (limits : Limits) (s : Survey) (a : Areas) → fitted limits s a .number ≡ 0 → Kriged s (fitted limits s a .areas)
-unfolding trendOf slopeOf
+-- THE SYSTEM, in every accepted fit: the matrix that it eliminates, and what the areas hold at exit, node by node
+pub kriged : (limits : Limits) (s : Survey) (a : Areas) → fitted limits s a .number ≡ 0 → Kriged s a (fitted limits s a .areas)
 kriged limits s a e =
     let w : fitted limits s a .areas .work ≡ worked s a = work-at limits s a e in
     record {
+      rows = rows-are s;
+      matrix = matrix-at s (a .work) (work-long limits s a e);
       weight = λ q i l m. rw w (weight-at limits s a e q i nan l m ∙ unknown-is s (worked s a) q (Well i) m);
       figure = λ q l. rw w (figure-at limits s a e q nan l ∙ figure-is s (worked s a) q);
       variance = λ q l. rw w (variance-at limits s a e q nan l ∙ node-variance s (worked s a) q);
@@ -67,8 +61,8 @@ kriged limits s a e =
           rw w
           (multiplier-at limits s a e j nan m
           ∙ ap (λ (b : Bool). cond b zeroFloat (getD (nodeOf s (worked s a) (nodeCount s - 1) .z) (wells s + j) nan)) (ne-eqb (nodeCount s) 0 (omega arith))
-          ∙ unknown-is s (worked s a) (nodeCount s - 1) (Drift j) m);
-      trend = λ j m. rw w (trend-at limits s a e j nan m);
+          ∙ unknown-is s (worked s a) (nodeCount s - 1) (Drift j) (rw (drift-count s) m));
+      trend = λ j m. rw w (trend-at limits s a e j nan m ∙ slope-is (systemOf s) (size s) (rows-are s) (worked s a) (s .values) refl j);
       no-nodes = λ j z m.
           multiplier-at limits s a e j nan m
           ∙ ap (λ (b : Bool). cond b zeroFloat (getD (nodeOf s (worked s a) (nodeCount s - 1) .z) (wells s + j) nan)) (eq-eqb (nodeCount s) 0 z);

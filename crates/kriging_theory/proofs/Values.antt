@@ -1,15 +1,9 @@
 -- The matrix, z, the variance and the verdict of rows 1 to p read of the values only how many there are.
 use Prim.Native.Nat.{ℕ, _+_, _-_, _*_}
 use mathlib.Core.Path.{_≡_, ap, ap₂, _∙_}
-use mathlib.Core.Bool.{cond}
-use mathlib.Core.List.{List, _++_}
-use lib.Dec.{ltb}
+use mathlib.Core.List.{List}
 use lib.ListN.{length, getD}
 use lib.Ieee.{Float, nan}
-use Rattle.area.specs.Area.{table}
-use Rattle.ieee.specs.Floats.{zeroFloat}
-use Rattle.variogram.specs.Model.{semivariance}
-use Rattle.variogram.specs.Distance.{distance2d}
 use Rattle.survey.specs.Survey.{Survey, wells, columns, wellX, wellY, nodeX, nodeY}
 use Rattle.audit.specs.Audit.{columnVerdict}
 use Rattle.kriging_theory.specs.Drift.{driftRow, drift, nodeRow}

@@ -10,12 +10,12 @@ use Rattle.error.specs.Outcome.{Outcome}
 use Rattle.ieee.specs.Floats.{zeroFloat}
 use Rattle.elimination.specs.Elimination.{stepped}
 use Rattle.elimination.specs.Call.{Call, called}
+use Rattle.system_theory.specs.Slopes.{slope}
 use Rattle.survey.specs.declared.Limits.{Limits}
 use Rattle.survey.specs.Survey.{Survey, wells, nodeCount, columns, size}
 use Rattle.kriging_theory.specs.Areas.{Areas, withWork}
 use Rattle.kriging_theory.specs.Assembly.{entry, assembled}
 use Rattle.kriging_theory.specs.Node.{Node, nodeOf}
-use Rattle.kriging_theory.specs.Slopes.{trendOf}
 use Rattle.kriging_theory.specs.Refusals.{refusal}
 
 -- "The coefficient area gets .. the last p entries of the last node's z; zeros if m = 0." It "keeps its bits and is called multipliers".
@@ -25,7 +25,7 @@ multiplier s node j = cond (eqb (nodeCount s) 0) zeroFloat (getD (node (nodeCoun
 -- the areas of an accepted fit: "m figures and variances; .. m verdicts, n·m weights (node after node), p coefficients", now called multipliers; and
 -- "A new area of p numbers gets the trend's estimate", which no node has a part in
 unfoldable pub answered : Survey → Areas → List Float → (ℕ → Node) → Areas
-unfolding trendOf
+unfolding slope
 answered s a work node = record {
   work = work;
   predicted = written 0 (nodeCount s) (λ q. node q .figure) (a .predicted);
@@ -33,7 +33,7 @@ answered s a work node = record {
   verdicts = written 0 (nodeCount s) (λ q. node q .verdict) (a .verdicts);
   weights = written 0 (wells s * nodeCount s) (λ t. getD (node (t / wells s) .z) (t % wells s) nan) (a .weights);
   multipliers = written 0 (columns s) (multiplier s node) (a .multipliers);
-  trend = written 0 (columns s) (trendOf s work) (a .trend);
+  trend = written 0 (columns s) (slope (size s) work (s .values)) (a .trend);
 }
 
 -- the fit as a call that eliminates, and skips a zero factor

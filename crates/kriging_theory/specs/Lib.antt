@@ -2,7 +2,6 @@ pub mod Areas
 pub mod Drift
 pub mod Assembly
 pub mod Node
-pub mod Slopes
 pub mod Rules
 pub mod Refusals
 pub mod Fit

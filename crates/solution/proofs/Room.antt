@@ -11,7 +11,8 @@ use lib.Ieee.{Float, nan}
 use Rattle.area.specs.Area.{written}
 use Rattle.elimination.specs.Inverse.{timesInverse}
 use Rattle.solution.specs.Solution.{noRoom, solved}
-use Rattle.solution.specs.Slopes.{slope, noTrend, estimated}
+use Rattle.system_theory.specs.Slopes.{slope}
+use Rattle.solution.specs.Slopes.{noTrend, estimated}
 
 -- every list is long enough
 pub solved-is : (size : ℕ) (work b z : List Float) → 2 * size * size ≤ length work → size ≤ length b → size ≤ length z

@@ -1,18 +1,12 @@
 -- The trend's estimate from a finished elimination: "Trend slopes on the report", for whatever lists are lent.
-use Prim.Native.Nat.{ℕ, _+_, _-_, _*_}
+use Prim.Native.Nat.{ℕ, _-_, _*_}
 use mathlib.Core.Bool.{Bool, cond, _||_}
 use mathlib.Core.List.{List}
 use lib.Dec.{ltb}
-use lib.ListN.{length, getD}
-use lib.Ieee.{Float, nan, binary64, mul}
+use lib.ListN.{length}
+use lib.Ieee.{Float}
 use Rattle.area.specs.Area.{written}
-use Rattle.ieee.specs.Sums.{addEach, runningSum}
-use Rattle.elimination.specs.Inverse.{inverseAt}
-
--- "for column j, the sum from 0 over the wells, in order, of inverse entry (n + j, i) times value i": of n values, and here both counted from 0
-unfoldable pub slope : ℕ → List Float → List Float → ℕ → Float
-unfolding addEach
-slope size work values j = runningSum (length values) (λ i. mul binary64 (inverseAt size work (length values + j) i) (getD values i nan))
+use Rattle.system_theory.specs.Slopes.{slope}
 
 -- whether there is no trend: the work area is under 2·s·s numbers, or the trend has no room for s - n
 abbrev pub noTrend : ℕ → List Float → List Float → List Float → Bool

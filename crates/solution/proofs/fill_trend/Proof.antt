@@ -10,7 +10,7 @@ use lib.ListN.{length, length-set}
 use Rattle.area.specs.Area.{written}
 use Rattle.area.proofs.Start.{next-start}
 use Rattle.area.proofs.Places.{all-turns}
-use Rattle.solution.specs.Slopes.{slope}
+use Rattle.system_theory.specs.Slopes.{slope}
 use Rattle.solution.proofs.Room.{estimated-is, no-matrix, no-rows, short-trend}
 use Rattle.solution.proofs.fill_trend.Statement.{statement}
 use Rattle.solution.proofs.fill_trend.Tie as tie

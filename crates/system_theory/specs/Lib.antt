@@ -1,0 +1,3 @@
+pub mod Drift
+pub mod System
+pub mod Slopes
