@@ -2,7 +2,7 @@
 -- of every query with a dimension that is offered.
 use Prim.Native.Nat.{ℕ, _+_, _-_, _*_, _<_, _≤_}
 use native.Mathlib.Omega.{arith}
-use mathlib.Core.Path.{_≡_, refl, ap, sym, _∙_}
+use mathlib.Core.Path.{_≡_, refl, ap, sym}
 use mathlib.Core.Logic.{_≢_}
 use mathlib.Core.Bool.{true, false}
 use mathlib.Core.List.{List, map}
@@ -11,21 +11,21 @@ use lib.Dec.{ltb}
 use lib.ListN.{length, getD}
 use lib.Ieee.{Float, nan, binary64, sub}
 use Rattle.ieee.specs.Floats.{zeroFloat, oneFloat}
+use Rattle.ieee.specs.Root.{sqrtOf}
 use Rattle.variogram.specs.Model.{semivariance}
 use Rattle.variogram.specs.Distance.{offered}
-use Rattle.variogram.proofs.Distance.{distance-offered}
+use Rattle.variogram.proofs.Distance.{squares-opposite, distance-offered}
 use Rattle.elimination.specs.Elimination.{at}
 use Rattle.elimination.proofs.Laid.{laid-one, laid-zero}
 use Rattle.system_theory.specs.Drift.{Place, valueOf}
 use Rattle.system_theory.specs.System.{size as equations, driftAt, Index, Well, Drift, Within, coefficientOf, rightOf, rowOf}
-use Rattle.system_theory.proofs.System.{matrix-at as laid-matrix}
+use Rattle.system_theory.proofs.System.{own-transpose, matrix-at as laid-matrix}
 use Rattle.interpolator_theory.specs.declared.KrigingType.{KrigingType}
 use Rattle.interpolator_theory.specs.declared.KrigingType.the-variants.{Ordinary, Universal}
 use Rattle.interpolator_theory.specs.Call.{Query, Areas, wells, added, size}
 use Rattle.interpolator_theory.specs.Assembly.{covariance, trend, trendAt, column, entry, rightSide}
 use Rattle.interpolator_theory.specs.System.{placeOf, pointPlace, targetPlace, covarianceOf, monomials, systemOf}
 use Rattle.interpolator_theory.specs.Exit.{assembled}
-use Rattle.interpolator_theory.proofs.Matrix.{symmetric}
 
 -- "(s = n + 1)", "(s = n + 4)": as many are added as there are drift functions
 added-is : (t : KrigingType) → added t ≡ length (monomials t)
@@ -44,6 +44,14 @@ values-are Universal a = refl
 trend-is : (q : Query) (ys : List Float) (j l : ℕ) → trendAt q ys j l ≡ driftAt (systemOf q) l (placeOf ys (q .dimension) j)
 unfolding trendAt driftAt
 trend-is q ys j l = ap (λ (xs : List Float). getD xs l nan) (sym (values-are (q .krigingType) (placeOf ys (q .dimension) j)))
+
+-- ---- symmetry, bit for bit
+pub system-symmetric : (q : Query) (u v : Index) → coefficientOf (systemOf q) u v ≡ coefficientOf (systemOf q) v u
+unfolding covarianceOf
+system-symmetric q =
+    own-transpose (systemOf q) (λ i j.
+    ap (λ (x : Float). sub binary64 (q .variogram .sill) (semivariance (q .variogram) (sqrtOf x)))
+    (squares-opposite (pointPlace q i .axis) (pointPlace q j .axis) (q .dimension)))
 
 module _ (q : Query) (ok : offered (q .dimension) ≡ true) where
   covariance-is : (i : ℕ) (ys : List Float) (j : ℕ) → covariance q i ys j ≡ covarianceOf q (pointPlace q i) (placeOf ys (q .dimension) j)
@@ -79,10 +87,6 @@ module _ (q : Query) (ok : offered (q .dimension) ≡ true) where
   -- ---- the right-hand side of a target
   pub right-is : (t : ℕ) (u : Index) → Within (systemOf q) u → rightSide q t (rowOf (systemOf q) u) ≡ rightOf (systemOf q) (targetPlace q t) u
   right-is t u h = column-is (q .targets) t u h
-
-  -- ---- symmetry
-  pub system-symmetric : (u v : Index) → Within (systemOf q) u → Within (systemOf q) v → coefficientOf (systemOf q) u v ≡ coefficientOf (systemOf q) v u
-  system-symmetric u v hu hv = sym (entry-is u v hu hv) ∙ symmetric q (rowOf (systemOf q) u) (rowOf (systemOf q) v) ∙ entry-is v u hv hu
 
   -- ---- the work area: the matrix, and the identity beside it
   module _ (a : Areas) (long : 2 * size q * size q ≤ length (a .work)) where

@@ -73,7 +73,7 @@ module _ (s : System) where
       ∙ sumℤ-same n _ _ (λ k l. sym (+ℤ-*ℤ (sumℤ (s .wells) (λ i. f (Well i) *ℤ g (Well i) k)) (sumℤ (columns s) (λ i. f (Drift i) *ℤ g (Drift i) k)) (v k)))
 
   module _
-      (symmetric : (u v : Index) → Within s u → Within s v → coefficientOf s u v ≡ coefficientOf s v u)
+      (symmetric : (u v : Index) → coefficientOf s u v ≡ coefficientOf s v u)
       (N : Index → Index → ℤ) (D : ℤ) (inverse : InverseOf s N D) (v : ℕ → ℤ) where
     -- the matrix times the estimate
     times : (u : Index) → Within s u
@@ -89,11 +89,11 @@ module _ (s : System) where
     at-drift l h = times (Drift l) h ∙ none (s .wells) _ (λ k m. zero-*ℤ (v k))
 
     -- the matrix is its own transpose
-    transposed : (u : Index) → Within s u → exactSum s (λ w. exactOf s w u *ℤ exactSlope s N v w) ≡ exactSum s (λ w. exactOf s u w *ℤ exactSlope s N v w)
-    transposed u h =
+    transposed : (u : Index) → exactSum s (λ w. exactOf s w u *ℤ exactSlope s N v w) ≡ exactSum s (λ w. exactOf s u w *ℤ exactSlope s N v w)
+    transposed u =
         ap₂ (λ (x y : ℤ). x +ℤ y)
-        (sumℤ-same (s .wells) _ _ (λ i l. ap (λ (x : Float). units x *ℤ exactSlope s N v (Well i)) (symmetric (Well i) u l h)))
-        (sumℤ-same (columns s) _ _ (λ i l. ap (λ (x : Float). units x *ℤ exactSlope s N v (Drift i)) (symmetric (Drift i) u l h)))
+        (sumℤ-same (s .wells) _ _ (λ i l. ap (λ (x : Float). units x *ℤ exactSlope s N v (Well i)) (symmetric (Well i) u)))
+        (sumℤ-same (columns s) _ _ (λ i l. ap (λ (x : Float). units x *ℤ exactSlope s N v (Drift i)) (symmetric (Drift i) u)))
 
     -- the weights of the rest have no part along a drift function
     weightless : (l : ℕ) → l < columns s → sumℤ (s .wells) (λ j. exactOf s (Well j) (Drift l) *ℤ exactSlope s N v (Well j)) ≡ pos 0
@@ -155,8 +155,8 @@ module _ (s : System) where
     solves = record {
       well = at-well;
       drift = at-drift;
-      well-transposed = λ i h. transposed (Well i) h ∙ at-well i h;
-      drift-transposed = λ l h. transposed (Drift l) h ∙ at-drift l h;
+      well-transposed = λ i h. transposed (Well i) ∙ at-well i h;
+      drift-transposed = λ l h. transposed (Drift l) ∙ at-drift l h;
       normal = normal-equations;
       slopes = finds-slopes;
     }

@@ -19,7 +19,7 @@ use Rattle.variogram.proofs.Distance.{distance2d-back}
 use Rattle.elimination.specs.Elimination.{at}
 use Rattle.elimination.proofs.Laid.{laid-left, laid-one, laid-zero}
 use Rattle.system_theory.specs.System.{Index, Well, Drift, Within, coefficientOf, rightOf, rowOf}
-use Rattle.system_theory.proofs.System.{matrix-at as laid-matrix, sum-is}
+use Rattle.system_theory.proofs.System.{own-transpose, matrix-at as laid-matrix, sum-is}
 use Rattle.survey.specs.declared.UniversalKrigingOptions.{UniversalKrigingOptions}
 use Rattle.survey.specs.Survey.{Survey, wells, size, xOf, yOf}
 use Rattle.kriging_theory.specs.Drift.{drift, nodeRow}
@@ -110,8 +110,9 @@ pub symmetric : (s : Survey) (i j : ℕ) → entry s i j ≡ entry s j i
 unfolding entry
 symmetric s i j = joined-back (wells s) (s .options) (s .coords) (drift s) i j
 
-pub system-symmetric : (s : Survey) (u v : Index) → Within (systemOf s) u → Within (systemOf s) v → coefficientOf (systemOf s) u v ≡ coefficientOf (systemOf s) v u
-system-symmetric s u v hu hv = sym (entry-is s u v hu hv) ∙ symmetric s (rowOf (systemOf s) u) (rowOf (systemOf s) v) ∙ entry-is s v u hv hu
+pub system-symmetric : (s : Survey) (u v : Index) → coefficientOf (systemOf s) u v ≡ coefficientOf (systemOf s) v u
+unfolding between variogramOf
+system-symmetric s = own-transpose (systemOf s) (between-back (s .options) (s .coords))
 
 pub area-symmetric : (s : Survey) (work : List Float) (i j : ℕ) (d : Float) → 2 * size s * size s ≤ length work → i < size s → j < size s
     → getD (assembled s work) (i * (2 * size s) + j) d ≡ getD (assembled s work) (j * (2 * size s) + i) d

@@ -1,7 +1,7 @@
--- A call whose entries are the system's, row by row: the matrix in its work area is the system's, its z the unknowns, its sums those over all unknowns. And the
--- slope by rows is the slope by unknowns.
+-- The system is its own transpose where k is. Of a call whose entries are the system's, row by row: the matrix in its work area is the system's, its z the
+-- unknowns, its sums those over all unknowns. And the slope by rows is the slope by unknowns.
 use Prim.Native.Nat.{ℕ, _+_, _*_, _<_, _≤_}
-use mathlib.Core.Path.{_≡_, ap, _∙_}
+use mathlib.Core.Path.{_≡_, refl, ap, _∙_}
 use mathlib.Core.List.{List}
 use lib.ListN.{length, getD}
 use lib.Ieee.{Float, nan, binary64, mul}
@@ -14,6 +14,14 @@ use Rattle.system_theory.specs.Drift.{Place}
 use Rattle.system_theory.specs.System.{System, columns, size, Index, Well, Drift, Within, coefficientOf, rightOf, sumOver, rowOf, unknownOf}
 use Rattle.system_theory.specs.Slopes.{slope, slopeOf}
 use Rattle.system_theory.proofs.Rows.{row-below}
+
+-- beside the wells' part stands F, and below it F's transpose
+pub own-transpose : (s : System) → ((i j : ℕ) → s .between i j ≡ s .between j i) → (u v : Index) → coefficientOf s u v ≡ coefficientOf s v u
+unfolding coefficientOf
+own-transpose s h (Well i) (Well j) = h i j
+own-transpose s h (Well i) (Drift l) = refl
+own-transpose s h (Drift l) (Well j) = refl
+own-transpose s h (Drift l) (Drift k) = refl
 
 -- sums over the same terms
 pub same-over : (s : System) (f g : Index → Float) → ((u : Index) → Within s u → f u ≡ g u) → sumOver s f ≡ sumOver s g
