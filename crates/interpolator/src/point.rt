@@ -1,6 +1,8 @@
 // One target: its right-hand side, z, figure and variance; and every target, into the answer areas.
 use crate::KrigingInterpolator;
 use crate::assembly::column_entry;
+use crate::trend::MOST_TERMS;
+use survey::MOST_WELLS;
 ghost use mathlib.Core.Path.{_≡_};
 ghost use Prim.Native.Nat.{_+_, _*_, _/_, _≤_, _<_};
 ghost use lib.ListN.{length, getD};
@@ -10,9 +12,12 @@ ghost use Rattle.ieee.specs.Sums.{lessEach};
 ghost use Rattle.exponential.specs.Exponential.{fractionTable};
 ghost use Rattle.interpolator_theory.specs.declared.KrigingType.the-variants.{Universal};
 ghost use Rattle.interpolator_theory.specs.Call.{areasOf, added};
-ghost use Rattle.interpolator.specs.Outcome.{queryOf, known};
+ghost use Rattle.interpolator.specs.Outcome.{mostSize, queryOf, known};
 ghost use Rattle.interpolator_theory.specs.Assembly.{column};
 ghost use Rattle.interpolator_theory.specs.Interpolation.{figure, variance, answered};
+
+// The size of the greatest system; in contracts, mostSize.
+const MOST_SIZE: usize = MOST_WELLS + MOST_TERMS;
 
 // b of the target t.
 fn fill_right_side(
@@ -54,7 +59,7 @@ pub struct Estimate {
     pub variance: f64,
 }
 
-// The target t, from the finished elimination. 52 = 48 + 4 is the size of the greatest system.
+// The target t, from the finished elimination.
 fn interpolate_point(
     interpolator: KrigingInterpolator,
     table: &[u64; 512],
@@ -67,14 +72,14 @@ fn interpolate_point(
     work: &[f64],
 ) -> Estimate
     requires { ⌜ (size ≡ length (now values) + added (interpolator .«kriging_type»)) × (interpolator .«kriging_type» ≡ Universal → 2 ≤ d)
-        × (t * d + d ≤ length (now targets)) × (size ≤ 52) × (2 * size * size ≤ length (now work))
+        × (t * d + d ≤ length (now targets)) × (size ≤ mostSize) × (2 * size * size ≤ length (now work))
         × (now table ≡ fractionTable) ⌝ }
     ensures value { λ r. ⌜ r .value
         ≡ figure (queryOf interpolator (now (values .entry)) (now (points .entry)) (now (targets .entry)) d) (now (work .entry)) t ⌝ }
     ensures variance { λ r. ⌜ r .variance
         ≡ variance (queryOf interpolator (now (values .entry)) (now (points .entry)) (now (targets .entry)) d) (now (work .entry)) t ⌝ }
 {
-    let mut b = [0.0; 52];
+    let mut b = [0.0; MOST_SIZE];
     fill_right_side(
         interpolator,
         table,
@@ -86,7 +91,7 @@ fn interpolate_point(
         size,
         &mut b,
     );
-    let mut z = [0.0; 52];
+    let mut z = [0.0; MOST_SIZE];
     solution::fill_z(work, size, &b, &mut z);
     let value = solution::weighted_sum(&z, values, values.len());
     let variance = ieee::max(sill_less(interpolator.variogram.sill, &z, &b, size), 0.0);
@@ -110,7 +115,7 @@ pub(crate) fn interpolate_points(
     variances: &mut [f64],
 )
     requires { ⌜ (size ≡ length (now values) + added (interpolator .«kriging_type»)) × (interpolator .«kriging_type» ≡ Universal → 2 ≤ d)
-        × (1 ≤ d) × (size ≤ 52) × (2 * size * size ≤ length (now work))
+        × (1 ≤ d) × (size ≤ mostSize) × (2 * size * size ≤ length (now work))
         × (length (now targets) / d ≤ length (now figures)) × (length (now targets) / d ≤ length (now variances))
         × (now table ≡ fractionTable) ⌝ }
     ensures { λ _. ⌜ areasOf (now (work .entry)) (now (figures .exit)) (now (variances .exit))

@@ -8,13 +8,16 @@ ghost use Rattle.variogram.specs.Distance.{axisFrom};
 ghost use Rattle.interpolator_theory.specs.Call.{added};
 ghost use Rattle.interpolator_theory.specs.Assembly.{trend};
 
+// The terms of a Universal trend: there are no more.
+pub(crate) const MOST_TERMS: usize = 4;
+
 // How many terms it has.
 pub(crate) fn trend_terms(kriging_type: KrigingType) -> usize
     ensures { λ r. ⌜ r ≡ added «kriging_type» ⌝ }
 {
     match kriging_type {
         KrigingType::Ordinary => 1,
-        KrigingType::Universal => 4,
+        KrigingType::Universal => MOST_TERMS,
     }
 }
 
