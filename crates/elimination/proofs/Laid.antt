@@ -1,20 +1,31 @@
 -- A work area with a matrix beside the identity: its entries, and what lies past them.
 use Prim.Native.Nat.{ℕ, _+_, _*_, _/_, _%_, _≤_, _<_}
 use native.Mathlib.Nat.{zero-add}
+use native.Mathlib.Decide.{decLt}
 use native.Mathlib.Omega.{arith}
 use mathlib.Core.Path.{_≡_, refl, ap, sym, _∙_}
 use mathlib.Core.Logic.{_≢_}
 use mathlib.Core.Bool.{Bool, cond}
 use mathlib.Core.List.{List}
-use lib.Dec.{eqb}
+use lib.Dec.{eqb, ltb}
 use lib.ListN.{length, getD}
 use lib.Ieee.{Float}
 use borrow.Author.Tests.{lt-ltb, le-ltb, eq-eqb, ne-eqb}
 use Rattle.area.specs.Area.{written, Kept}
 use Rattle.area.proofs.Places.{at-place}
-use Rattle.area.proofs.Filled.{entry as filled-entry, one-fill, kept-filled}
+use Rattle.area.proofs.Filled.{entry as filled-entry, same-entries, one-fill, kept-filled}
 use Rattle.ieee.specs.Floats.{zeroFloat, oneFloat}
 use Rattle.elimination.specs.Inverse.{besideIdentity, laid}
+
+-- matrices with the same entries are laid alike
+pub same-laid : (s : ℕ) (e f : ℕ → ℕ → Float) (work : List Float) → ((i j : ℕ) → i < s → j < s → e i j ≡ f i j) → laid s e work ≡ laid s f work
+unfolding laid besideIdentity
+same-laid s e f work h =
+    same-entries (2 * s) s _ _ work (λ i c hi hc.
+    elim (decLt c s) [
+      | yes l ↦ ap (λ (x : Float). cond (ltb c s) x (cond (eqb c (s + i)) oneFloat zeroFloat)) (h i c hi l)
+      | no n ↦ rw (le-ltb c s (omega arith))
+    ])
 
 module _ (s : ℕ) (entry : ℕ → ℕ → Float) (work : List Float) where
   -- what lies past the matrix is as it was

@@ -12,4 +12,4 @@ pub mod Call
 pub mod Agree
 pub mod Beside
 pub mod RowParts
-pub mod NoRow
+pub mod Upper

@@ -1,22 +1,19 @@
--- Rows of a matrix that is its own transpose, beside the identity, for whatever area is lent.
-use Prim.Native.Nat.{ℕ, _+_, _*_}
-use mathlib.Core.Bool.{Bool, _||_, cond}
+-- A matrix that is its own transpose, of which an area holds each row from the diagonal on: "beside and below: F and its transpose", and the variogram of two
+-- wells either way.
+use Prim.Native.Nat.{ℕ, _*_}
+use mathlib.Core.Bool.{cond}
 use mathlib.Core.List.{List}
-use lib.Dec.{leb, ltb, eqb}
+use lib.Dec.{ltb}
 use lib.ListN.{length}
 use lib.Ieee.{Float}
-use Rattle.area.specs.Area.{written}
-use Rattle.ieee.specs.Floats.{zeroFloat, oneFloat}
 use Rattle.elimination.specs.Elimination.{at}
+use Rattle.elimination.specs.Inverse.{laid}
 
--- whether row i is none of the "s rows of 2s" in an area of so many numbers
-abbrev pub noRow : ℕ → ℕ → ℕ → Bool
-noRow len s i = ltb len (2 * s * s) || leb s i
+-- its entry in row i and column j: before the diagonal, what stands across
+abbrev pub across : ℕ → List Float → ℕ → ℕ → Float
+across s work i j = cond (ltb j i) (at (2 * s) work j i) (at (2 * s) work i j)
 
--- row i before the diagonal: "beside and below: F and its transpose", and the variogram of two wells either way
-unfoldable pub mirrored : ℕ → ℕ → List Float → List Float
-mirrored s i work = cond (noRow (length work) s i) work (written (i * (2 * s)) i (λ j. at (2 * s) work j i) work)
-
--- row i of the identity beside the matrix
-unfoldable pub identified : ℕ → ℕ → List Float → List Float
-identified s i work = cond (noRow (length work) s i) work (written (i * (2 * s) + s) s (λ j. cond (eqb j i) oneFloat zeroFloat) work)
+-- all of it, "beside the identity, s rows of 2s"; an area of fewer than 2·s·s numbers is left as it is
+unfoldable pub completed : ℕ → List Float → List Float
+unfolding laid
+completed s work = cond (ltb (length work) (2 * s * s)) work (laid s (across s work) work)

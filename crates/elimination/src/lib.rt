@@ -1,6 +1,6 @@
 // Gauss–Jordan elimination on a lent work area, which holds the matrix beside the identity: `size` rows of 2 * size numbers, row after row.
 // The Rust has it twice: the fit's skips a row whose factor is zero, the interpolator's does not. On zeros with a sign and on NaNs the two differ.
-pub mod layout; // layout.rt: a row of the matrix beside the identity
+pub mod layout; // layout.rt: the matrix beside the identity
 
 ghost use mathlib.Core.Path.{_≡_};
 ghost use mathlib.Core.Bool.{true, false};

@@ -3,20 +3,19 @@
 use crate::KrigingInterpolator;
 use crate::trend::trend_term;
 use elimination::Elimination;
-use elimination::layout::identity_row;
-use elimination::layout::mirror_row;
+use elimination::layout::complete;
 use variogram::Variogram;
 ghost use mathlib.Core.Path.{_≡_};
 ghost use mathlib.Core.Bool.{false};
-ghost use Prim.Native.Nat.{ℕ, _+_, _-_, _*_, _≤_, _<_};
-ghost use lib.ListN.{length, getD};
-ghost use lib.Ieee.{nan, binary64, sub};
+ghost use Prim.Native.Nat.{_+_, _-_, _*_, _≤_, _<_};
+ghost use lib.ListN.{length};
+ghost use lib.Ieee.{binary64, sub};
 ghost use Rattle.area.specs.Area.{written};
 ghost use Rattle.exponential.specs.Exponential.{fractionTable};
 ghost use Rattle.variogram.specs.Model.{semivariance};
 ghost use Rattle.variogram.specs.Distance.{distance};
 ghost use Rattle.elimination.specs.Elimination.{outcomeOf, eliminated};
-ghost use Rattle.elimination.specs.Inverse.{besideIdentity, laid};
+ghost use Rattle.elimination.specs.Inverse.{laid};
 ghost use Rattle.interpolator_theory.specs.declared.KrigingType.the-variants.{Universal};
 ghost use Rattle.interpolator_theory.specs.Call.{added};
 ghost use Rattle.interpolator.specs.Outcome.{known};
@@ -109,31 +108,8 @@ fn fill_from_diagonal(
     }
 }
 
-// Row i of the matrix, and of the identity beside it. The matrix is its own transpose, to the bit: before the diagonal
-// stands what the rows above, which are filled, hold in column i, so that no variogram is evaluated twice.
-fn fill_matrix_row(
-    interpolator: KrigingInterpolator,
-    table: &[u64; 512],
-    values: &[f64],
-    points: &[f64],
-    d: usize,
-    size: usize,
-    i: usize,
-    work: &mut [f64],
-)
-    requires { ⌜ (i < size) × (size ≡ length (now values) + added (interpolator .«kriging_type»)) × (interpolator .«kriging_type» ≡ Universal → 2 ≤ d)
-        × (length (now values) * d ≤ length (now points)) × (2 * size * size ≤ length (now work))
-        × ((j : ℕ) → j < i → getD (now work) (j * (2 * size) + i) nan ≡ entry (known interpolator (now values) (now points) d) j i)
-        × (now table ≡ fractionTable) ⌝ }
-    ensures { λ _. ⌜ now (work .exit) ≡ written (i * (2 * size)) (2 * size)
-        (besideIdentity size (entry (known interpolator (now (values .entry)) (now (points .entry)) d)) i) (now (work .entry)) ⌝ }
-{
-    mirror_row(work, size, i);
-    fill_from_diagonal(interpolator, table, values, points, d, size, i, work);
-    identity_row(work, size, i);
-}
-
-// The matrix beside the identity.
+// The matrix beside the identity. It is its own transpose, to the bit: each row is filled from the diagonal on, and what lies before it is copied, so that no
+// variogram is evaluated twice.
 pub(crate) fn build_covariance_matrix(
     interpolator: KrigingInterpolator,
     table: &[u64; 512],
@@ -148,8 +124,9 @@ pub(crate) fn build_covariance_matrix(
     ensures { λ _. ⌜ now (work .exit) ≡ laid size (entry (known interpolator (now (values .entry)) (now (points .entry)) d)) (now (work .entry)) ⌝ }
 {
     for i in 0..size {
-        fill_matrix_row(interpolator, table, values, points, d, size, i, work);
+        fill_from_diagonal(interpolator, table, values, points, d, size, i, work);
     }
+    complete(work, size);
 }
 
 // The elimination of the matrix, in place: the interpolator's, which skips no zero factor.

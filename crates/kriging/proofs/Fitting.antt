@@ -3,23 +3,21 @@ use Prim.Native.Nat.{ℕ, _+_, _-_, _*_, _≤_, _<_}
 use native.Mathlib.Decide.{decLt}
 use native.Mathlib.Omega.{arith}
 use mathlib.Core.Path.{_≡_, ap, sym, _∙_}
-use mathlib.Core.Bool.{Bool, true, cond}
+use mathlib.Core.Bool.{true}
 use mathlib.Core.List.{List}
-use borrow.Author.Tests.{le-ltb}
-use lib.Dec.{eqb, ltb}
 use lib.ListN.{length, getD}
 use lib.Ieee.{Float, nan}
 use Rattle.area.specs.Area.{written, filled}
 use Rattle.area.proofs.Filled as Filled
-use Rattle.ieee.specs.Floats.{zeroFloat, oneFloat}
 use Rattle.error.specs.declared.Refusal.{Refusal}
 use Rattle.error.specs.Numbers.{numberOf}
-use Rattle.error.specs.Outcome.{Outcome, outcome}
+use Rattle.error.specs.Outcome.{outcome}
 use Rattle.elimination.specs.declared.Elimination.{Elimination}
 use Rattle.elimination.specs.Elimination.{outcomeOf, eliminated}
-use Rattle.elimination.specs.Inverse.{besideIdentity, laid}
+use Rattle.elimination.specs.Inverse.{laid}
 use Rattle.elimination.specs.Call.{afterElimination}
 use Rattle.elimination.proofs.Call as Call
+use Rattle.elimination.proofs.Laid.{same-laid}
 use Rattle.solution.specs.Slopes.{estimated}
 use Rattle.system_theory.specs.Slopes.{slope}
 use Rattle.solution.proofs.Room.{estimated-is}
@@ -76,13 +74,7 @@ module _ (s : Survey) where
 
   pub matrix-laid : (F work : List Float) → DriftIn s F
       → laid (size s) (joined (wells s) (between (s .options) (s .coords)) (λ i j. getD F (i * columns s + j) nan)) work ≡ assembled s work
-  unfolding laid besideIdentity
-  matrix-laid F work h =
-      Filled.same-entries (2 * size s) (size s) _ _ work (λ i c hi hc.
-      elim (decLt c (size s)) [
-        | yes b ↦ ap (λ (x : Float). cond (ltb c (size s)) x (cond (eqb c (size s + i)) oneFloat zeroFloat)) (same-entry F h i c hi b)
-        | no b ↦ rw (le-ltb c (size s) (omega arith))
-      ])
+  matrix-laid F work h = same-laid (size s) _ (entry s) work (same-entry F h)
 
 module _ (s : Survey) (a : Areas) where
   -- turned away

@@ -1,14 +1,13 @@
 // The matrix of a fit beside the identity, in the lent work area.
-use elimination::layout::identity_row;
-use elimination::layout::mirror_row;
+use elimination::layout::complete;
 use survey::UniversalKrigingOptions;
 ghost use mathlib.Core.Path.{_≡_};
-ghost use Prim.Native.Nat.{ℕ, _+_, _-_, _*_, _≤_, _<_};
+ghost use Prim.Native.Nat.{_+_, _-_, _*_, _≤_, _<_};
 ghost use lib.ListN.{length, getD};
 ghost use lib.Ieee.{nan};
 ghost use Rattle.area.specs.Area.{written};
 ghost use Rattle.exponential.specs.Exponential.{fractionTable};
-ghost use Rattle.elimination.specs.Inverse.{besideIdentity, laid};
+ghost use Rattle.elimination.specs.Inverse.{laid};
 ghost use Rattle.kriging_theory.specs.Assembly.{between, joined};
 
 // The entry between wells i and j: 0 + r on the diagonal, else the variogram.
@@ -81,32 +80,8 @@ fn fill_from_diagonal(
     }
 }
 
-// Row i of the matrix, and of the identity beside it. The matrix is its own transpose, to the bit: before the diagonal
-// stands what the rows above, which are filled, hold in column i, so that no variogram is evaluated twice.
-fn fill_matrix_row(
-    coords: &[f64],
-    options: UniversalKrigingOptions,
-    table: &[u64; 512],
-    drift: &[f64],
-    n: usize,
-    p: usize,
-    i: usize,
-    work: &mut [f64],
-)
-    requires { ⌜ (i < n + p) × (2 * n ≤ length (now coords)) × (n * p ≤ length (now drift)) × (2 * (n + p) * (n + p) ≤ length (now work))
-        × ((j : ℕ) → j < i → getD (now work) (j * (2 * (n + p)) + i) nan
-        ≡ joined n (between options (now coords)) (λ i j. getD (now drift) (i * p + j) nan) j i) × (now table ≡ fractionTable) ⌝ }
-    ensures { λ _. ⌜ now (work .exit) ≡ written (i * (2 * (n + p))) (2 * (n + p))
-        (besideIdentity (n + p) (joined n (between options (now (coords .entry))) (λ i j. getD (now (drift .entry)) (i * p + j) nan)) i)
-        (now (work .entry)) ⌝ }
-{
-    let size = n + p;
-    mirror_row(work, size, i);
-    fill_from_diagonal(coords, options, table, drift, n, p, i, work);
-    identity_row(work, size, i);
-}
-
-// The matrix beside the identity.
+// The matrix beside the identity. It is its own transpose, to the bit: each row is filled from the diagonal on, and what lies before it is copied, so that no
+// variogram is evaluated twice.
 pub(crate) fn assemble(
     coords: &[f64],
     options: UniversalKrigingOptions,
@@ -121,7 +96,9 @@ pub(crate) fn assemble(
         (joined n (between options (now (coords .entry))) (λ i j. getD (now (drift .entry)) (i * p + j) nan))
         (now (work .entry)) ⌝ }
 {
-    for i in 0..n + p {
-        fill_matrix_row(coords, options, table, drift, n, p, i, work);
+    let size = n + p;
+    for i in 0..size {
+        fill_from_diagonal(coords, options, table, drift, n, p, i, work);
     }
+    complete(work, size);
 }
