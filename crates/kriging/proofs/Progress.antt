@@ -19,7 +19,7 @@ use Rattle.ieee.specs.Floats.{zeroFloat}
 use Rattle.survey.specs.Survey.{Survey, wells, nodeCount, columns, size}
 use Rattle.kriging_theory.specs.Areas.{Areas, areasOf}
 use Rattle.kriging_theory.specs.Node.{Node, nodeOf}
-use Rattle.kriging_theory.specs.Slopes.{trendOf}
+use Rattle.system_theory.specs.Slopes.{slope}
 use Rattle.kriging_theory.specs.Fit.{multiplier, answered}
 
 -- a row of so many of a list's numbers lies inside
@@ -100,7 +100,8 @@ module _ (s : Survey) (a : Areas) (node : ℕ → Node) where
   -- and all of them: what was in the multipliers' places before the zeros does not count
   pub all-nodes : {p : ℕ} → columns s ≡ p → (q : ℕ) (e : Areas) (cs : List Float) → q ≡ nodeCount s → a .multipliers ≡ written 0 p (λ j. zeroFloat) cs
       → Progress s a node q e
-      → areasOf (e .work) (e .predicted) (e .variance) (e .verdicts) (e .weights) (e .multipliers) (written 0 (columns s) (trendOf s (e .work)) (a .trend))
+      → areasOf (e .work) (e .predicted) (e .variance) (e .verdicts) (e .weights) (e .multipliers)
+      (written 0 (columns s) (slope (size s) (e .work) (s .values)) (a .trend))
       ≡ answered s (areasOf (a .work) (a .predicted) (a .variance) (a .verdicts) (a .weights) cs (a .trend)) (e .work) node
   unfolding answered
   all-nodes {p} ep q e cs m z h i = record {
@@ -119,5 +120,5 @@ module _ (s : Survey) (a : Areas) (node : ℕ → Node) where
         ∙ written-over 0 (columns s) (λ j. zeroFloat) (lastOf s node q) cs
         ∙ ap (λ (k : ℕ). written 0 (columns s) (lastOf s node k) cs) m)
         i;
-    trend = written 0 (columns s) (trendOf s (e .work)) (a .trend);
+    trend = written 0 (columns s) (slope (size s) (e .work) (s .values)) (a .trend);
   }

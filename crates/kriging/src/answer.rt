@@ -10,11 +10,11 @@ ghost use Rattle.area.specs.Area.{written};
 ghost use Rattle.ieee.specs.Floats.{zeroFloat};
 ghost use Rattle.exponential.specs.Exponential.{fractionTable};
 ghost use Rattle.survey.specs.Limits.{mostSize};
-ghost use Rattle.survey.specs.Survey.{surveyOf, columns, columnSum, externalCount};
+ghost use Rattle.survey.specs.Survey.{surveyOf, columns, size, columnSum, externalCount};
 ghost use Rattle.kriging_theory.specs.Areas.{areasOf};
 ghost use Rattle.kriging_theory.specs.Drift.{DriftIn};
 ghost use Rattle.kriging_theory.specs.Node.{nodeOf};
-ghost use Rattle.kriging_theory.specs.Slopes.{trendOf};
+ghost use Rattle.system_theory.specs.Slopes.{slope};
 ghost use Rattle.kriging_theory.specs.Fit.{answered};
 
 // Numbers, stored to an area from place `at` on.
@@ -68,7 +68,7 @@ pub(crate) fn krige_nodes(
         options (now (nodes .entry)) (now («node_external» .entry)) tolerance in
         DriftIn s (now (drift .entry))
         → areasOf (now (work .entry)) (now (predicted .exit)) (now (variance .exit)) (now (verdicts .exit)) (now (weights .exit))
-        (now (multipliers .exit)) (written 0 (columns s) (trendOf s (now (work .entry))) trend)
+        (now (multipliers .exit)) (written 0 (columns s) (slope (size s) (now (work .entry)) (now (values .entry))) trend)
         ≡ answered s
         (areasOf (now (work .entry)) (now (predicted .entry)) (now (variance .entry)) (now (verdicts .entry))
         (now (weights .entry)) (now (multipliers .entry)) trend)

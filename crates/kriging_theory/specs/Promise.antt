@@ -30,7 +30,8 @@ pub record Promise (limits : Limits) (s : Survey) (a : Areas) (e : Outcome Areas
   pub accepted : (e .number ≡ 0) ↔ (NoneApplies (rules limits s a) × Through true (size s) (size s) (assembled s (a .work)))
   -- past the named lengths every area is as it was, however the call ends
   pub kept : Untouched s a (e .areas)
-  -- the areas of an accepted fit hold the unknowns of the kriging system: weights, figures, variances, multipliers; and the trend, from the same inverse
-  pub kriged : e .number ≡ 0 → Kriged s (e .areas)
+  -- the matrix of an accepted fit is the kriging system's, and its areas hold the unknowns: weights, figures, variances, multipliers; and the trend, from
+  -- the same inverse
+  pub kriged : e .number ≡ 0 → Kriged s a (e .areas)
   -- demand 3: in an accepted fit each node has exactly the verdict of its own weights and figure, and one that passed keeps the trend bound
   pub bounded : TrendKept s e

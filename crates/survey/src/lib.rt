@@ -7,15 +7,19 @@ ghost use mathlib.Core.Path.{_≡_};
 ghost use Rattle.survey.specs.Options.{defaultBases, defaultOptions};
 ghost use Rattle.survey.specs.Limits.{base};
 
-// What a call takes at most: every capacity below and in the crates above is computed from these. specs/Limits has them for the contracts.
+// What a call takes at most: wells, n. The capacities of every crate above are computed from these; specs/Limits has them for the contracts.
 pub const MOST_WELLS: usize = 48;
 
+// Drift columns, p.
 pub const MOST_COLUMNS: usize = 12;
 
+// Nodes, m.
 pub const MOST_NODES: usize = 100;
-// The size of the greatest kriging system, n + p, and how many numbers its drift columns have, n * p.
+
+// The size of the greatest kriging system, n + p.
 pub const MOST_SIZE: usize = MOST_WELLS + MOST_COLUMNS;
 
+// How many numbers its drift columns have, n * p.
 pub const MOST_DRIFT: usize = MOST_WELLS * MOST_COLUMNS;
 
 // Options of a fit. Its drift bases, a list of codes, are lent beside them.
