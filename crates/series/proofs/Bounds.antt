@@ -5,9 +5,8 @@ use native.Mathlib.Nat.{le-refl, le-trans, le-dest, mul-add, add-mul, mul-assoc,
 use native.Mathlib.Omega.{arith}
 use mathlib.Core.Path.{_≡_, ap, ap₂, sym, _∙_, subst}
 use mathlib.Core.Bool.{true, false}
-use Rattle.series.specs.Series.{even, over, added, taken}
+use Rattle.series.specs.Series.{even, over, added, taken, all}
 use Rattle.series.proofs.Terms.{over-positive, sorted}
-use Rattle.series.proofs.Products.{all}
 use Rattle.series.proofs.Squares.{even-square, odd-square}
 use Rattle.series.proofs.Steps.{under-before, above-after, onward, onward-odd, onward-far, climb, descend, all-next}
 

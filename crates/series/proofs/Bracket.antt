@@ -3,11 +3,10 @@ use Prim.Native.Nat.{ℕ, _+_, _-_, _*_, _≤_, _<_}
 use native.Mathlib.Nat.{mul-comm, sub-add-cancel, add-mul, zero-mul, le-of-lt, le-of-eq, lt-of-not-le}
 use native.Mathlib.Omega.{arith}
 use native.Mathlib.Decide.{decLe}
-use mathlib.Core.Path.{_≡_, ap, sym, _∙_, subst}
+use mathlib.Core.Path.{_≡_, refl, ap, sym, _∙_, subst}
 use mathlib.Core.Bool.{true, false}
-use Rattle.series.specs.Series.{even, over, added, taken}
-use Rattle.series.specs.Bracket.{Within}
-use Rattle.series.proofs.Products.{all}
+use Rattle.series.specs.Series.{even, over, added, taken, all}
+use Rattle.series.specs.Bracket.{Within, AtMost, AtLeast, OfOne}
 use Rattle.series.proofs.Bounds.{Under, Above, from-lower, to-upper, to-lower}
 
 -- 0 is below e^−u
@@ -39,7 +38,7 @@ module _ (a d n m : ℕ) (d-positive : 0 < d) (odd : even n ≡ false) (past : a
 pub within : (a d y q t : ℕ) → 0 < d → Under a d (y - t) q → Above a d (y + t) q → Within a d y q t
 within a d y q t d-positive u v =
     record {
-      not-above = λ n ev h. above n (to-upper a d (y - t) q d-positive u n ev);
+      not-above = λ n ev. above n (to-upper a d (y - t) q d-positive u n ev);
       not-below = λ n odd h. to-lower a d (y + t) q d-positive v n odd h;
     }
   where
@@ -47,3 +46,12 @@ within a d y q t d-positive u v =
     above n h =
         let l : y * over d n ≤ (y - t + t) * over d n = native.Mathlib.Nat.mul-le-mul-right (over d n) (omega arith) in
         omega (arith, l, add-mul (y - t) t (over d n))
+
+-- both halves of the statement say something of a number u that is not below 1
+pub of-one : (y q t : ℕ) → Within 1 1 y q t → OfOne y q t
+unfolding over added taken
+of-one y q t w =
+    let lower : AtLeast 1 1 3 y q t = w .not-below 3 refl (omega arith) in
+    let upper : AtMost 1 1 4 y q t = w .not-above 4 refl in
+    let none : AtMost 1 1 0 y q t = w .not-above 0 refl in
+    record { at-least = omega arith; at-most = omega arith; first = omega arith }

@@ -5,9 +5,9 @@ use native.Mathlib.Nat.{le-of-mul-le-mul-left, sub-add-cancel, zero-mul}
 use native.Mathlib.Decide.{decLe}
 use native.Mathlib.Omega.{arith}
 use mathlib.Core.Path.{_≡_, ap, sym, _∙_, subst}
-use Rattle.series.specs.Series.{over}
+use Rattle.series.specs.Series.{over, all}
 use Rattle.series.proofs.Terms.{over-positive, sorted}
-use Rattle.series.proofs.Products.{all, product-under, product-over}
+use Rattle.series.proofs.Products.{product-under, product-over}
 use Rattle.series.proofs.Bounds.{Under, Above}
 
 -- ---- products

@@ -3,14 +3,10 @@
 use Prim.Native.Nat.{ℕ, suc, _+_, _*_, _≤_, _<_}
 use native.Mathlib.Nat.{le-refl, le-of-suc-le-suc, le-add-right, le-add-left, mul-assoc, mul-left-comm, mul-pos, mul-le-mul-left, le-of-mul-le-mul-left}
 use mathlib.Core.Path.{_≡_, ap, ap₂, sym, _∙_, subst₂}
-use Rattle.series.specs.Series.{over, added, taken}
+use Rattle.series.specs.Series.{over, added, taken, all}
 use Rattle.series.proofs.Sums.{total, same, scaled}
 use Rattle.series.proofs.Terms.{Terms, terms, are-terms, all-sum, sorted}
 use Rattle.series.proofs.Cauchy.{cauchy, triangle, by-powers, within-square, holds-square, cauchy-terms}
-
--- E_n(a / d), times d^n · n!
-abbrev pub all : ℕ → ℕ → ℕ → ℕ
-all a d n = added a d n + taken a d n
 
 -- the terms of a + b are the triangle, in other units
 triangle-terms : (a b d K : ℕ) (x y z : ℕ → ℕ) → 0 < d → Terms a d K x → Terms b d K y → Terms (a + b) d K z

@@ -2,9 +2,8 @@
 use Prim.Native.Nat.{ℕ, zero, suc, _+_, _-_, _*_, _^_}
 use native.Mathlib.Nat.{le-trans, le-of-eq, mul-add, mul-left-comm, mul-one, pow-suc, pow-zero, mul-le-mul-left}
 use mathlib.Core.Path.{_≡_, ap, ap₂, sym, _∙_}
-use Rattle.series.specs.Series.{over, added, taken}
+use Rattle.series.specs.Series.{over, added, taken, all}
 use Rattle.series.proofs.Terms.{sorted}
-use Rattle.series.proofs.Products.{all}
 use Rattle.series.proofs.Steps.{all-next}
 use Rattle.series.proofs.Bounds.{Under, Above}
 use Rattle.series.proofs.Near.{Near}

@@ -6,9 +6,8 @@ use native.Mathlib.Nat.{le-of-mul-le-mul-right, add-zero, add-suc, pow-suc, zero
 use native.Mathlib.Omega.{arith}
 use mathlib.Core.Path.{_≡_, ap, sym, _∙_, subst, subst₂}
 use mathlib.Core.Bool.{Bool, true, false, not, cond}
-use Rattle.series.specs.Series.{even, over, added, taken}
+use Rattle.series.specs.Series.{even, over, added, taken, all}
 use Rattle.series.proofs.Terms.{sorted}
-use Rattle.series.proofs.Products.{all}
 
 -- ---- positive terms
 pub all-next : (a d n : ℕ) → all a d (suc n) ≡ all a d n * (d * suc n) + a ^ suc n

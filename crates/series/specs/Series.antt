@@ -23,7 +23,11 @@ unfoldable pub taken : ℕ → ℕ → ℕ → ℕ
 taken a d zero = 0
 taken a d (suc n) = taken a d n * (d * suc n) + cond (even (suc n)) 0 (a ^ suc n)
 
--- the same sum with its signs, Σ (−u)^i / i!, times d^n · n!: each sum is the one before, in the next one's units, and (−a)^n more
+-- the sum of all terms with plus, E_n(u) = 1 + u + u²/2 + .. + u^n / n!, times d^n · n!
+abbrev pub all : ℕ → ℕ → ℕ → ℕ
+all a d n = added a d n + taken a d n
+
+-- the alternating sum with its signs, Σ (−u)^i / i!, times d^n · n!: each sum is the one before, in the next one's units, and (−a)^n more
 unfoldable pub alternating : ℕ → ℕ → ℕ → ℤ
 alternating a d zero = pos 1
 alternating a d (suc n) = alternating a d n *ℤ pos (d * suc n) +ℤ pow (negℤ (pos a)) (suc n)
