@@ -1,27 +1,20 @@
 -- Where sums with rounding leave no doubt, the exact sum is within t·(1 + |target|) of the target.
-use Prim.Native.Nat.{ℕ, zero, suc, _+_, _-_, _*_, _^_, _≤_, _<_}
-use native.Mathlib.Nat.{le-trans, le-of-eq, le-add-left, le-add-right, mul-le-mul-left, mul-le-mul-right}
+use Prim.Native.Nat.{ℕ, _+_, _*_, _^_, _≤_}
+use native.Mathlib.Nat.{le-trans, le-of-eq, le-add-left, le-add-right, mul-le-mul-right}
 use native.Mathlib.Omega.{arith}
-use mathlib.Core.Path.{_≡_, refl, sym, ap, ap₂, _∙_, subst}
+use mathlib.Core.Path.{_≡_, refl, ap, _∙_, subst}
 use mathlib.Core.Bool.{Bool, true, false, cond, _&&_, true≢false}
 use lib.Dec.{T, leb, leb→le, lit≤}
-use lib.IntN.{ℤ, pos, negsuc, negℤ, natAbs, _+ℤ_, _-ℤ_, _*ℤ_}
-use lib.Ieee.{Float, nan, inf, fin, binary64, fits, up, down, ofBits, add, sub, mul, neg, unlike, lt, eq, le}
-use lib.Ieee.Fits.{and-l, and-r, add-fits, sub-fits, mul-fits, neg-fits}
+use lib.IntN.{pos, negsuc}
+use lib.Ieee.{Float, nan, inf, fin, binary64, fits, up, down, ofBits, sub, mul, unlike, lt, eq, le}
+use lib.Ieee.Fits.{and-l, and-r}
 use lib.Ieee.Scale.{finite}
-use Rattle.ieee.specs.Values.{multiple, signOf, signed, valueOf, Signed, infinite, number}
+use Rattle.ieee.specs.Values.{multiple, signOf, Signed, infinite, number}
 use Rattle.ieee.specs.Floats.{oneFloat, absOf, maxOf}
 use Rattle.ieee.proofs.RoundingWhole.{gap}
-use Rattle.ieee.proofs.RoundingSum.{neg-value}
-use Rattle.ieee.proofs.RoundingProduct.{mul-obeys}
 use Rattle.ieee.proofs.Signs.{round-signed}
-use Rattle.exact.specs.Whole.{sumℤ}
-use Rattle.estimate.specs.Estimate.{term, roundedSum, roundedSize, sixteen, share, leastMargin, margin, clearly}
-use Rattle.estimate.proofs.Rounded.{roundedTo, half-to}
-use Rattle.estimate.proofs.Operations.{add-left, add-right, mul-left, mul-right, abs-finite, added, multiplied}
-use Rattle.estimate.proofs.Distance.{far, far-back, far-through, far-scale}
-use Rattle.estimate.proofs.SumError.{abs-multiple, abs-fits, bounded, sum-fits, size-fits}
-use Rattle.estimate.proofs.Order.{le-multiple, above-least}
+use Rattle.estimate.specs.Estimate.{sixteen, share, leastMargin, margin, clearly}
+use Rattle.estimate.proofs.SumError.{abs-multiple, abs-fits}
 
 -- ---- the arithmetic of it. U stands for 1, P for the exact t·max(|target|, 1), h for its rounding, each in the units that they are compared in
 

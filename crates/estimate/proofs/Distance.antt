@@ -1,12 +1,10 @@
 -- How far apart two whole numbers are, by way of a third, term by term, and in other units.
 use Prim.Native.Nat.{ℕ, _+_, _*_, _≤_}
 use native.Mathlib.Nat.{le-trans, le-of-eq}
-use mathlib.Core.Path.{_≡_, sym, ap, ap₂, _∙_, subst}
+use mathlib.Core.Path.{_≡_, sym, ap, _∙_}
 use lib.IntN.{ℤ, pos, negℤ, natAbs, _+ℤ_, _-ℤ_, _*ℤ_, +ℤ-assoc, +ℤ-idl, +ℤ-invl, +ℤ-comm, negℤ-+ℤ, negℤ-negℤ}
 use Rattle.words.proofs.Whole.{+ℤ-middle, +ℤ-*ℤ, negℤ-*ℤ, natAbs-+ℤ, natAbs-*ℤ, natAbs-negℤ}
-
-abbrev pub far : ℤ → ℤ → ℕ
-far a b = natAbs (a -ℤ b)
+use Rattle.estimate.specs.Rounding.{far}
 
 -- a - c by way of b
 through : (a b c : ℤ) → a -ℤ c ≡ (a -ℤ b) +ℤ (b -ℤ c)

@@ -1,6 +1,6 @@
 -- How far rounding to 53 binary digits can go: a result lies within 2^-53 of itself of what was rounded, or within half of the smallest f64 above zero.
-use Prim.Native.Nat.{ℕ, zero, suc, _+_, _-_, _*_, _/_, _%_, _^_, _≤_, _<_, compare}
-use native.Mathlib.Nat.{le-trans, le-of-eq, lt-of-le-of-lt, mul-pos, mul-one, mul-assoc, mul-comm, mul-right-comm, mul-le-mul-right, mod-lt, div-add-mod'}
+use Prim.Native.Nat.{ℕ, zero, suc, _+_, _*_, _/_, _%_, _^_, _≤_, _<_, compare}
+use native.Mathlib.Nat.{le-trans, le-of-eq, mul-pos, mul-one, mul-assoc, mul-right-comm, mul-le-mul-right, mod-lt, div-add-mod'}
 use native.Mathlib.Nat.{le-div-iff-mul-le, div-div-eq-div-mul}
 use native.Mathlib.Omega.{arith}
 use mathlib.Core.Path.{_≡_, refl, sym, ap, _∙_, subst}

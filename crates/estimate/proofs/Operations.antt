@@ -1,26 +1,26 @@
 -- A sum and a product of two f64, by how far they are from the exact ones; and that a finite result has finite operands.
-use Prim.Native.Nat.{ℕ, zero, suc, _+_, _-_, _*_, _^_, _≤_, _<_}
-use native.Mathlib.Nat.{mul-comm}
+use Prim.Native.Nat.{ℕ, _+_, _*_, _^_, _≤_, _<_}
 use native.Mathlib.Omega.{arith}
 use mathlib.Core.Path.{_≡_, refl, sym, ap, ap₂, _∙_, subst}
 use mathlib.Core.Bool.{Bool, true, false, cond}
 use lib.Dec.{T, eqb}
 use lib.Pow.{pow-pos}
-use lib.IntN.{ℤ, pos, negsuc, negℤ, natAbs, _+ℤ_, _-ℤ_, _*ℤ_, ℤ-discrete}
-use lib.Ieee.{Float, nan, inf, fin, binary64, fits, add, mul, neg, unlike, round}
+use lib.IntN.{ℤ, pos, negsuc, natAbs, _+ℤ_, _-ℤ_, _*ℤ_, ℤ-discrete}
+use lib.Ieee.{Float, nan, inf, fin, binary64, fits, add, mul, unlike}
 use lib.Ieee.Scale.{finite, grid}
 use Rattle.ieee.specs.Values.{multiple, signOf, signed, valueOf}
 use Rattle.ieee.specs.Floats.{absOf}
-use Rattle.ieee.specs.Ieee754.{Nearest, negative, Sum, Product}
+use Rattle.ieee.specs.Ieee754.{Nearest, negative, Sum}
 use Rattle.ieee.proofs.RoundingWhole.{gap}
-use Rattle.ieee.proofs.RoundingSigned.{signed-zero, signed-abs, signed-mul, like-apart}
+use Rattle.ieee.proofs.RoundingSigned.{signed-zero, signed-mul, like-apart}
 use Rattle.ieee.proofs.RoundingNearest.{finite-is}
 use Rattle.ieee.proofs.RoundingUnique.{nearest-unique}
 use Rattle.ieee.proofs.RoundingSum.{add-obeys}
 use Rattle.ieee.proofs.RoundingProduct.{mul-obeys}
 use Rattle.exact.proofs.Terms.{unlike-product, like-product}
 use Rattle.estimate.proofs.Grid.{unit-bound}
-use Rattle.estimate.proofs.Rounded.{roundedTo, half-to, bound-scale}
+use Rattle.estimate.specs.Rounding.{roundedTo, far, Added, Multiplied}
+use Rattle.estimate.proofs.Rounded.{half-to, bound-scale}
 
 -- ---- finite operands
 pub add-left : (x y : Float) → T (finite (add binary64 x y)) → T (finite x)
@@ -84,10 +84,10 @@ nearest-is r s num den D N h =
     let e = nearest-unique r s num den D N in
     ap multiple e ∙ finite-is s num den (subst (λ (x : Float). T (finite x)) e h) .its-multiple
 
--- ---- a sum
-pub record Added (r : Float) (v : ℤ) : Type 0 where
+-- ---- a sum, by magnitudes: r lies on the side of v, so they are as far apart as their magnitudes
+pub record AddedSize (r : Float) (v : ℤ) : Type 0 where
   pub is : multiple r ≡ roundedTo (natAbs v)
-  pub away : natAbs (valueOf r -ℤ v) ≡ gap (multiple r) (natAbs v)
+  pub away : far (valueOf r) v ≡ gap (multiple r) (natAbs v)
 
 nothing : roundedTo 0 ≡ 0
 nothing = none (roundedTo 0) (half-to 0)
@@ -95,8 +95,9 @@ nothing = none (roundedTo 0) (half-to 0)
     none : (r : ℕ) → 2 ^ 53 * gap r 0 ≤ r + 2 ^ 52 → r ≡ 0
     none r h = omega arith
 
-pub added : (x y : Float) → T (fits binary64 x) → T (fits binary64 y) → T (finite (add binary64 x y)) → Added (add binary64 x y) (valueOf x +ℤ valueOf y)
-added x y fx fy h = go (ℤ-discrete v (pos 0))
+added-size : (x y : Float) → T (fits binary64 x) → T (fits binary64 y) → T (finite (add binary64 x y))
+    → AddedSize (add binary64 x y) (valueOf x +ℤ valueOf y)
+added-size x y fx fy h = go (ℤ-discrete v (pos 0))
   where
     r : Float
     r = add binary64 x y
@@ -113,7 +114,7 @@ added x y fx fy h = go (ℤ-discrete v (pos 0))
     S : Sum x y r
     S = add-obeys x y fx fy
 
-    go : Dec (v ≡ pos 0) → Added r v
+    go : Dec (v ≡ pos 0) → AddedSize r v
     go (yes e) =
         let z = S .exactZero tx ty e in
         let m : multiple r ≡ 0 = ap multiple z in
@@ -131,9 +132,22 @@ added x y fx fy h = go (ℤ-discrete v (pos 0))
               ∙ like-apart (negative v) (multiple r) (natAbs v);
         }
 
--- ---- a product
-pub record Multiplied (r : Float) (a b : ℤ) (m : ℕ) : Type 0 where
-  pub away : natAbs (valueOf r *ℤ pos (2 ^ 1074) -ℤ a *ℤ b) ≡ gap (multiple r * 2 ^ 1074) m
+-- what was rounded lies within the bound of the result's magnitude
+pub added-half : (x y : Float) → T (fits binary64 x) → T (fits binary64 y) → T (finite (add binary64 x y))
+    → 2 ^ 53 * gap (multiple (add binary64 x y)) (natAbs (valueOf x +ℤ valueOf y)) ≤ multiple (add binary64 x y) + 2 ^ 52
+added-half x y fx fy h =
+    let w = natAbs (valueOf x +ℤ valueOf y) in
+    subst (λ (r : ℕ). 2 ^ 53 * gap r w ≤ r + 2 ^ 52) (sym (added-size x y fx fy h .is)) (half-to w)
+
+pub added : (x y : Float) → T (fits binary64 x) → T (fits binary64 y) → T (finite (add binary64 x y)) → Added (add binary64 x y) (valueOf x +ℤ valueOf y)
+added x y fx fy h =
+    let r = add binary64 x y in
+    let s = added-size x y fx fy h in
+    record { is = s .is; half = subst (λ (d : ℕ). 2 ^ 53 * d ≤ multiple r + 2 ^ 52) (sym (s .away)) (added-half x y fx fy h) }
+
+-- ---- a product, likewise
+pub record MultipliedSize (r : Float) (v : ℤ) (m : ℕ) : Type 0 where
+  pub away : far (valueOf r *ℤ pos (2 ^ 1074)) v ≡ gap (multiple r * 2 ^ 1074) m
   pub half : 2 ^ 53 * gap (multiple r * 2 ^ 1074) m ≤ multiple r * 2 ^ 1074 + 2 ^ 52 * 2 ^ 1074
 
 signed-product : (s t : Bool) (m n : ℕ) → signed s m *ℤ signed t n ≡ signed (unlike s t) (m * n)
@@ -142,9 +156,9 @@ signed-product false true m n = like-product true m n
 signed-product true false m n = unlike-product false m n
 signed-product true true m n = unlike-product true m n
 
-pub multiplied : (x y : Float) → T (fits binary64 x) → T (fits binary64 y) → T (finite (mul binary64 x y))
-    → Multiplied (mul binary64 x y) (valueOf x) (valueOf y) (multiple x * multiple y)
-multiplied x y fx fy h =
+pub multiplied-size : (x y : Float) → T (fits binary64 x) → T (fits binary64 y) → T (finite (mul binary64 x y))
+    → MultipliedSize (mul binary64 x y) (valueOf x *ℤ valueOf y) (multiple x * multiple y)
+multiplied-size x y fx fy h =
     let r = mul binary64 x y in
     let m = multiple x * multiple y in
     let s = unlike (signOf x) (signOf y) in
@@ -161,3 +175,10 @@ multiplied x y fx fy h =
           (subst (λ (q : ℕ). 2 ^ 53 * gap (q * 2 ^ 2148) (m * 2 ^ 1074) ≤ q * 2 ^ 2148 + 2 ^ 52 * 2 ^ 2148) (sym is) (unit-bound (m * 2 ^ 1074) (2 ^ 2148)
           (pow-pos 2148)));
     }
+
+pub multiplied : (x y : Float) → T (fits binary64 x) → T (fits binary64 y) → T (finite (mul binary64 x y))
+    → Multiplied (mul binary64 x y) (valueOf x *ℤ valueOf y)
+multiplied x y fx fy h =
+    let r = mul binary64 x y in
+    let s = multiplied-size x y fx fy h in
+    record { half = subst (λ (d : ℕ). 2 ^ 53 * d ≤ multiple r * 2 ^ 1074 + 2 ^ 52 * 2 ^ 1074) (sym (s .away)) (s .half) }

@@ -1,16 +1,17 @@
 -- A magnitude in units of 2^-1074, rounded to an f64: how far it goes, and that it keeps the order.
-use Prim.Native.Nat.{ℕ, suc, _+_, _-_, _*_, _^_, _≤_, _<_}
+use Prim.Native.Nat.{ℕ, _+_, _-_, _*_, _^_, _≤_, _<_}
 use native.Mathlib.Nat.{le-of-mul-le-mul-right, mul-assoc}
 use native.Mathlib.Omega.{arith}
 use mathlib.Core.Path.{_≡_, sym, ap, _∙_, subst}
-use mathlib.Core.Logic.{_⊎_, inl, inr}
+use mathlib.Core.Logic.{inl, inr}
 use lib.Dec.{T, lit<}
 use lib.Pow.{pow-pos}
 use lib.Ieee.{Float, binary64, fits}
-use lib.Ieee.Scale.{finite, grid}
+use lib.Ieee.Scale.{finite}
 use Rattle.ieee.specs.Values.{multiple}
 use Rattle.ieee.proofs.RoundingWhole.{gap, le-or-lt, grid-near}
 use Rattle.ieee.proofs.RoundingNearest.{point}
+use Rattle.estimate.specs.Rounding.{roundedTo}
 use Rattle.estimate.proofs.Grid.{unit-bound}
 
 -- ---- gaps in other units
@@ -46,9 +47,6 @@ bound-scale r n u v U h =
     le-of-mul-le-mul-right l U
 
 -- ---- a sum of f64 is a whole number of units: n of them, rounded
-abbrev pub roundedTo : ℕ → ℕ
-roundedTo n = grid binary64 n (2 ^ 1074)
-
 pub half-to : (n : ℕ) → 2 ^ 53 * gap (roundedTo n) n ≤ roundedTo n + 2 ^ 52
 half-to n = plain (roundedTo n) (2 ^ 1074) (pow-pos 1074) (unit-bound (n * 2 ^ 1074) (2 ^ 1074) (pow-pos 1074))
   where

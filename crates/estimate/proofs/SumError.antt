@@ -1,26 +1,26 @@
 -- A rounded sum of n products is no further from the exact one than n times 2^-52 of the rounded sum of the terms' magnitudes, and n of the smallest f64.
-use Prim.Native.Nat.{ℕ, zero, suc, _+_, _*_, _^_, _≤_, _<_}
+use Prim.Native.Nat.{ℕ, zero, suc, _+_, _*_, _^_, _≤_}
 use native.Mathlib.Nat.{le-trans, le-of-eq, le-refl, le-add-right, le-add-left, mul-le-mul-left, mul-le-mul-right}
 use native.Mathlib.Omega.{arith}
 use mathlib.Core.Path.{_≡_, refl, sym, ap, ap₂, _∙_, subst}
-use mathlib.Core.Bool.{Bool, true, false}
+use mathlib.Core.Bool.{false}
 use lib.Dec.{T}
-use lib.IntN.{ℤ, pos, natAbs, _+ℤ_, _-ℤ_, _*ℤ_, pos-+ℤ-pos}
-use lib.Ieee.{Float, nan, inf, fin, binary64, fits, ofBits, add, mul}
+use lib.IntN.{ℤ, pos, natAbs, _+ℤ_, _*ℤ_, pos-+ℤ-pos}
+use lib.Ieee.{Float, nan, inf, fin, binary64, fits, ofBits, add}
 use lib.Ieee.Fits.{add-fits, mul-fits}
 use lib.Ieee.Scale.{finite}
-use Rattle.ieee.specs.Values.{multiple, signOf, signed, valueOf, Signed, infinite, number}
+use Rattle.ieee.specs.Values.{multiple, signOf, valueOf, Signed, infinite, number}
 use Rattle.ieee.specs.Floats.{zeroFloat, absOf}
-use Rattle.ieee.specs.Sums.{addEach, runningSum}
-use Rattle.ieee.proofs.RoundingWhole.{gap}
+use Rattle.ieee.specs.Sums.{addEach}
 use Rattle.ieee.proofs.RoundingSigned.{signed-abs}
 use Rattle.ieee.proofs.Signs.{add-clear}
 use Rattle.words.proofs.Whole.{+ℤ-*ℤ, natAbs-+ℤ}
 use Rattle.exact.specs.Whole.{sumℤ}
 use Rattle.estimate.specs.Estimate.{term, roundedSum, roundedSize}
-use Rattle.estimate.proofs.Rounded.{roundedTo, half-to, rounded-above, rounded-order}
-use Rattle.estimate.proofs.Operations.{add-left, add-right, abs-finite, Added, added, Multiplied, multiplied}
-use Rattle.estimate.proofs.Distance.{far, far-through, far-sum, far-scale}
+use Rattle.estimate.proofs.Rounded.{rounded-above, rounded-order}
+use Rattle.estimate.proofs.Operations.{add-left, add-right, added, multiplied}
+use Rattle.estimate.specs.Rounding.{far, roundedTo, Bounded}
+use Rattle.estimate.proofs.Distance.{far-through, far-sum, far-scale}
 
 -- ---- magnitudes
 pub abs-multiple : (x : Float) → multiple (absOf x) ≡ multiple x
@@ -74,12 +74,6 @@ zero-clear = number 0 (pos 0)
 
 -- the terms z i · x i, with numbers that are f64
 module _ (z x : ℕ → Float) (fz : (i : ℕ) → T (fits binary64 (z i))) (fx : (i : ℕ) → T (fits binary64 (x i))) where
-  pub record Bounded (k : ℕ) : Type 0 where
-    pub clear : Signed false (roundedSize k z x)
-    pub below : multiple (roundedSum k z x) ≤ multiple (roundedSize k z x)
-    pub error : 2 ^ 53 * far (valueOf (roundedSum k z x) *ℤ pos (2 ^ 1074)) (sumℤ k (λ i. valueOf (z i) *ℤ valueOf (x i)))
-        ≤ k * (2 * (multiple (roundedSize k z x) * 2 ^ 1074) + 2 ^ 53 * 2 ^ 1074)
-
   pub sum-fits : (k : ℕ) → T (fits binary64 (roundedSum k z x))
   unfolding roundedSum addEach
   sum-fits zero = zero-fits
@@ -123,23 +117,19 @@ module _ (z x : ℕ → Float) (fz : (i : ℕ) → T (fits binary64 (z i))) (fx 
       under (natAbs v) _ _ (multiple s) (multiple t) (multiple A) (natAbs-+ℤ (valueOf s) (valueOf t)) (value-abs s) (value-abs t) below in
       let less : multiple s' ≤ multiple A' =
       rounded-order (natAbs v) (multiple A + multiple t) s' A' (add-fits binary64 s t) hs (add-fits binary64 A (absOf t)) hA (c .is) is order in
-      let sums : 2 ^ 53 * gap (multiple s') (natAbs v) ≤ multiple s' + 2 ^ 52 =
-      subst (λ (r : ℕ). 2 ^ 53 * gap r (natAbs v) ≤ r + 2 ^ 52) (sym (c .is)) (half-to (natAbs v)) in
       let path = far-through (valueOf s' *ℤ pos U) (v *ℤ pos U) (S +ℤ valueOf (z k) *ℤ valueOf (x k)) in
-      let first = far-scale (valueOf s') v U ∙ ap (λ (q : ℕ). q * U) (c .away) in
-      let second : far (v *ℤ pos U) (S +ℤ valueOf (z k) *ℤ valueOf (x k)) ≤ far (valueOf s *ℤ pos U) S + gap (multiple t * U) (multiple (z k) * multiple
-      (x k)) =
-      subst (λ (q : ℕ). far (v *ℤ pos U) (S +ℤ valueOf (z k) *ℤ valueOf (x k)) ≤ far (valueOf s *ℤ pos U) S + q) (m .away)
-      (subst (λ (w : ℤ). far w (S +ℤ valueOf (z k) *ℤ valueOf (x k)) ≤ far (valueOf s *ℤ pos U) S + far (valueOf t *ℤ pos U) (valueOf (z k) *ℤ valueOf (x k)))
-      (sym (+ℤ-*ℤ (valueOf s) (valueOf t) (pos U)))
-      (far-sum (valueOf s *ℤ pos U) (valueOf t *ℤ pos U) S (valueOf (z k) *ℤ valueOf (x k)))) in (
+      let first = far-scale (valueOf s') v U in
+      let product = valueOf (z k) *ℤ valueOf (x k) in
+      let second : far (v *ℤ pos U) (S +ℤ product) ≤ far (valueOf s *ℤ pos U) S + far (valueOf t *ℤ pos U) product =
+      subst (λ (w : ℤ). far w (S +ℤ product) ≤ far (valueOf s *ℤ pos U) S + far (valueOf t *ℤ pos U) product)
+      (sym (+ℤ-*ℤ (valueOf s) (valueOf t) (pos U))) (far-sum (valueOf s *ℤ pos U) (valueOf t *ℤ pos U) S product) in (
         less,
-        le-trans (mul-le-mul-left (2 ^ 53) (join _ _ _ (gap (multiple s') (natAbs v)) (far (valueOf s *ℤ pos U) S) _ U path first second))
-            (more k (multiple A) (multiple A') (multiple s') (multiple t) (far (valueOf s *ℤ pos U) S) (gap (multiple t * U) (multiple (z k) * multiple (x k)))
-            (gap (multiple s') (natAbs v)) U above-size less above-term sums (m .half) error),
+        le-trans (mul-le-mul-left (2 ^ 53) (join _ _ _ (far (valueOf s') v) (far (valueOf s *ℤ pos U) S) _ U path first second))
+            (more k (multiple A) (multiple A') (multiple s') (multiple t) (far (valueOf s *ℤ pos U) S) (far (valueOf t *ℤ pos U) product)
+            (far (valueOf s') v) U above-size less above-term (c .half) (m .half) error),
       )
 
-  pub bounded : (k : ℕ) → T (finite (roundedSize k z x)) → T (finite (roundedSum k z x)) → Bounded k
+  pub bounded : (k : ℕ) → T (finite (roundedSize k z x)) → T (finite (roundedSum k z x)) → Bounded z x k
   unfolding roundedSum roundedSize addEach ofBits
   bounded zero hA hs = record { clear = zero-clear; below = le-refl _; error = le-of-eq refl }
   bounded (suc k) hA hs =

@@ -1,11 +1,10 @@
 -- Where sums with rounding leave no doubt, the exact sum is within t·(1 + |target|) of the target.
 use Prim.Native.Nat.{ℕ, _+_, _*_, _^_, _≤_}
 use native.Mathlib.Nat.{le-trans, le-of-eq, mul-le-mul-left, mul-le-mul-right}
-use native.Mathlib.Omega.{arith}
-use mathlib.Core.Path.{_≡_, refl, sym, ap, ap₂, _∙_, subst}
+use mathlib.Core.Path.{_≡_, sym, ap, ap₂, _∙_, subst}
 use mathlib.Core.Bool.{Bool, false}
 use lib.Dec.{T}
-use lib.IntN.{ℤ, pos, negℤ, natAbs, _+ℤ_, _-ℤ_, _*ℤ_}
+use lib.IntN.{ℤ, pos, natAbs, _+ℤ_, _-ℤ_, _*ℤ_}
 use lib.Ieee.{Float, binary64, fits, add, sub, mul, neg, le, unlike}
 use lib.Ieee.Fits.{mul-fits, neg-fits, sub-fits}
 use lib.Ieee.Scale.{finite}
@@ -16,14 +15,14 @@ use Rattle.ieee.proofs.RoundingSum.{neg-value}
 use Rattle.ieee.proofs.RoundingProduct.{mul-obeys}
 use Rattle.exact.specs.Whole.{sumℤ}
 use Rattle.estimate.specs.Estimate.{roundedSum, roundedSize, sixteen, share, leastMargin, margin, clearly}
-use Rattle.estimate.proofs.Rounded.{half-to}
-use Rattle.estimate.proofs.Operations.{add-left, add-right, mul-left, mul-right, abs-finite, Added, added, multiplied}
-use Rattle.estimate.proofs.Distance.{far, far-back, far-through, far-scale}
-use Rattle.estimate.proofs.SumError.{abs-multiple, abs-fits, Bounded, bounded, sum-fits, size-fits}
+use Rattle.estimate.proofs.Operations.{add-left, mul-left, mul-right, abs-finite, added-half, multiplied-size}
+use Rattle.estimate.specs.Rounding.{far}
+use Rattle.estimate.proofs.Distance.{far-back, far-through, far-scale}
+use Rattle.estimate.proofs.SumError.{abs-multiple, abs-fits, bounded, sum-fits, size-fits}
 use Rattle.estimate.proofs.Order.{le-multiple, above-least}
-use Rattle.estimate.proofs.Clear.{upper, lower, small-error, small-miss, together, finite-below, times-clear, share-clear, fixed-fits, Greater, greater}
+use Rattle.estimate.proofs.Clear.{upper, lower, small-error, small-miss, together, finite-below, times-clear, share-clear, fixed-fits, greater}
 use Rattle.estimate.proofs.Clear.{like-sign}
-use Rattle.estimate.proofs.Clear.{sixteen-multiple, share-multiple, least-large, least-clear, sixteenfold, Asked, asked}
+use Rattle.estimate.proofs.Clear.{sixteen-multiple, share-multiple, least-large, least-clear, sixteenfold, asked}
 
 -- the difference from the target, as the sum that it is
 missed-is : (s target : Float) → T (fits binary64 s) → T (fits binary64 target) → T (finite (sub binary64 s target))
@@ -31,9 +30,8 @@ missed-is : (s target : Float) → T (fits binary64 s) → T (fits binary64 targ
 unfolding sub
 missed-is s target fs ft h =
     let r = add binary64 s (neg target) in
-    let a = added s (neg target) fs (neg-fits binary64 target ft) h in
     let w = natAbs (valueOf s +ℤ valueOf (neg target)) in
-    let b : 2 ^ 53 * gap (multiple r) w ≤ multiple r + 2 ^ 52 * 1 = subst (λ (q : ℕ). 2 ^ 53 * gap q w ≤ q + 2 ^ 52) (sym (a .is)) (half-to w) in (
+    let b : 2 ^ 53 * gap (multiple r) w ≤ multiple r + 2 ^ 52 * 1 = added-half s (neg target) fs (neg-fits binary64 target ft) h in (
       add-left s (neg target) h,
       subst (λ (v : ℤ). natAbs (valueOf s +ℤ v) ≤ 2 * multiple r + 1) (neg-value target) (upper (multiple r) w 1 b),
     )
@@ -52,7 +50,7 @@ allowed t target ft fg h l =
     let m = maxOf (absOf target) oneFloat in
     let g = greater target fg in
     let r = mul binary64 t m in
-    let p = multiplied t m ft (g .fit) h in
+    let p = multiplied-size t m ft (g .fit) h in
     let sign : signOf r ≡ unlike (signOf t) (signOf m) = mul-obeys t m ft (g .fit) .rounded (mul-left t m h) (mul-right t m h) .sign in
     let clear : signOf t ≡ false = like-sign (signOf t) (signOf m) (sym sign ∙ above-least r h l) (g .clear) in
     record {
@@ -89,8 +87,8 @@ module _ (n : ℕ) (z x : ℕ → Float) (fz : (i : ℕ) → T (fits binary64 (z
       let b = bounded z x fz fx n (k .finite-size) (w .0) in
       let hc : T (finite c) = finite-below c m (share-clear A (b .clear)) (k .shared) (k .finite-margin) in
       let fm : T (fits binary64 m) = margin-fits t target in
-      let pq = multiplied sixteen (absOf r) (fixed-fits .0) (abs-fits r fr) hq in
-      let pc = multiplied A share (size-fits z x fz fx n) (fixed-fits .1) hc in
+      let pq = multiplied-size sixteen (absOf r) (fixed-fits .0) (abs-fits r fr) hq in
+      let pc = multiplied-size A share (size-fits z x fz fx n) (fixed-fits .1) hc in
       let q-under : multiple q * U ≤ multiple m * U =
       mul-le-mul-right U (le-multiple q m (mul-fits binary64 sixteen (absOf r)) fm (times-clear r) hq (k .finite-margin) (k .missed)) in
       let c-under : multiple c * U ≤ multiple m * U =

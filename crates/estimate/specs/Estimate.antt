@@ -1,10 +1,10 @@
 -- A row of the audit by sums that round, where they leave no doubt.
-use Prim.Native.Nat.{ℕ, _*_, _^_, _≤_}
+use Prim.Native.Nat.{ℕ}
 use mathlib.Core.Bool.{Bool, _&&_}
 use lib.Dec.{leb}
 use lib.Ieee.{Float, binary64, ofBits, sub, mul, le}
 use lib.Ieee.Scale.{finite}
-use Rattle.ieee.specs.Floats.{zeroFloat, oneFloat, absOf, maxOf}
+use Rattle.ieee.specs.Floats.{oneFloat, absOf, maxOf}
 use Rattle.ieee.specs.Sums.{addEach, runningSum}
 
 -- term i of a sum of products, rounded

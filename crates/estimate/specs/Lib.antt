@@ -1,1 +1,2 @@
 pub mod Estimate
+pub mod Rounding
