@@ -5,7 +5,7 @@ use native.Mathlib.Nat.{not-suc-le-zero}
 use native.Mathlib.Numerals.{add-one}
 use native.Mathlib.Decide.{decLt}
 use native.Mathlib.Omega.{arith}
-use mathlib.Core.Path.{_≡_, refl, ap, _∙_, subst}
+use mathlib.Core.Path.{_≡_, refl, ap, sym, _∙_, subst}
 use mathlib.Core.Logic.{_↔_}
 use mathlib.Core.Bool.{Bool, true, false}
 use mathlib.Core.List.{List}
@@ -16,7 +16,7 @@ use lib.Ieee.{Float, ofBits, lt}
 use Rattle.ieee.specs.Floats.{zeroFloat, absOf, epsilon}
 use Rattle.elimination.specs.declared.Elimination.{Elimination}
 use Rattle.elimination.specs.declared.Elimination.the-variants.{Done, Stopped, TooShort}
-use Rattle.elimination.specs.Elimination.{at, hold, small, step, Outcome, outcomeOf, run, eliminated, stepped, Through, StopsAt}
+use Rattle.elimination.specs.Elimination.{at, hold, small, step, Outcome, endNumber, outcomeOf, run, eliminated, stepped, Through, StopsAt, Numbered}
 use Rattle.elimination.proofs.Hold.{hold-below}
 use Rattle.elimination.proofs.Run.{refuses, begins, stops, goes-on, ends}
 
@@ -102,6 +102,28 @@ refused-exactly skip s xs = (λ e. from e (ways skip s s xs (omega arith)), λ l
     from e (short l) = l
     from e (through t) = absurd (done-short _ (answer-of (finished skip s xs t)) e)
     from e (stop j t) = absurd (stopped-short _ j (answer-of (stopped skip s j xs t)) e)
+
+-- ---- its number
+pub numbered : (skip : Bool) (s : ℕ) (xs : List Float) (r : Elimination) → eliminated skip s xs .answer ≡ r → Numbered skip s xs (endNumber r)
+numbered skip s xs Done e = record {
+  seventeen = (λ n. absurd (omega arith), λ l. absurd (done-short _ e (refused-exactly skip s xs .1 l)));
+  nineteen = (λ n. absurd (omega arith), λ t. absurd (stopped-done _ (t .0) (stops-exactly skip s (t .0) xs .1 (t .1)) e));
+  none = (λ n. done-exactly skip s xs .0 e, λ t. refl);
+}
+numbered skip s xs (Stopped i) e = record {
+  seventeen = (λ n. absurd (omega arith), λ l. absurd (stopped-short _ i e (refused-exactly skip s xs .1 l)));
+  nineteen = (λ n. (i, stops-exactly skip s i xs .0 e), λ t. refl);
+  none = (λ n. absurd (omega arith), λ t. absurd (stopped-done _ i e (done-exactly skip s xs .1 t)));
+}
+numbered skip s xs TooShort e = record {
+  seventeen = (λ n. refused-exactly skip s xs .0 e, λ l. refl);
+  nineteen = (λ n. absurd (omega arith), λ t. absurd (stopped-short _ (t .0) (stops-exactly skip s (t .0) xs .1 (t .1)) e));
+  none = (λ n. absurd (omega arith), λ t. absurd (done-short _ (done-exactly skip s xs .1 t) e));
+}
+
+-- of an answer that a call gives
+pub numbered-there : (skip : Bool) (s : ℕ) (xs ys : List Float) (r : Elimination) → outcomeOf r ys ≡ eliminated skip s xs → Numbered skip s xs (endNumber r)
+numbered-there skip s xs ys r e = numbered skip s xs r (ap (λ (o : Outcome). o .answer) (sym e))
 
 -- ---- a first column of zeros
 below-epsilon : lt (absOf zeroFloat) epsilon ≡ true

@@ -2,6 +2,7 @@
 -- One definition serves both calls: `skip` says whether a row whose factor is zero is passed over.
 use Prim.Native.Nat.{ℕ, zero, suc, _+_, _-_, _*_, _≤_, _<_}
 use mathlib.Core.Path.{_≡_}
+use mathlib.Core.Logic.{_↔_}
 use mathlib.Core.Bool.{Bool, true, false, _&&_, cond}
 use mathlib.Core.List.{List}
 use lib.Dec.{eqb, ltb}
@@ -9,6 +10,8 @@ use lib.ListN.{length, getD}
 use lib.Ieee.{Float, nan, binary64, lt, eq, sub, mul, div}
 use Rattle.area.specs.Area.{written}
 use Rattle.ieee.specs.Floats.{zeroFloat, absOf, epsilon}
+use Rattle.error.specs.declared.Refusal.the-variants.{WorkArea, Singular}
+use Rattle.error.specs.Numbers.{numberOf}
 use Rattle.elimination.specs.declared.Elimination.{Elimination}
 use Rattle.elimination.specs.declared.Elimination.the-variants.{Done, Stopped, TooShort}
 
@@ -67,6 +70,12 @@ unfoldable pub step : Bool → ℕ → ℕ → List Float → List Float
 unfolding hold swapped divided cleared
 step skip s i xs = cleared skip (2 * s) i s (divided (2 * s) i (swapped (2 * s) i (hold s i xs) xs))
 
+-- the number of an elimination's end: that of the refusal it comes to, and 0 where every step went through
+abbrev pub endNumber : Elimination → ℕ
+endNumber Done = 0
+endNumber (Stopped i) = numberOf Singular
+endNumber TooShort = numberOf WorkArea
+
 -- how a call ends: its answer, and what the work area holds
 pub record Outcome : Type 0 where
   pub answer : Elimination
@@ -107,6 +116,15 @@ pub record StopsAt (skip : Bool) (s i : ℕ) (xs : List Float) : Type 0 where
   pub before : Through skip s i xs
   pub reached : i < s
   pub below : small s i (stepped skip s i xs) ≡ true
+
+-- an elimination of xs ends with the number k: each number exactly when
+pub record Numbered (skip : Bool) (s : ℕ) (xs : List Float) (k : ℕ) : Type 0 where
+  -- "17 work area under 2·s·s numbers"
+  pub seventeen : (k ≡ 17) ↔ (length xs < 2 * s * s)
+  -- "Held magnitude below 2^-52: refusal 19.", at some step
+  pub nineteen : (k ≡ 19) ↔ ((i : ℕ) × StopsAt skip s i xs)
+  -- every step goes through
+  pub none : (k ≡ 0) ↔ Through skip s s xs
 
 -- both areas hold n numbers or more, and the first n are the same
 pub record Agree (n : ℕ) (xs ys : List Float) : Type 0 where

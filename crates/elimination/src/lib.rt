@@ -7,7 +7,7 @@ ghost use mathlib.Core.Bool.{true, false};
 ghost use Prim.Native.Nat.{_+_, _*_, _≤_, _<_};
 ghost use lib.ListN.{length};
 ghost use lib.Dec.{ltb};
-ghost use Rattle.elimination.specs.Elimination.{hold, swapped, divided, reduced, cleared, outcomeOf, eliminated};
+ghost use Rattle.elimination.specs.Elimination.{hold, swapped, divided, reduced, cleared, outcomeOf, endNumber, eliminated, Numbered};
 ghost use Rattle.elimination.specs.Parts.{lessened};
 
 // How an elimination ends.
@@ -25,14 +25,16 @@ const EPSILON: f64 = 2.220446049250313e-16;
 
 // The fit's elimination: a row whose factor is zero, of either sign, is skipped.
 pub fn gauss_jordan_invert_uked(work: &mut [f64], size: usize) -> Elimination
-    ensures { λ r. ⌜ outcomeOf r (now (work .exit)) ≡ eliminated true size (now (work .entry)) ⌝ }
+    ensures equation { λ r. ⌜ outcomeOf r (now (work .exit)) ≡ eliminated true size (now (work .entry)) ⌝ }
+    ensures numbered { λ r. ⌜ Numbered true size (now (work .entry)) (endNumber r) ⌝ }
 {
     eliminate(work, size, true)
 }
 
 // The interpolator's elimination: every other row is cleared, whatever its factor.
 pub fn matrix_inverse(work: &mut [f64], size: usize) -> Elimination
-    ensures { λ r. ⌜ outcomeOf r (now (work .exit)) ≡ eliminated false size (now (work .entry)) ⌝ }
+    ensures equation { λ r. ⌜ outcomeOf r (now (work .exit)) ≡ eliminated false size (now (work .entry)) ⌝ }
+    ensures numbered { λ r. ⌜ Numbered false size (now (work .entry)) (endNumber r) ⌝ }
 {
     eliminate(work, size, false)
 }

@@ -92,7 +92,7 @@ eliminated-in c =
     let m = at-matrix c in
     let d = at-columns (at-drift m) in
     let s = survey-of d in
-    c .gauss-jordan-invert-uked .ensures
+    c .gauss-jordan-invert-uked .ensures .0
     ∙ ap (λ (p : ℕ). elimination.eliminated true (wells s + p) (m .assemble .last .1 .1 .1 .1 .1 .1 .0)) (counted d)
     ∙ ap (λ (xs : List Float). elimination.eliminated true (size s) xs) (matrix-in m)
 
