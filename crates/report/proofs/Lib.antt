@@ -5,6 +5,7 @@ pub mod Unique
 pub mod Lengths
 pub mod Lines
 pub mod Answers
+pub mod Numbers
 pub mod Longest
 pub mod Cases
 pub mod Apart

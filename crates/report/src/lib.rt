@@ -7,7 +7,7 @@ ghost use Prim.Native.Nat.{_≤_};
 ghost use lib.ListN.{length, replicate};
 ghost use Rattle.error.specs.Numbers.{numberOf};
 ghost use Rattle.report.specs.Listing.{listing, refusedText, longest};
-ghost use Rattle.report.specs.Printed.{outcomeOf, printed, listed};
+ghost use Rattle.report.specs.Printed.{outcomeOf, printed, listed, TextNumbered, ListingNumbered};
 use error::Refusal;
 
 // How printing ends.
@@ -45,6 +45,8 @@ pub fn write_listing(
     ensures longest { λ _. ⌜ (length (now (verdicts .entry)) ≤ 100 → length (now (multipliers .entry)) ≤ 12 → length (now (trend .entry)) ≤ 12
         → length (listing (now (predicted .entry)) (now (variance .entry)) (now (verdicts .entry)) (now (multipliers .entry)) (now (trend .entry)))
         ≤ longest) ⌝ }
+    ensures numbered { λ r. ⌜ ListingNumbered (now (predicted .entry)) (now (variance .entry)) (now (verdicts .entry)) (now (multipliers .entry))
+        (now (trend .entry)) (now (text .entry)) r ⌝ }
 {
     let m = verdicts.len();
     if predicted.len() != m {
@@ -69,6 +71,7 @@ pub fn write_listing(
 pub fn write_refusal(refusal: Refusal, text: &mut [u8]) -> Printed
     ensures equation { λ r. ⌜ outcomeOf r (now (text .exit)) ≡ printed (refusedText (numberOf refusal)) (now (text .entry)) ⌝ }
     ensures longest { λ _. ⌜ length (refusedText (numberOf refusal)) ≤ longest ⌝ }
+    ensures numbered { λ r. ⌜ TextNumbered (refusedText (numberOf refusal)) (now (text .entry)) r ⌝ }
 {
     let number = error::number(refusal);
     if room::refusal_length(number) > text.len() {

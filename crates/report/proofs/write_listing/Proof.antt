@@ -7,10 +7,12 @@ use borrow.Author.Tests.{leb-true, leb-false, not-true, not-false}
 use lib.Dec.{leb}
 use lib.ListN.{length}
 use Rattle.report.specs.Listing.{countLine, lines, nodeAt, coefAt, trendAt, listing, longest}
-use Rattle.report.specs.Printed.{printed, listed}
+use Rattle.report.specs.Printed.{Outcome, outcomeOf, printed, listed, ListingNumbered}
+use Rattle.report.specs.declared.Printed.{Printed}
 use Rattle.area.specs.Placed.{Room, Put}
 use Rattle.area.proofs.Placed.{put-then, room-first, room-then}
 use Rattle.report.proofs.Answers.{without-room, put-whole, figures-uneven, variances-uneven, trend-uneven, even-listed}
+use Rattle.report.proofs.Numbers.{listing-numbered}
 use Rattle.report.proofs.Longest.{longest-listing}
 use borrow.Author.Needs.{needs}
 use Rattle.report.proofs.write_listing.Statement.{statement}
@@ -36,6 +38,18 @@ no-longer c =
     let a = at-lists c .args in
     longest-listing (a .predicted .now) (a .variance .now) (a .verdicts .now) (a .multipliers .now) (a .trend .now)
     (λ i. c .before .before .before .shared-slice-known3 .given i .fits)
+
+-- the contract, from its equation
+abbrev told-by : tie.After-slice-known → Outcome
+told-by c =
+    let a = at-lists c .args in
+    listed (a .predicted .now) (a .variance .now) (a .verdicts .now) (a .multipliers .now) (a .trend .now) (a .text .now)
+
+whole : (c : tie.After-slice-known) {r : Printed} {exit : List ℕ} → outcomeOf r exit ≡ told-by c → let a = at-lists c .args in
+    (outcomeOf r exit ≡ told-by c)
+    × ((length (a .verdicts .now) ≤ 100 → length (a .multipliers .now) ≤ 12 → length (a .trend .now) ≤ 12 → length (text-of (at-lists c)) ≤ longest)
+    × ListingNumbered (a .predicted .now) (a .variance .now) (a .verdicts .now) (a .multipliers .now) (a .trend .now) (a .text .now) r)
+whole c e = (e, (no-longer c, listing-numbered _ _ _ _ _ _ _ _ e))
 
 -- past the first three tests the lists are even
 even : (c : tie.Else3) → let a = at-lists (at-known c) .args in
@@ -104,14 +118,14 @@ put-three c = put-then (put-two (at-nodes (c .before))) (c .put-bits-lines .ensu
 
 -- return Printed::Uneven;
 returns : tie.Need-returns
-returns c = (figures-uneven _ _ _ _ _ _ (c .if1 .taken), no-longer (c .before))
+returns c = whole (c .before) (figures-uneven _ _ _ _ _ _ (c .if1 .taken))
 
 returns-2 : tie.Need-returns-2
-returns-2 c = (variances-uneven _ _ _ _ _ _ (c .if2 .taken) (c .before .if1 .left), no-longer (c .before .before))
+returns-2 c = whole (c .before .before) (variances-uneven _ _ _ _ _ _ (c .if2 .taken) (c .before .if1 .left))
 
 returns-3 : tie.Need-returns-3
 returns-3 c =
-    (trend-uneven _ _ _ _ _ _ (c .before .before .if1 .left) (c .before .if2 .left) (c .if3 .taken), no-longer (c .before .before .before))
+    whole (c .before .before .before) (trend-uneven _ _ _ _ _ _ (c .before .before .if1 .left) (c .before .if2 .left) (c .if3 .taken))
 
 -- if !room::listing_fits(verdicts, multipliers.len(), text.len()) {
 listing-fits-requires : tie.Need-listing-fits-requires
@@ -122,7 +136,7 @@ returns-4 : tie.Need-returns-4
 returns-4 c =
     let test = c .before in
     let short = without-room (text-of (at-entry test)) (at-entry test .args .text .now) (leb-false _ _ (sym (judged test) ∙ not-true _ (c .if4 .taken))) in
-    (short ∙ sym (even (test .before)), no-longer (at-known (test .before)))
+    whole (at-known (test .before)) (short ∙ sym (even (test .before)))
 
 -- let counted = put::put_count(m, text, 0);
 put-count-requires : tie.Need-put-count-requires
@@ -169,7 +183,7 @@ returns-5 c =
     let test = by-multipliers multiplied in
     let s = at-entry (test .before) in
     let done = put-whole (text-of s) (s .args .text .now) (fits test) (put-then (put-three multiplied) (called .put-bits-lines2 .ensures)) in
-    (done ∙ sym (even (test .before .before)), no-longer (at-known (test .before .before)))
+    whole (at-known (test .before .before)) (done ∙ sym (even (test .before .before)))
 
 pub write-listing-spec : {M : Type 1} → statement M
 write-listing-spec =

@@ -8,6 +8,7 @@ use Rattle.error.specs.Numbers.{numberOf}
 use Rattle.report.specs.Listing.{refusedText, longest}
 use Rattle.area.specs.Placed.{Put}
 use Rattle.report.proofs.Answers.{without-room, put-whole}
+use Rattle.report.proofs.Numbers.{text-numbered}
 use Rattle.report.proofs.Longest.{longest-refusal}
 use borrow.Author.Needs.{needs}
 use Rattle.report.proofs.write_refusal.Statement.{statement}
@@ -46,7 +47,9 @@ refusal-length-requires c κs = search needs
 returns : tie.Need-returns
 returns c =
     let sized = c .before in
-    (without-room (line-of sized) (at-entry sized .args .text .now) (omega (arith, sized .refusal-length .ensures, line-is sized)), no-longer sized)
+    let area = at-entry sized .args .text .now in
+    let short = without-room (line-of sized) area (omega (arith, sized .refusal-length .ensures, line-is sized)) in
+    (short, (no-longer sized, text-numbered (line-of sized) area _ _ short))
 
 -- Printed::Done(put::put_refusal(number, text, 0))
 put-refusal-requires : tie.Need-put-refusal-requires
@@ -64,7 +67,8 @@ returns-2 c =
     let put =
     subst (λ (t : List ℕ). Put 0 t area (called .put-refusal .result) (called .put-refusal .last .1 .0)) (text-is sized) (called .put-refusal .ensures) in
     let room : length (line-of sized) ≤ length area = omega (arith, sized .refusal-length .ensures, line-is sized, called .before .before .if1 .left) in
-    (put-whole (line-of sized) area room put, no-longer sized)
+    let done = put-whole (line-of sized) area room put in
+    (done, (no-longer sized, text-numbered (line-of sized) area _ _ done))
 
 pub write-refusal-spec : {M : Type 1} → statement M
 write-refusal-spec =

@@ -93,7 +93,7 @@ returns c =
     let trend = trend-taken d in
     same-text (a .text .now) (ap (text-of s) (counted d)) (
       listed-text _ _ _ _ _ _ (figures ∙ sym verdicts) (variances ∙ sym verdicts) (trend ∙ sym multipliers) (w .write-listing .ensures .0),
-      w .write-listing .ensures .1 few-nodes (omega arith) (omega arith),
+      w .write-listing .ensures .1 .0 few-nodes (omega arith) (omega arith),
     )
 
 pub print-answer-spec : {M : Type 1} → statement M
