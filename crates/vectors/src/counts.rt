@@ -87,6 +87,22 @@ pub fn write_endings(counts: &[u64])
     }
 }
 
+// Writes how the calls ended, the first lines of each replay: by number, and how many of the numbers differ.
+pub fn write_first(counts: &[u64])
+    ensures { λ _. ⌜ now (counts .exit) ≡ now (counts .entry) ⌝ }
+{
+    write_endings(counts);
+    write_part(b"numbers of the endings: ", counts, NUMBER);
+}
+
+// Writes its last lines: the places that are not to be written, and how many records were compared and differ.
+pub fn write_last(counts: &[u64], t: Tally) -> u64
+    ensures { λ r. ⌜ r ≡ t .differ ⌝ }
+{
+    write_part(b"places not to be written: ", counts, UNTOUCHED);
+    crate::totals(t)
+}
+
 // Writes the line of a part, and answers how many of it differ.
 pub fn write_part(name: &[u8], counts: &[u64], part: usize) -> u64
     ensures { λ r. ⌜ r ≡ getD (now (counts .entry)) (oneMore part) 0 ⌝ }

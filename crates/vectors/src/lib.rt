@@ -1,7 +1,8 @@
-// What the programs that replay stored answers share: the words of standard input and the tally; and, of those that replay whole calls, the counts and
-// the lent areas.
+// What the programs that replay stored answers share: the words of standard input and the tally; and, of those that replay whole calls, the counts,
+// the lent areas and the variogram.
 pub mod areas; // areas.rt: lists that come in, and areas that are lent
 pub mod counts; // counts.rt: what is counted, and written
+pub mod models; // models.rt: a variogram that comes in
 
 ghost use mathlib.Core.Path.{_≡_};
 ghost use mathlib.Core.Bool.{true, false};
@@ -54,6 +55,20 @@ pub fn next_word() -> Input
         value: patterns::word(&bytes, 0),
         more: true,
     }
+}
+
+// The next word as a count, and as the f64 whose pattern it is. What they are no contract can say.
+pub fn next_size() -> usize {
+    next_word().size()
+}
+
+pub fn next_float() -> f64 {
+    next_word().float()
+}
+
+// Where a list ends that begins at a place: its length comes in.
+pub fn next_end(start: usize) -> usize {
+    std::num::wrapping_add_usize(start, next_size())
 }
 
 // The tally before the first record.

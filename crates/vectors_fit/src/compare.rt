@@ -8,13 +8,13 @@ use crate::counts::WEIGHT;
 use crate::counts::WORK_AREA;
 use crate::record::Areas;
 use crate::record::next_areas;
-use crate::record::next_size;
 use vectors::areas::compare_at;
 use vectors::areas::compare_next;
 use vectors::areas::least;
 use vectors::areas::load_words;
 use vectors::areas::mark;
 use vectors::counts::ended_by;
+use vectors::next_size;
 
 // What every place of the verdicts holds before a fit: a byte that is no verdict.
 const MARK_BYTE: u8 = 99;

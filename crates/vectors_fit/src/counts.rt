@@ -1,7 +1,5 @@
 // The parts of a fit's answer, among what is counted, and their lines.
-use vectors::counts::NUMBER;
 use vectors::counts::PARTS;
-use vectors::counts::UNTOUCHED;
 use vectors::counts::write_part;
 
 pub const FIGURES: usize = PARTS;
@@ -21,7 +19,6 @@ pub const WORK_AREA: usize = PARTS + 12;
 pub const COUNTS: usize = PARTS + 14;
 
 pub(crate) fn write_parts(counts: &[u64]) {
-    write_part(b"numbers of the endings: ", counts, NUMBER);
     write_part(b"figures: ", counts, FIGURES);
     write_part(b"variances: ", counts, VARIANCES);
     write_part(b"multipliers: ", counts, MULTIPLIERS);
@@ -29,5 +26,4 @@ pub(crate) fn write_parts(counts: &[u64]) {
     write_part(b"weights: ", counts, WEIGHT);
     write_part(b"verdicts: ", counts, VERDICTS);
     write_part(b"work areas: ", counts, WORK_AREA);
-    write_part(b"places not to be written: ", counts, UNTOUCHED);
 }

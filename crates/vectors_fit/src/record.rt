@@ -1,7 +1,9 @@
 // A record: what a fit is called with, and how much of each area it lends.
 use survey::UniversalKrigingOptions;
-use variogram::Variogram;
-use variogram::VariogramModel;
+use vectors::models::next_variogram;
+use vectors::next_end;
+use vectors::next_float;
+use vectors::next_size;
 
 // Where each list ends among a record's numbers, one after another, and how many codes there are.
 pub struct Lists {
@@ -33,19 +35,6 @@ pub struct Head {
     pub more: bool,
 }
 
-pub(crate) fn next_size() -> usize {
-    vectors::next_word().size()
-}
-
-fn next_float() -> f64 {
-    vectors::next_word().float()
-}
-
-// Where a list ends that begins at a place.
-fn next_end(start: usize) -> usize {
-    std::num::wrapping_add_usize(start, next_size())
-}
-
 fn next_lists(values: usize) -> Lists {
     let coords = next_end(values);
     let external = next_end(coords);
@@ -61,22 +50,8 @@ fn next_lists(values: usize) -> Lists {
     }
 }
 
-// The model of a number: "model 1 to 4 in the enum's order".
-fn model(number: u64) -> VariogramModel {
-    match number {
-        1 => VariogramModel::Spherical,
-        2 => VariogramModel::Exponential,
-        3 => VariogramModel::Gaussian,
-        _ => VariogramModel::Linear,
-    }
-}
-
 fn next_options() -> UniversalKrigingOptions {
-    let model = model(vectors::next_word().value);
-    let nugget = next_float();
-    let sill = next_float();
-    let range = next_float();
-    let variogram = Variogram::new(model, nugget, sill, range);
+    let variogram = next_variogram();
     UniversalKrigingOptions {
         variogram,
         regularization: next_float(),

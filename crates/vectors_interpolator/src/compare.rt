@@ -1,12 +1,10 @@
 // What is compared of an interpolation: how it ended and what each area holds, past what is written too.
 use crate::record::next_areas;
-use crate::record::next_size;
 use vectors::areas::compare_next;
-use vectors::counts::NUMBER;
 use vectors::counts::PARTS;
-use vectors::counts::UNTOUCHED;
 use vectors::counts::ended_by;
 use vectors::counts::write_part;
+use vectors::next_size;
 
 // The parts of an answer, among what is counted.
 const FIGURES: usize = PARTS;
@@ -37,9 +35,7 @@ pub(crate) fn compare_all(
 }
 
 pub(crate) fn write_parts(counts: &[u64]) {
-    write_part(b"numbers of the endings: ", counts, NUMBER);
     write_part(b"figures: ", counts, FIGURES);
     write_part(b"variances: ", counts, VARIANCES);
     write_part(b"work areas: ", counts, WORK_AREA);
-    write_part(b"places not to be written: ", counts, UNTOUCHED);
 }

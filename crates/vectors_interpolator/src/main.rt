@@ -17,7 +17,8 @@ use vectors::areas::least;
 use vectors::areas::load;
 use vectors::areas::mark;
 use vectors::counts::all_differences;
-use vectors::counts::write_endings;
+use vectors::counts::write_first;
+use vectors::counts::write_last;
 
 // The most numbers of a record's lists together.
 const NUMBERS: usize = 2048;
@@ -91,7 +92,7 @@ fn replay(counts: &mut [u64]) -> Tally {
 fn main() {
     let mut counts = [0; COUNTS];
     let t = replay(&mut counts);
-    write_endings(&counts);
+    write_first(&counts);
     write_parts(&counts);
-    vectors::totals(t);
+    write_last(&counts, t);
 }

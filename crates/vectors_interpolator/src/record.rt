@@ -1,6 +1,8 @@
 // A record: what an interpolation is called with, and how much of each area it lends.
 use variogram::Variogram;
-use variogram::VariogramModel;
+use vectors::models::next_variogram;
+use vectors::next_end;
+use vectors::next_size;
 
 // Where each list ends among a record's numbers, one after another.
 pub struct Lists {
@@ -26,19 +28,6 @@ pub struct Head {
     pub more: bool,
 }
 
-pub(crate) fn next_size() -> usize {
-    vectors::next_word().size()
-}
-
-fn next_float() -> f64 {
-    vectors::next_word().float()
-}
-
-// Where a list ends that begins at a place.
-fn next_end(start: usize) -> usize {
-    std::num::wrapping_add_usize(start, next_size())
-}
-
 fn next_lists(values: usize) -> Lists {
     let coords = next_end(values);
     Lists {
@@ -46,23 +35,6 @@ fn next_lists(values: usize) -> Lists {
         coords,
         targets: next_end(coords),
     }
-}
-
-// The model of a number: "model 1 to 4 in the enum's order".
-fn model(number: u64) -> VariogramModel {
-    match number {
-        1 => VariogramModel::Spherical,
-        2 => VariogramModel::Exponential,
-        3 => VariogramModel::Gaussian,
-        _ => VariogramModel::Linear,
-    }
-}
-
-fn next_variogram() -> Variogram {
-    let model = model(vectors::next_word().value);
-    let nugget = next_float();
-    let sill = next_float();
-    Variogram::new(model, nugget, sill, next_float())
 }
 
 pub(crate) fn next_areas() -> Areas {

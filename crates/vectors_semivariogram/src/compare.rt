@@ -1,18 +1,16 @@
 // What is compared of a semivariogram: how the call ended, how many bins it kept, and what each area holds, past what is written too.
 use crate::call::Came;
-use crate::record::next_size;
 use vectors::areas::compare_at;
 use vectors::areas::compare_next;
 use vectors::areas::least;
 use vectors::areas::load_words;
 use vectors::areas::mark;
 use vectors::areas::mark_at;
-use vectors::counts::NUMBER;
 use vectors::counts::PARTS;
-use vectors::counts::UNTOUCHED;
 use vectors::counts::compared;
 use vectors::counts::ended_by;
 use vectors::counts::write_part;
+use vectors::next_size;
 
 // The parts of an answer, among what is counted.
 const KEPT: usize = PARTS;
@@ -78,10 +76,8 @@ pub(crate) fn compare_all(
 }
 
 pub(crate) fn write_parts(counts: &[u64]) {
-    write_part(b"numbers of the endings: ", counts, NUMBER);
     write_part(b"numbers of kept bins: ", counts, KEPT);
     write_part(b"distances: ", counts, DISTANCES);
     write_part(b"semivariances: ", counts, SEMIVARIANCES);
     write_part(b"counts: ", counts, BIN_COUNTS);
-    write_part(b"places not to be written: ", counts, UNTOUCHED);
 }

@@ -1,4 +1,6 @@
 // A record: what a semivariogram is calculated of, and how much of each area is lent.
+use vectors::next_end;
+use vectors::next_size;
 
 // A number for each area: how much of it is lent.
 pub struct Areas {
@@ -15,15 +17,6 @@ pub struct Head {
     pub bins: usize,
     pub lent: Areas,
     pub more: bool,
-}
-
-pub(crate) fn next_size() -> usize {
-    vectors::next_word().size()
-}
-
-// Where a list ends that begins at a place.
-fn next_end(start: usize) -> usize {
-    std::num::wrapping_add_usize(start, next_size())
 }
 
 fn next_areas() -> Areas {

@@ -1,0 +1,21 @@
+// A variogram that comes in.
+use variogram::Variogram;
+use variogram::VariogramModel;
+
+// The model of a number: "model 1 to 4 in the enum's order". No record has another number.
+fn model(number: u64) -> VariogramModel {
+    match number {
+        1 => VariogramModel::Spherical,
+        2 => VariogramModel::Exponential,
+        3 => VariogramModel::Gaussian,
+        _ => VariogramModel::Linear,
+    }
+}
+
+// The model's number, and then nugget, sill and range. What they are no contract can say.
+pub fn next_variogram() -> Variogram {
+    let model = model(crate::next_word().value);
+    let nugget = crate::next_float();
+    let sill = crate::next_float();
+    Variogram::new(model, nugget, sill, crate::next_float())
+}
