@@ -4,7 +4,7 @@ import struct
 from tools.reading import case_text
 from tools.reading.case_fits import EXTERNALS, NO_NODES
 from tools.reading.outcomes import shown
-from tools.reading.survey import CONSTANT, EXTERNAL, Survey
+from tools.reading.survey import CONSTANT, EXTERNAL, LINEAR as LINEAR_DRIFT, Survey
 from tools.reading.survey_file import Lists, read, write
 from tools.reading.variogram import EXPONENTIAL, GAUSSIAN, LINEAR, SPHERICAL, Variogram
 from tools.reading.wellmap import printed
@@ -20,12 +20,15 @@ SURVEY = Survey(
     r=0.125,
     t=0.0625,
 )
+# the same with a third code: no two of n, m and the code count are equal
+THREE_CODES = SURVEY._replace(codes=[CONSTANT, EXTERNAL, LINEAR_DRIFT])
 NOTE = b"abc"
 MODELS = {"Spherical": SPHERICAL, "Exponential": EXPONENTIAL, "Gaussian": GAUSSIAN, "Linear": LINEAR}
 
 
-def parts(model=3, note=b"", n=1, m=2, r=0.125, t=0.0625):
+def parts(model=3, note=b"", n=1, m=2, r=0.125, t=0.0625, codes=(1, 4), code_count=None, version=1):
     """What stands in the file, in turn: its name and its bytes."""
+    code_count = len(codes) if code_count is None else code_count
     yield "note", note
     for name, x in (("nugget", 0.25), ("sill", 2.0), ("range", 8.0), ("r", r), ("t", t)):
         yield name, struct.pack("<d", x)
@@ -33,13 +36,13 @@ def parts(model=3, note=b"", n=1, m=2, r=0.125, t=0.0625):
     for name, xs in lists:
         for x in xs:
             yield name, struct.pack("<d", x)
-    yield "codes", bytes([1, 4])
+    yield "codes", bytes(codes)
     yield "S", struct.pack("<I", len(note))
     yield "n", struct.pack("<H", n)
     yield "m", struct.pack("<H", m)
-    yield "code count", struct.pack("<H", 2)
+    yield "code count", struct.pack("<H", code_count)
     yield "model", bytes([model])
-    yield "version", bytes([1])
+    yield "version", bytes([version])
     yield "zeros", bytes([0, 0])
 
 
@@ -54,12 +57,12 @@ def written(survey):
     return bytes(area[:length])
 
 
-def empty_lists():
-    return Lists([0.0] * 1, [0.0] * 2, [0] * 2, [0.0] * 1, [0.0] * 4, [0.0] * 2)
+def empty_lists(codes=2):
+    return Lists([0.0] * 1, [0.0] * 2, [0] * codes, [0.0] * 1, [0.0] * 4, [0.0] * 2)
 
 
 def assert_reads_back(data, survey):
-    areas = empty_lists()
+    areas = empty_lists(len(survey.codes))
     number, got = read(data, areas)
     assert number == 0 and [list(map(shown, lent)) for lent in areas] == [list(map(shown, items)) for items in survey[:6]]
     assert list(map(shown, [*got.variogram, got.r, got.t])) == list(map(shown, [*survey.variogram, survey.r, survey.t]))
@@ -108,6 +111,35 @@ def print_with_note():
     print_file("survey file 2: the same survey after a note of three bytes (S = 3)", data, note=NOTE)
 
 
+def print_three_codes():
+    codes = THREE_CODES.codes
+    data = joined(codes=codes)
+    assert written(THREE_CODES) == data
+    assert_reads_back(data, THREE_CODES)
+    print_file("survey file 3: the same survey with codes 1, 4, 2 (n = 1, m = 2, three codes)", data, codes=codes)
+    wrong = {
+        "m and the code count exchanged": joined(codes=codes, m=3, code_count=2),
+        "n and m exchanged": joined(codes=codes, n=2, m=1),
+        "n and the code count exchanged": joined(codes=codes, n=3, code_count=1),
+    }
+    assert all(read(other, empty_lists(3))[0] == 16 for other in wrong.values())
+    case_text.wrong({"bytes": list(data)}, {name: {"bytes": list(other)} for name, other in wrong.items()})
+
+
+def print_orders():
+    """16 before 18, and 18 alone."""
+    case_text.title("survey file: 16 and 18")
+    data, none = joined(codes=THREE_CODES.codes), Lists([], [], [], [], [], [])
+    bare = SURVEY._replace(values=[], coords=[], codes=[], external=[], nodes=[], node_external=[])
+    longest = bare._replace(codes=[CONSTANT] * 65482)
+    too_long = bare._replace(codes=[CONSTANT] * 65483)
+    assert (read(joined(codes=THREE_CODES.codes, version=2), none)[0], read(data, none)[0]) == (16, 18)
+    assert [write(longest, bytearray(lent))[0] for lent in (65536, 65535, 0)] == [0, 18, 18]
+    assert [write(too_long, bytearray(lent))[0] for lent in (65537, 65536, 0)] == [16, 16, 16]
+    print("a file of another version, no room: 16; the file, no room: 18")
+    print("65,482 codes alone make 65,536 bytes: written into so many, 18 where one is missing; 65,483: 16, with room and without")
+
+
 def print_models():
     case_text.title("survey file: the model's byte, at 132 of file 1, the fourth from the end")
     for name, model in MODELS.items():
@@ -132,5 +164,7 @@ def print_reports():
 def print_all():
     print_written()
     print_with_note()
+    print_three_codes()
+    print_orders()
     print_models()
     print_reports()

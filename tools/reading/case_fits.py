@@ -26,6 +26,21 @@ EXTERNALS = Survey(
 NO_NODES = EXTERNALS._replace(nodes=[], node_external=[])
 SURFACE = EXTERNALS._replace(codes=[LINEAR], external=[], nodes=[1.75, 3.5], node_external=[])
 ONE_WELL = Survey([1.0], [0.0, 0.0], [EXTERNAL], [3.0], [1.0, 0.0], [1.0], Variogram(SPHERICAL, 0.0, 1.0, 1.0), 0.0, 0.0)
+# six wells that tell x², xy and y² apart, on a surface whose coefficients are 1 to 6, and no variogram: the matrix is F and its transpose
+QUADRATIC_WELLS = [0.0, 0.0, 1.0, 0.0, 0.0, 1.0, 2.0, 0.0, 1.0, 1.0, 0.0, 2.0]
+QUADRATIC_SURFACE = Survey([1.0, 7.0, 10.0, 21.0, 21.0, 31.0], QUADRATIC_WELLS, [QUADRATIC], [], [1.0, 2.0], [], Variogram(SPHERICAL, 0.0, 0.0, 1.0), 0.0, 0.0)
+# a weight of a third each, and values of which the small one is lost or not by the order of the sum
+FAR_APART = Survey(
+    values=[1.0, 2.0**60, -(2.0**60)],
+    coords=[0.0, 0.0, 2.0, 0.0, 0.0, 2.0],
+    codes=[CONSTANT],
+    external=[],
+    nodes=[2.0, 2.0],
+    node_external=[],
+    variogram=Variogram(SPHERICAL, 0.0, 1.0, 1.0),
+    r=0.0,
+    t=0.0,
+)
 JUST_BELOW = value(0x3C7F_FFFF_FFFF_FFFF)
 AUDITS = {
     "row 1 missed: 3 times the f64 nearest 1/3 is 1 - 2^-54": (ONE_WELL, 1),
@@ -202,6 +217,66 @@ def print_surface():
     case_text.wrong(outcome, {**wrong, **trends_told(SURFACE)})
 
 
+def drift_of(*entries):
+    """A drift row of six entries by another rule."""
+    return lambda codes, x, y, externals: [entry(x, y) for entry in entries]
+
+
+QUADRATIC_ENTRIES = [lambda x, y: 1.0, lambda x, y: x, lambda x, y: y, lambda x, y: x * x, lambda x, y: x * y, lambda x, y: y * y]
+
+
+def wrong_drifts(survey):
+    """The six entries with one put in place of another, and with two exchanged."""
+    for at in range(6):
+        for instead in range(6):
+            if at == instead:
+                continue
+            entries = list(QUADRATIC_ENTRIES)
+            entries[at] = QUADRATIC_ENTRIES[instead]
+            yield f"entry {at} as entry {instead}", changed(survey, fit, "drift_row", drift_of(*entries))
+            entries[instead] = QUADRATIC_ENTRIES[at]
+            yield f"entries {at} and {instead} exchanged", changed(survey, fit, "drift_row", drift_of(*entries))
+
+
+def print_quadratic():
+    case_text.title("fit 4: Quadratic, six wells, one node (n = p = 6, s = 12)")
+    outcome = print_case(QUADRATIC_SURFACE, small=False)
+    assert outcome["trend"] == [1.0, 2.0, 3.0, 4.0, 5.0, 6.0] and outcome["figures"] == [47.0]
+    wrong = {"node axes exchanged": changed_survey(QUADRATIC_SURFACE, node=node_yx), **dict(wrong_drifts(QUADRATIC_SURFACE))}
+    case_text.wrong(outcome, wrong)
+
+
+def falling_sum(terms, start=0.0):
+    return running_sum(reversed(list(terms)), start)
+
+
+def falling_weighted(weights, values):
+    return falling_sum(w * v for w, v in zip(weights, values, strict=True))
+
+
+def falling_solved(matrix_inverse, b):
+    return [falling_sum(x * y for x, y in zip(row, b, strict=True)) for row in matrix_inverse]
+
+
+def falling_variances(survey):
+    """The variances by Σ z·b from the last entry on."""
+    outcome, n = of_fit(survey), survey.n
+    z = outcome["weights"][:n] + outcome["multipliers"]
+    return {**outcome, "variances": [clamped(falling_sum(x * b for x, b in zip(z, fit.right_hand_side(survey, 0), strict=True)))]}
+
+
+def print_far_apart():
+    case_text.title("fit 5: three wells far apart, one node: the order of each sum (n = 3, p = 1, s = 4)")
+    outcome = print_case(FAR_APART)
+    assert outcome["figures"] == [0.0]
+    wrong = {
+        "the figure from the last well": changed(FAR_APART, fit, "weighted", falling_weighted),
+        "z by falling column": changed(FAR_APART, fit, "solved", falling_solved),
+        "the variance from the last entry": falling_variances(FAR_APART),
+    }
+    case_text.wrong(outcome, wrong)
+
+
 def print_trends():
     for name, (survey, trend) in TRENDS.items():
         case_text.title(f"trend: sounding {name}")
@@ -226,5 +301,7 @@ def print_all():
     print_externals()
     print_no_nodes()
     print_surface()
+    print_quadratic()
+    print_far_apart()
     print_trends()
     print_audits()

@@ -9,6 +9,8 @@ use Rattle.cases.proofs.InterpolationCases.{interpolation-cases}
 use Rattle.cases.proofs.ModelCases.{model-cases}
 use Rattle.cases.proofs.SlopeCases.{slope-cases}
 use Rattle.cases.proofs.ComparisonCases.{comparison-cases}
+use Rattle.cases.proofs.FileCases.{file-cases}
+use Rattle.cases.proofs.RefusalCases.{refusal-cases}
 
 four-bins : FourBins
 unfolding calculated add sub mul div lt le eq ofInt toUnsigned round ofBits toBits
@@ -22,6 +24,8 @@ cases = record {
   slopes = slope-cases;
   comparisons = comparison-cases;
   bins = four-bins;
+  files = file-cases;
+  refusals = refusal-cases;
   file-written = writes-bytes;
   file-read = reads-bytes;
   noted-read = reads-noted;

@@ -2,7 +2,7 @@
 use mathlib.Core.Path.{refl}
 use lib.Ieee.{ofBits, toBits, add, sub, mul, div, lt, le, eq, ofInt, toUnsigned, round}
 use Rattle.kriging_theory.specs.Fit.{fitted}
-use Rattle.cases.specs.FitCases.{FitCases, TwoExternals, NoNode, LinearDrift, Row1Missed, Row1Met, FigureMissed, WeightInfinite, FigureInfinite}
+use Rattle.cases.specs.FitCases.{FitCases, TwoExternals, NoNode, LinearDrift, Row1Missed, Row1Met, FigureMissed, WeightInfinite, FigureInfinite, QuadraticDrift, FromTheFirst}
 
 two-externals : TwoExternals
 unfolding fitted add sub mul div lt le eq ofInt toUnsigned round ofBits toBits
@@ -36,5 +36,24 @@ figure-infinite : FigureInfinite
 unfolding fitted add sub mul div lt le eq ofInt toUnsigned round ofBits toBits
 figure-infinite = refl
 
+quadratic-drift : QuadraticDrift
+unfolding fitted add sub mul div lt le eq ofInt toUnsigned round ofBits toBits
+quadratic-drift = refl
+
+from-the-first : FromTheFirst
+unfolding fitted add sub mul div lt le eq ofInt toUnsigned round ofBits toBits
+from-the-first = refl
+
 pub fit-cases : FitCases
-fit-cases = record { two-externals = two-externals; no-node = no-node; linear-drift = linear-drift; row-1-missed = row-1-missed; row-1-met = row-1-met; figure-missed = figure-missed; weight-infinite = weight-infinite; figure-infinite = figure-infinite }
+fit-cases = record {
+  two-externals = two-externals;
+  no-node = no-node;
+  linear-drift = linear-drift;
+  row-1-missed = row-1-missed;
+  row-1-met = row-1-met;
+  figure-missed = figure-missed;
+  weight-infinite = weight-infinite;
+  figure-infinite = figure-infinite;
+  quadratic-drift = quadratic-drift;
+  from-the-first = from-the-first;
+}

@@ -1,5 +1,6 @@
 -- Computed cases, their answers worked out outside these definitions: by tools/reading/cases.py, another reading of the paper in Python's floats and whole
--- numbers, and where the original Rust answers, the original's own; those of ModelCases, SlopeCases and ComparisonCases as they say. One record holds them all.
+-- numbers, and where the original Rust answers, the original's own; those of ModelCases, SlopeCases, ComparisonCases, FileCases and RefusalCases as they say.
+-- One record holds them all.
 use mathlib.Core.Path.{_≡_}
 use mathlib.Core.List.{[], _∷_}
 use mathlib.Core.Option.{some}
@@ -17,6 +18,8 @@ use Rattle.cases.specs.InterpolationCases.{InterpolationCases}
 use Rattle.cases.specs.ModelCases.{ModelCases}
 use Rattle.cases.specs.SlopeCases.{SlopeCases}
 use Rattle.cases.specs.ComparisonCases.{ComparisonCases}
+use Rattle.cases.specs.FileCases.{FileCases}
+use Rattle.cases.specs.RefusalCases.{RefusalCases}
 
 -- samples at (0, 0), (6, 8), (6, 0), (1.5, 0) with 1, 4, 2, 8, in five bins: the second is empty
 abbrev pub fourSamples : Samples
@@ -42,7 +45,7 @@ FourBins =
     }
 
 pub record Cases : Type 0 where
-  -- k = 2 with n ≠ m, x and y apart; no node; 1, x, y; every verdict
+  -- k = 2 with n ≠ m, x and y apart; no node; 1, x, y; every verdict; 1, x, y, x², xy, y²; sums whose order tells
   pub fits : FitCases
   -- Ordinary on a line, Universal in the plane and in space, two targets each
   pub interpolations : InterpolationCases
@@ -53,6 +56,10 @@ pub record Cases : Type 0 where
   pub comparisons : ComparisonCases
   -- several kept bins, and one empty among them
   pub bins : FourBins
+  -- the calls on a survey file, their refusals in order, and the longest file
+  pub files : FileCases
+  -- the number and the kind of every refusal, and the default options
+  pub refusals : RefusalCases
   -- a file by its bytes, every field another number, without a note and with one
   pub file-written : writerFile baseVersion survey ≡ file
   pub file-read : readBytes baseVersion file ≡ some survey

@@ -163,6 +163,58 @@ FigureInfinite =
     Answers (oneExternal 0x7fe0_0000_0000_0000 0x3ff0_0000_0000_0000 0x4010_0000_0000_0000 0)
     (0x7ff0_0000_0000_0000 ∷ []) (0x4020_0000_0000_0000 ∷ []) (255 ∷ []) (0x4010_0000_0000_0000 ∷ []) (0x3ff0_0000_0000_0000 ∷ []) (0x7fe0_0000_0000_0000 ∷ [])
 
+-- ---- six wells at (0, 0), (1, 0), (0, 1), (2, 0), (1, 1), (0, 2) on the surface 1 + 2x + 3y + 4x² + 5xy + 6y², Quadratic, a node at (1, 2), r = t = 0.
+-- Spherical 0, 0, 1 is 0 everywhere, so that the matrix is F and its transpose alone, and every number comes out exact
+abbrev pub quadraticDrift : Survey
+quadraticDrift = record {
+  values =
+      fs (0x3ff0_0000_0000_0000 ∷ 0x401c_0000_0000_0000 ∷ 0x4024_0000_0000_0000 ∷ 0x4035_0000_0000_0000 ∷ 0x4035_0000_0000_0000 ∷ 0x403f_0000_0000_0000 ∷ []);
+  coords =
+      fs (0 ∷ 0 ∷ 0x3ff0_0000_0000_0000 ∷ 0 ∷ 0 ∷ 0x3ff0_0000_0000_0000
+      ∷ 0x4000_0000_0000_0000 ∷ 0 ∷ 0x3ff0_0000_0000_0000 ∷ 0x3ff0_0000_0000_0000 ∷ 0 ∷ 0x4000_0000_0000_0000 ∷ []);
+  bases = 3 ∷ [];
+  external = [];
+  nodes = fs (0x3ff0_0000_0000_0000 ∷ 0x4000_0000_0000_0000 ∷ []);
+  nodeExternal = [];
+  options = record { variogram = variogram Spherical zeroFloat zeroFloat (f 0x3ff0_0000_0000_0000); regularization = zeroFloat };
+  tolerance = zeroFloat;
+}
+
+-- "1, x, y, x², xy, y²": the trend is the surface, 1 to 6, and the figure the surface at the node, 47
+abbrev pub QuadraticDrift : Type 0
+QuadraticDrift =
+    Answers quadraticDrift
+    (0x4047_8000_0000_0000 ∷ [])
+    (0 ∷ [])
+    (0 ∷ [])
+    (0x3ff0_0000_0000_0000 ∷ 0xbff0_0000_0000_0000 ∷ 0xc000_0000_0000_0000 ∷ 0 ∷ 0x4000_0000_0000_0000 ∷ 0x3ff0_0000_0000_0000 ∷ [])
+    (0 ∷ 0 ∷ 0 ∷ 0 ∷ 0 ∷ 0 ∷ [])
+    (0x3ff0_0000_0000_0000 ∷ 0x4000_0000_0000_0000 ∷ 0x4008_0000_0000_0000 ∷ 0x4010_0000_0000_0000 ∷ 0x4014_0000_0000_0000 ∷ 0x4018_0000_0000_0000 ∷ [])
+
+-- ---- three wells, at (0, 0), (2, 0), (0, 2), with 1, 2^60, −2^60, Constant, a node at (2, 2), Spherical 0, 1, 1, r = t = 0
+abbrev pub farApart : Survey
+farApart = record {
+  values = fs (0x3ff0_0000_0000_0000 ∷ 0x43b0_0000_0000_0000 ∷ 0xc3b0_0000_0000_0000 ∷ []);
+  coords = fs (0 ∷ 0 ∷ 0x4000_0000_0000_0000 ∷ 0 ∷ 0 ∷ 0x4000_0000_0000_0000 ∷ []);
+  bases = 1 ∷ [];
+  external = [];
+  nodes = fs (0x4000_0000_0000_0000 ∷ 0x4000_0000_0000_0000 ∷ []);
+  nodeExternal = [];
+  options = record { variogram = variogram Spherical zeroFloat (f 0x3ff0_0000_0000_0000) (f 0x3ff0_0000_0000_0000); regularization = zeroFloat };
+  tolerance = zeroFloat;
+}
+
+-- a third each: 1/3 + 2^60/3 is 2^60/3, and the figure 0; from the last well on it would be a third. z, variance and trend too would be others from the last
+abbrev pub FromTheFirst : Type 0
+FromTheFirst =
+    Answers farApart
+    (0 ∷ [])
+    (0x3ff5_5555_5555_5556 ∷ [])
+    (1 ∷ [])
+    (0x3fd5_5555_5555_5557 ∷ 0x3fd5_5555_5555_5557 ∷ 0x3fd5_5555_5555_5557 ∷ [])
+    (0x3fd5_5555_5555_5556 ∷ [])
+    (0 ∷ [])
+
 pub record FitCases : Type 0 where
   pub two-externals : TwoExternals
   pub no-node : NoNode
@@ -172,3 +224,5 @@ pub record FitCases : Type 0 where
   pub figure-missed : FigureMissed
   pub weight-infinite : WeightInfinite
   pub figure-infinite : FigureInfinite
+  pub quadratic-drift : QuadraticDrift
+  pub from-the-first : FromTheFirst

@@ -1,0 +1,28 @@
+-- The cases of survey files, each computed by the definitions.
+use mathlib.Core.Path.{refl}
+use lib.Ieee.{ofBits}
+use Rattle.survey_file_theory.specs.Refusals.{readerRefusal, writerRefusal}
+use Rattle.survey_file_theory.specs.Reader.{reader}
+use Rattle.survey_file_theory.specs.Writer.{writer}
+use Rattle.cases.specs.FileCases.{FileCases}
+
+pub file-cases : FileCases
+unfolding reader writer readerRefusal writerRefusal ofBits
+file-cases = record {
+  written = refl;
+  read = refl;
+  reader-18 = refl;
+  reader-16 = refl;
+  reader-longest = refl;
+  reader-too-long = refl;
+  writer-1 = refl;
+  writer-2 = refl;
+  writer-6 = refl;
+  writer-8 = refl;
+  writer-11 = refl;
+  writer-16 = refl;
+  writer-18 = refl;
+  longest-written = refl;
+  longest-18 = refl;
+  too-long = refl;
+}
