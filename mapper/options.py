@@ -11,7 +11,7 @@ USE = '''map wells.csv [options]
        map wells.csv --sheets DIR [options]
        map --collect DIR'''
 ABOUT = '''Makes a water-table map, wells.html and wells.map.csv, from a list of wells: name, x, y, level and any further column, with a header, separated by
-commas, semicolons or tabs. docs/REFERENCE.md, section 15, has it all.'''
+commas, semicolons or tabs. mapper/README.md has it all.'''
 
 
 def size(text):

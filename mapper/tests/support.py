@@ -33,6 +33,11 @@ def section(number):
     return text.split(f'\n## {number}. ')[1].split('\n## ')[0]
 
 
+def guide():
+    """The text of mapper/README.md."""
+    return (ROOT / 'mapper' / 'README.md').read_text(encoding='utf-8')
+
+
 class Folder(unittest.TestCase):
     """A test with a folder of its own."""
 

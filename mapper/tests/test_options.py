@@ -8,7 +8,7 @@ from unittest import mock
 from mapper import bar
 from mapper.built import program
 from mapper.options import parser
-from mapper.tests.support import ENDING, FOUR, NUMBERS, ROOT, Folder, nakwemol, section
+from mapper.tests.support import ENDING, FOUR, NUMBERS, ROOT, Folder, guide, nakwemol
 from mapper.verdicts import verdict_words
 from tools.reading.wellmap import printed
 
@@ -153,8 +153,8 @@ class Options(Folder):
 
 
 class Told(unittest.TestCase):
-    def test_every_option_is_in_the_reference(self):
-        told = section(15)
+    def test_every_option_is_in_the_guide(self):
+        told = guide()
         for action in parser()._actions:
             for word in action.option_strings:
                 self.assertTrue(word in ('-h', '--help') or f'`{word}' in told, word)

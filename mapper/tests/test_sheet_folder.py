@@ -6,7 +6,7 @@ import subprocess
 from unittest import mock
 
 from mapper.built import program
-from mapper.tests.support import FOUR, NUMBERS, SAMPLES, Folder, nakwemol, section
+from mapper.tests.support import FOUR, NUMBERS, SAMPLES, Folder, guide, nakwemol
 
 GRID = (*NUMBERS, '--grid', '15x15')
 FAR = 'x,y,level\n7000,7000,10\n7100,7000,11\n7000,7100,12.5\n7090,7080,12\n'
@@ -19,8 +19,8 @@ class SheetFolder(Folder):
         return self.folder / 'sheets', said
 
     def run_all(self, folder):
-        """Every sheet, by the array job of docs/REFERENCE.md: its first task."""
-        (job,) = re.findall('```sh\n(.*?)```', section(15), re.S)
+        """Every sheet, by the array job of mapper/README.md: its first task."""
+        (job,) = re.findall('```sh\n(.*?)```', guide(), re.S)
         script = job.replace('target/bin/wellmap', program(print)).replace('DIR', str(folder))
         subprocess.run(['sh', '-eu', '-c', script], env={**os.environ, 'SLURM_ARRAY_TASK_ID': '0'}, check=True)
 
@@ -48,9 +48,9 @@ class SheetFolder(Folder):
         wells = self.file((SAMPLES / 'valley.csv').read_bytes(), 'valley.csv')
         self.same_both_ways(wells, '--external', 'ground', '--nodes', SAMPLES / 'valley_nodes.csv', '--origin', 'as-entered')
 
-    def test_parallel_as_the_reference_has_it(self):
+    def test_parallel_as_the_guide_has_it(self):
         """Its line, with a script that puts `{}` and `{.}` in place as GNU parallel does."""
-        (line,) = re.findall(r"^    (find DIR .*)$", section(15), re.M)
+        (line,) = re.findall(r"^    (find DIR .*)$", guide(), re.M)
         script = '#!/bin/sh\nwhile read -r f; do sh -c "$(printf "%s" "$1" | sed "s|{}|$f|; s|{\\.}|${f%.*}|")" || exit; done\n'
         (self.folder / 'parallel').write_text(script)
         (self.folder / 'parallel').chmod(0o755)
