@@ -11,7 +11,7 @@ use Rattle.error.specs.Rules.{First, rulesBefore}
 use Rattle.error.specs.Short.{TooShort}
 use Rattle.error.proofs.Rules.{ruled-exactly, no-condition}
 use Rattle.error.proofs.Short.{none-short}
-use Rattle.survey.specs.Limits.{base}
+use Rattle.survey.specs.Limits.{base, mostSize}
 use Rattle.survey.specs.Rules.{TooMany}
 use Rattle.survey.specs.Survey.{Survey, wells, nodeCount, columns, size}
 use Rattle.kriging_theory.specs.Areas.{Areas, answerAreas}
@@ -38,13 +38,13 @@ module _ (s : Survey) where
       first-in-a-fit base s ownAreas k .0 (ruled-exactly (told base s ownAreas) k .1 r, z)
 
   -- past 9 the counts are those of the areas
-  work-fits : wells s ≤ 48 → columns s ≤ 12 → ¬ (length (ownAreas .work) < 2 * size s * size s)
+  work-fits : wells s ≤ base .wells → columns s ≤ base .columns → ¬ (length (ownAreas .work) < 2 * size s * size s)
   work-fits n p l =
-      let most : size s ≤ 60 = omega arith in
+      let most : size s ≤ mostSize = omega arith in
       let square = mul-le-mul most most in
       omega (arith, own-work)
 
-  answer-fits : wells s ≤ 48 → columns s ≤ 12 → nodeCount s ≤ 100 → ¬ TooShort (answerAreas s ownAreas)
+  answer-fits : wells s ≤ base .wells → columns s ≤ base .columns → nodeCount s ≤ base .nodes → ¬ TooShort (answerAreas s ownAreas)
   answer-fits n p m =
       let product = mul-le-mul n m in
       none-short (answerAreas s ownAreas) (

@@ -2,6 +2,7 @@
 use Prim.Native.Nat.{ℕ, _*_, _≤_}
 use lib.ListN.{length, take, replicate}
 use Rattle.ieee.specs.Floats.{zeroFloat}
+use Rattle.survey.specs.Limits.{base, mostSize}
 use Rattle.survey.specs.Survey.{Survey, surveyOf, externalCount}
 use Rattle.kriging_theory.specs.Areas as fit
 use Rattle.survey_file_theory.specs.Areas as file
@@ -24,18 +25,18 @@ ownLists =
 
 -- the most that a fit needs: "n > 48, p > 12 or m > 100" is refused
 abbrev pub mostNodes : ℕ
-mostNodes = 100
+mostNodes = base .nodes
 
 abbrev pub mostColumns : ℕ
-mostColumns = 12
+mostColumns = base .columns
 
 -- "2·s·s numbers", where s = n + p
 abbrev pub mostWork : ℕ
-mostWork = 7200
+mostWork = 2 * mostSize * mostSize
 
 -- "n·m weights"
 abbrev pub mostWeights : ℕ
-mostWeights = 4800
+mostWeights = base .wells * base .nodes
 
 -- zeros, as long as a fit can need
 unfoldable pub ownAreas : fit.Areas

@@ -20,14 +20,14 @@ ghost use Rattle.report.specs.Printed.{outcomeOf, printed};
 ghost use Rattle.survey_map.specs.Areas.{Holding, surveyHeld};
 ghost use Rattle.survey_map.specs.Text.{surveyText, fileText, bytesRead};
 
-// The most nodes and columns of an accepted fit, the work area of its 48 wells and 12 columns, 2 * 60 * 60, and the weights of 48 wells at 100 nodes.
-const NODES: usize = 100;
+// The most nodes and columns of an accepted fit, the work area of its wells and columns, 2 * s * s, and the weights of its wells at its nodes.
+const NODES: usize = survey::MOST_NODES;
 
-const COLUMNS: usize = 12;
+const COLUMNS: usize = survey::MOST_COLUMNS;
 
-const WORK: usize = 7200;
+const WORK: usize = 2 * survey::MOST_SIZE * survey::MOST_SIZE;
 
-const WEIGHTS: usize = 4800;
+const WEIGHTS: usize = survey::MOST_WELLS * survey::MOST_NODES;
 
 // The numbers of a file's longest list: a file of 65,536 bytes has room for 8,190 numbers before its trailer, the first five are in no list, and a list of
 // nodes has an even count.
