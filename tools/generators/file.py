@@ -10,8 +10,8 @@ A record is words of 64 bits and bytes. First the call, 1 the reader's, 2 the wr
     writer: the lengths of values, coordinates, externals, nodes, node externals; model, nugget, sill, range, r, t; how many bytes are lent; those lists as
         one; the codes. Then the number; how many bytes are written; and those.
 
-A list comes as runs, so that a long one takes little room: how many runs; of each how many places it has, how many of them are told, and those. Each
-place after these is as that so many places before it. Numbers are told as words, codes and files as bytes.
+A list comes as its bytes, eight for a number, and these as runs, so that a long one takes little room: how many runs; of each how many places it has, how
+many of them are told, and those. Each place after these is as that so many places before it.
 """
 import struct
 from typing import NamedTuple
@@ -27,9 +27,8 @@ from tools.reading.survey_file import Lists
 
 MOST_STORED = 1_000_000
 PARTS = ["values", "coordinates", "codes", "externals", "nodes", "node externals"]
-# after how many places a list may come again: numbers, their bytes, codes, one byte
-WORD_PERIODS = (1, PERIOD)
-BYTE_PERIODS = (1, CODE_PERIOD, 8 * PERIOD)
+# after how many bytes a list may come again: one, the codes', the numbers'; and how many it has to save
+PERIODS = (1, CODE_PERIOD, 8 * PERIOD)
 SAVES = 40
 
 
@@ -84,16 +83,16 @@ def repeated(items, start, period):
     return at
 
 
-def longest_run(items, at, periods):
+def longest_run(items, at):
     """Where the longest run from a place ends, and after how many places it comes again."""
-    return max(((repeated(items, at, period), period) for period in periods), key=lambda run: (run[0] - run[1], -run[1]))
+    return max(((repeated(items, at, period), period) for period in PERIODS), key=lambda run: (run[0] - run[1], -run[1]))
 
 
-def runs(items, periods):
+def runs(items):
     """A list as runs: where each begins, where it ends and how many of its places are told. Only what saves much is repeated."""
     found, start, at = [], 0, 0
     while at < len(items):
-        end, period = longest_run(items, at, periods)
+        end, period = longest_run(items, at)
         if end - at - period < SAVES:
             at += 1
             continue
@@ -103,21 +102,14 @@ def runs(items, periods):
     return [run for run in found if run[0] < run[1]]
 
 
-def packed_list(items, periods, form):
-    items = list(items)
-    parts = runs(items, periods)
-    data = struct.pack("<Q", len(parts))
-    for start, end, told in parts:
-        data += struct.pack("<QQ", end - start, told) + struct.pack(f"<{told}{form}", *items[start:start + told])
-    return data
+def packed_bytes(items):
+    items = bytes(items)
+    parts = runs(items)
+    return packed([len(parts)]) + b"".join(packed([end - start, told]) + items[start:start + told] for start, end, told in parts)
 
 
 def packed_words(items):
-    return packed_list(map(bits, items), WORD_PERIODS, "Q")
-
-
-def packed_bytes(items):
-    return packed_list(items, BYTE_PERIODS, "B")
+    return packed_bytes(packed(list(map(bits, items))))
 
 
 def packed(words):

@@ -9,7 +9,7 @@ from tools.reading.survey_file import Lists
 from tools.reading.variogram import Variogram
 
 # the program's own arrays are as long as this
-MOST_NUMBERS, MOST_BYTES = 8256, 65700
+MOST_NUMBERS, MOST_BYTES = 8256, 66048
 # no two of these are equal, and none is a mark; what is repeated of them comes again after so many
 PERIOD = 61
 CODE_PERIOD = 7

@@ -69,15 +69,19 @@ pub(crate) fn compare_next_words(area: &[f64], words: &mut [u64], part: usize, c
     compare(area, &words[..n], n, part, counts);
 }
 
-pub(crate) fn write_parts(counts: &[u64]) {
-    write_part(b"numbers of the endings: ", counts, NUMBER);
-    write_part(b"headers: ", counts, HEADER);
+fn write_lists(counts: &[u64]) {
     write_part(b"values: ", counts, VALUES);
     write_part(b"coordinates: ", counts, COORDS);
     write_part(b"codes: ", counts, CODES);
     write_part(b"externals: ", counts, EXTERNAL);
     write_part(b"nodes: ", counts, NODES);
     write_part(b"node externals: ", counts, NODE_EXTERNAL);
+}
+
+pub(crate) fn write_parts(counts: &[u64]) {
+    write_part(b"numbers of the endings: ", counts, NUMBER);
+    write_part(b"headers: ", counts, HEADER);
+    write_lists(counts);
     write_part(b"lengths of files: ", counts, LENGTH);
     write_part(b"bytes of files: ", counts, FILE);
     write_part(b"places not to be written: ", counts, UNTOUCHED);

@@ -9,6 +9,8 @@ use crate::compare::VALUES;
 use crate::compare::compare_next_bytes;
 use crate::compare::compare_next_words;
 use crate::compare::mark_bytes;
+use crate::runs::BYTES;
+use crate::runs::NUMBERS;
 use crate::runs::load_bytes;
 use crate::runs::next_size;
 use survey::UniversalKrigingOptions;
@@ -20,10 +22,8 @@ use vectors::areas::mark;
 use vectors::counts::compared;
 use vectors::counts::ended_by;
 
-// The most numbers of a list and the most bytes that a record has.
-const NUMBERS: usize = 8256;
-
-const BYTES: usize = 65_700;
+// How many words there are for what a file says besides its lists.
+const HEADERS: usize = 9;
 
 // How much of each area is lent.
 pub struct Lent {
@@ -33,20 +33,6 @@ pub struct Lent {
     pub external: usize,
     pub nodes: usize,
     pub node_external: usize,
-}
-
-// How a call ended: its number, and of a file that was read what it says besides its lists. All else is 0.
-pub struct Came {
-    pub number: u64,
-    pub wells: usize,
-    pub nodes: usize,
-    pub codes: usize,
-    pub model: u64,
-    pub nugget: f64,
-    pub sill: f64,
-    pub range: f64,
-    pub r: f64,
-    pub t: f64,
 }
 
 fn next_lent() -> Lent {
@@ -75,97 +61,65 @@ fn model_number(model: VariogramModel) -> u64 {
     }
 }
 
-fn done(header: Header) -> Came {
-    let options: UniversalKrigingOptions = header.options;
+// One word of what a file says besides its lists, with the next that comes in.
+fn compare_word(here: u64, counts: &mut [u64]) {
+    compared(counts, HEADER, here == vectors::next_word().value);
+}
+
+// The options of a file that was read: model, nugget, sill, range and r come in.
+fn compare_options(options: UniversalKrigingOptions, counts: &mut [u64]) {
     let v = options.variogram;
     let model = v.model;
-    Came {
-        number: 0,
-        wells: header.wells,
-        nodes: header.nodes,
-        codes: header.bases,
-        model: model_number(model),
-        nugget: v.nugget,
-        sill: v.sill,
-        range: v.range,
-        r: options.regularization,
-        t: header.tolerance,
+    compare_word(model_number(model), counts);
+    compare_word(patterns::pattern(v.nugget), counts);
+    compare_word(patterns::pattern(v.sill), counts);
+    compare_word(patterns::pattern(v.range), counts);
+    compare_word(patterns::pattern(options.regularization), counts);
+}
+
+// A file was read: wells, nodes and codes come in, the options and t.
+fn compare_header(header: Header, counts: &mut [u64]) {
+    compare_word(header.wells as u64, counts);
+    compare_word(header.nodes as u64, counts);
+    compare_word(header.bases as u64, counts);
+    compare_options(header.options, counts);
+    compare_word(patterns::pattern(header.tolerance), counts);
+}
+
+// No file was read: there is nothing that it says, and each of these words is 0.
+fn compare_no_header(counts: &mut [u64]) {
+    for _ in 0..HEADERS {
+        compare_word(0, counts);
     }
 }
 
-fn refused(number: u64) -> Came {
-    Came {
-        number,
-        wells: 0,
-        nodes: 0,
-        codes: 0,
-        model: 0,
-        nugget: 0.0,
-        sill: 0.0,
-        range: 0.0,
-        r: 0.0,
-        t: 0.0,
-    }
-}
-
-fn came_of(answer: Read) -> Came {
+// Compares how a call ended: the number comes in, and then what the file says besides its lists.
+fn compare_ending(answer: Read, counts: &mut [u64]) {
+    let wanted = vectors::next_word().value;
     match answer {
-        Read::Done(header) => done(header),
-        Read::Refused(refusal) => refused(error::number(refusal) as u64),
+        Read::Done(header) => {
+            ended_by(counts, 0, wanted);
+            compare_header(header, counts);
+        }
+        Read::Refused(refusal) => {
+            ended_by(counts, error::number(refusal) as u64, wanted);
+            compare_no_header(counts);
+        }
     }
 }
 
-fn compare_size(here: usize, counts: &mut [u64]) {
-    compared(counts, HEADER, here as u64 == vectors::next_word().value);
-}
-
-fn compare_float(here: f64, counts: &mut [u64]) {
-    compared(
-        counts,
-        HEADER,
-        patterns::pattern(here) == vectors::next_word().value,
-    );
-}
-
-// Compares what a file says besides its lists: wells, nodes, codes and the model come in.
-fn compare_counts(came: Came, counts: &mut [u64]) {
-    compare_size(came.wells, counts);
-    compare_size(came.nodes, counts);
-    compare_size(came.codes, counts);
-    compared(counts, HEADER, came.model == vectors::next_word().value);
-}
-
-// And nugget, sill, range, r and t.
-fn compare_numbers(came: Came, counts: &mut [u64]) {
-    compare_float(came.nugget, counts);
-    compare_float(came.sill, counts);
-    compare_float(came.range, counts);
-    compare_float(came.r, counts);
-    compare_float(came.t, counts);
-}
-
-// Compares how a call ended: the number comes in, and then these.
-fn compare_header(came: Came, counts: &mut [u64]) {
-    ended_by(counts, came.number, vectors::next_word().value);
-    compare_counts(came, counts);
-    compare_numbers(came, counts);
-}
-
-// Compares what a call left in the areas.
-fn compare_areas(
-    values: &[f64],
-    coords: &[f64],
-    codes: &[u8],
-    external: &[f64],
-    nodes: &[f64],
-    node_external: &[f64],
-    counts: &mut [u64],
-) {
+// Compares what a call left in the areas of the wells and the codes.
+fn compare_wells(values: &[f64], coords: &[f64], codes: &[u8], counts: &mut [u64]) {
     let mut words = [0u64; NUMBERS];
     let mut told = [0u8; BYTES];
     compare_next_words(values, &mut words, VALUES, counts);
     compare_next_words(coords, &mut words, COORDS, counts);
     compare_next_bytes(codes, &mut told, CODES, counts);
+}
+
+// And of the external values and the nodes.
+fn compare_nodes(external: &[f64], nodes: &[f64], node_external: &[f64], counts: &mut [u64]) {
+    let mut words = [0u64; NUMBERS];
     compare_next_words(external, &mut words, EXTERNAL, counts);
     compare_next_words(nodes, &mut words, NODES, counts);
     compare_next_words(node_external, &mut words, NODE_EXTERNAL, counts);
@@ -208,16 +162,9 @@ fn replay_lent(
         nodes,
         node_external,
     );
-    compare_header(came_of(answer), counts);
-    compare_areas(
-        values,
-        coords,
-        codes,
-        external,
-        nodes,
-        node_external,
-        counts,
-    );
+    compare_ending(answer, counts);
+    compare_wells(values, coords, codes, counts);
+    compare_nodes(external, nodes, node_external, counts);
 }
 
 // The call on a file, with as much of each area as the record lends.

@@ -1,6 +1,12 @@
-// Lists that come in as runs, so that the longest file takes little room: of a run the first items are told, and each later one is as that so many places
-// before it.
+// Lists that come in as runs of bytes, so that the longest file takes little room: of a run the first bytes are told, and each later one is as that so many
+// places before it.
 use libc::STDIN_FILENO;
+use vectors::areas::least;
+
+// The most numbers of a list, and the most bytes.
+pub const NUMBERS: usize = 8256;
+
+pub const BYTES: usize = 66_048;
 
 pub(crate) fn next_size() -> usize {
     vectors::next_word().size()
@@ -13,31 +19,8 @@ fn next_byte() -> u8 {
     one[0]
 }
 
-// Where a part of a list ends that begins at a place.
-fn end_of(from: usize, count: usize) -> usize {
-    std::num::wrapping_add_usize(from, count)
-}
-
-// The next words that come in, from a place up to another one.
-fn load_told_words(words: &mut [u64], from: usize, to: usize) {
-    let mut at = from;
-    while at < words.len() && at < to {
-        words[at] = vectors::next_word().value;
-        at += 1;
-    }
-}
-
-// Each word from a place up to another one as that so many places before it.
-fn repeat_words(words: &mut [u64], from: usize, to: usize, back: usize) {
-    let mut at = from;
-    while at < words.len() && at < to && at >= back {
-        words[at] = words[at - back];
-        at += 1;
-    }
-}
-
 // The next bytes that come in, from a place up to another one.
-fn load_told_bytes(bytes: &mut [u8], from: usize, to: usize) {
+fn load_told(bytes: &mut [u8], from: usize, to: usize) {
     let mut at = from;
     while at < bytes.len() && at < to {
         bytes[at] = next_byte();
@@ -46,7 +29,7 @@ fn load_told_bytes(bytes: &mut [u8], from: usize, to: usize) {
 }
 
 // Each byte from a place up to another one as that so many places before it.
-fn repeat_bytes(bytes: &mut [u8], from: usize, to: usize, back: usize) {
+fn repeat(bytes: &mut [u8], from: usize, to: usize, back: usize) {
     let mut at = from;
     while at < bytes.len() && at < to && at >= back {
         bytes[at] = bytes[at - back];
@@ -54,42 +37,42 @@ fn repeat_bytes(bytes: &mut [u8], from: usize, to: usize, back: usize) {
     }
 }
 
-// The next run of words, from a place on: how many places it has, how many of them are told, and those. Answers where it ends.
-fn load_word_run(words: &mut [u64], from: usize) -> usize {
-    let end = end_of(from, next_size());
+// The next run, from a place on: how many places it has, how many of them are told, and those. Answers where it ends.
+fn load_run(bytes: &mut [u8], from: usize) -> usize {
+    let end = std::num::wrapping_add_usize(from, next_size());
     let told = next_size();
-    let copied = end_of(from, told);
-    load_told_words(words, from, copied);
-    repeat_words(words, copied, end, told);
+    let copied = std::num::wrapping_add_usize(from, told);
+    load_told(bytes, from, copied);
+    repeat(bytes, copied, end, told);
     end
 }
 
-// The next run of bytes, in the same way.
-fn load_byte_run(bytes: &mut [u8], from: usize) -> usize {
-    let end = end_of(from, next_size());
-    let told = next_size();
-    let copied = end_of(from, told);
-    load_told_bytes(bytes, from, copied);
-    repeat_bytes(bytes, copied, end, told);
-    end
-}
-
-// The next list of words: how many runs there are, and those. Answers the list's length.
-pub(crate) fn load_words(words: &mut [u64]) -> usize {
-    let mut at = 0;
-    for _ in 0..next_size() {
-        at = load_word_run(words, at);
-    }
-    at
-}
-
-// The next list of bytes, in the same way.
+// The next list of bytes: how many runs there are, and those. Answers the list's length.
 pub(crate) fn load_bytes(bytes: &mut [u8]) -> usize {
     let mut at = 0;
     for _ in 0..next_size() {
-        at = load_byte_run(bytes, at);
+        at = load_run(bytes, at);
     }
     at
+}
+
+// The words that the bytes of a list are, eight each. Answers how many there are.
+fn words_of(bytes: &[u8], words: &mut [u64]) -> usize {
+    let mut at = 0;
+    let mut place = 0;
+    while at < words.len() && place < bytes.len() {
+        words[at] = patterns::word(bytes, place);
+        place = std::num::wrapping_add_usize(place, 8);
+        at += 1;
+    }
+    at
+}
+
+// The next list of words, which comes as its bytes. Answers its length.
+pub(crate) fn load_words(words: &mut [u64]) -> usize {
+    let mut bytes = [0u8; BYTES];
+    let n = least(load_bytes(&mut bytes), BYTES);
+    words_of(&bytes[..n], words)
 }
 
 // The numbers whose patterns the words are, as far as both lists go.

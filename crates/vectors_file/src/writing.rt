@@ -3,6 +3,8 @@ use crate::compare::FILE;
 use crate::compare::LENGTH;
 use crate::compare::compare_next_bytes;
 use crate::compare::mark_bytes;
+use crate::runs::BYTES;
+use crate::runs::NUMBERS;
 use crate::runs::floats;
 use crate::runs::load_bytes;
 use crate::runs::load_words;
@@ -15,11 +17,6 @@ use vectors::areas::least;
 use vectors::areas::part;
 use vectors::counts::compared;
 use vectors::counts::ended_by;
-
-// The most numbers of a record's lists together, and the most bytes.
-const NUMBERS: usize = 8256;
-
-const BYTES: usize = 65_700;
 
 // Where each list ends among a record's numbers, one after another.
 pub struct Lists {
@@ -131,13 +128,18 @@ fn answer(head: Head, numbers: &[f64], codes: &[u8], file: &mut [u8]) -> Came {
     came_of(answer)
 }
 
-// The call into bytes that hold the marks, and what came of it: the number comes in, how many bytes are written, and those.
-fn replay_lent(head: Head, numbers: &[f64], codes: &[u8], file: &mut [u8], counts: &mut [u64]) {
-    let came = answer(head, numbers, codes, file);
+// Compares what came of a call: the number comes in, how many bytes are written, and those.
+fn compare_written(came: Came, file: &[u8], counts: &mut [u64]) {
     ended_by(counts, came.number, vectors::next_word().value);
     compared(counts, LENGTH, came.count == vectors::next_word().value);
     let mut told = [0u8; BYTES];
     compare_next_bytes(file, &mut told, FILE, counts);
+}
+
+// The call into bytes that hold the marks, and what came of it.
+fn replay_lent(head: Head, numbers: &[f64], codes: &[u8], file: &mut [u8], counts: &mut [u64]) {
+    let came = answer(head, numbers, codes, file);
+    compare_written(came, file, counts);
 }
 
 // The call into as many bytes as the record lends.

@@ -19,9 +19,9 @@ next-size-requires c κs = search needs
 loop-holds : tie.Need-loop-holds Inv-loop μ-loop
 loop-holds c = search needs
 
--- at = load_byte_run(bytes, at);
-load-byte-run-requires : tie.Need-load-byte-run-requires Inv-loop μ-loop
-load-byte-run-requires c κs = search needs
+-- at = load_run(bytes, at);
+load-run-requires : tie.Need-load-run-requires Inv-loop μ-loop
+load-run-requires c κs = search needs
 
 -- for _ in 0..next_size()
 add-counter : tie.Need-add-counter Inv-loop μ-loop
@@ -48,7 +48,7 @@ load-bytes-spec =
     μ-loop
     next-size-requires
     loop-holds
-    load-byte-run-requires
+    load-run-requires
     add-counter
     loop-less
     loop-again

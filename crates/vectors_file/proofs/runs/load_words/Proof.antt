@@ -1,56 +1,46 @@
--- `vectors_file::runs::load_words` is safe and ends: the runs that are left fall.
-use Prim.Native.Nat.{_-_, _≤_}
-use mathlib.Core.Path.{_≡_}
-use lib.ListN.{length}
+-- `vectors_file::runs::load_words` is safe and ends: there are no more words than the bytes that came in.
+use mathlib.Core.Path.{sym}
+use lib.Seq.{length-take-le}
 use borrow.Author.Needs.{needs}
 use Rattle.vectors_file.proofs.runs.load_words.Statement.{statement}
 use Rattle.vectors_file.proofs.runs.load_words.Tie as tie
 
-abbrev Inv-loop : tie.InvT-loop
-Inv-loop words₀ at₀ counter₀ end words at counter = (length words ≡ length words₀) × (counter ≤ end)
+-- let n = least(load_bytes(&mut bytes), BYTES);
+slice-aggregate-load-bytes : tie.Need-slice-aggregate-load-bytes
+slice-aggregate-load-bytes c = search needs
 
-abbrev μ-loop : tie.MeasureT-loop
-μ-loop words₀ at₀ counter₀ end words at counter = end - counter
+load-bytes-requires : tie.Need-load-bytes-requires
+load-bytes-requires c κs = search needs
 
--- for _ in 0..next_size()
-next-size-requires : tie.Need-next-size-requires Inv-loop μ-loop
-next-size-requires c κs = search needs
+least-requires : tie.Need-least-requires
+least-requires c κs = search needs
 
-loop-holds : tie.Need-loop-holds Inv-loop μ-loop
-loop-holds c = search needs
+-- words_of(&bytes[..n], words)
+array-share-prefix-bytes : tie.Need-array-share-prefix-bytes
+array-share-prefix-bytes c = search needs
 
--- at = load_word_run(words, at);
-load-word-run-requires : tie.Need-load-word-run-requires Inv-loop μ-loop
-load-word-run-requires c κs = search needs
+slice-aggregate-words-of : tie.Need-slice-aggregate-words-of
+slice-aggregate-words-of c = sym (length-take-le _ _ (search needs))
 
--- for _ in 0..next_size()
-add-counter : tie.Need-add-counter Inv-loop μ-loop
-add-counter c = search needs
-
-loop-less : tie.Need-loop-less Inv-loop μ-loop
-loop-less c = search needs
-
-loop-again : tie.Need-loop-again Inv-loop μ-loop
-loop-again c = search needs
+words-of-requires : tie.Need-words-of-requires
+words-of-requires c κs = search needs
 
 -- fn load_words(..)
-same-length : tie.Need-same-length Inv-loop μ-loop
+same-length : tie.Need-same-length
 same-length c = search needs
 
-returns : tie.Need-returns Inv-loop μ-loop
+returns : tie.Need-returns
 returns c = search needs
 
 pub load-words-spec : {M : Type 1} → statement M
 load-words-spec =
     tie.close
     (tie.spec
-    Inv-loop
-    μ-loop
-    next-size-requires
-    loop-holds
-    load-word-run-requires
-    add-counter
-    loop-less
-    loop-again
+    slice-aggregate-load-bytes
+    load-bytes-requires
+    least-requires
+    array-share-prefix-bytes
+    slice-aggregate-words-of
+    words-of-requires
     same-length
     returns)

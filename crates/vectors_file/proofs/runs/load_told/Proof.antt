@@ -1,27 +1,24 @@
--- `vectors_file::runs::repeat_bytes` is safe and ends: what is left of the list falls.
+-- `vectors_file::runs::load_told` is safe and ends: what is left of the list falls.
 use Prim.Native.Nat.{_-_}
 use mathlib.Core.Path.{_≡_}
 use lib.ListN.{length}
 use borrow.Author.Needs.{needs}
-use Rattle.vectors_file.proofs.runs.repeat_bytes.Statement.{statement}
-use Rattle.vectors_file.proofs.runs.repeat_bytes.Tie as tie
+use Rattle.vectors_file.proofs.runs.load_told.Statement.{statement}
+use Rattle.vectors_file.proofs.runs.load_told.Tie as tie
 
 abbrev Inv-loop : tie.InvT-loop
-Inv-loop bytes₀ from to back at₀ bytes at = length bytes ≡ length bytes₀
+Inv-loop bytes₀ from to at₀ bytes at = length bytes ≡ length bytes₀
 
 abbrev μ-loop : tie.MeasureT-loop
-μ-loop bytes₀ from to back at₀ bytes at = length bytes₀ - at
+μ-loop bytes₀ from to at₀ bytes at = length bytes₀ - at
 
--- while at < bytes.len() && at < to && at >= back
+-- while at < bytes.len() && at < to
 loop-holds : tie.Need-loop-holds Inv-loop μ-loop
 loop-holds c = search needs
 
--- bytes[at] = bytes[at - back];
-sub-bytes : tie.Need-sub-bytes Inv-loop μ-loop
-sub-bytes c = search needs
-
-slice-read-bytes : tie.Need-slice-read-bytes Inv-loop μ-loop
-slice-read-bytes c = search needs
+-- bytes[at] = next_byte();
+next-byte-requires : tie.Need-next-byte-requires Inv-loop μ-loop
+next-byte-requires c κs = search needs
 
 slice-write-bytes : tie.Need-slice-write-bytes Inv-loop μ-loop
 slice-write-bytes c = search needs
@@ -30,14 +27,14 @@ slice-write-bytes c = search needs
 add-at : tie.Need-add-at Inv-loop μ-loop
 add-at c = search needs
 
--- while at < bytes.len() && at < to && at >= back
+-- while at < bytes.len() && at < to
 loop-less : tie.Need-loop-less Inv-loop μ-loop
 loop-less c = search needs
 
 loop-again : tie.Need-loop-again Inv-loop μ-loop
 loop-again c = search needs
 
--- fn repeat_bytes(..)
+-- fn load_told(..)
 same-length : tie.Need-same-length Inv-loop μ-loop
 same-length c = search needs
 
@@ -50,21 +47,14 @@ same-length-2 c = search needs
 returns-2 : tie.Need-returns-2 Inv-loop μ-loop
 returns-2 c = search needs
 
-same-length-3 : tie.Need-same-length-3 Inv-loop μ-loop
-same-length-3 c = search needs
-
-returns-3 : tie.Need-returns-3 Inv-loop μ-loop
-returns-3 c = search needs
-
-pub repeat-bytes-spec : {M : Type 1} → statement M
-repeat-bytes-spec =
+pub load-told-spec : {M : Type 1} → statement M
+load-told-spec =
     tie.close
     (tie.spec
     Inv-loop
     μ-loop
     loop-holds
-    sub-bytes
-    slice-read-bytes
+    next-byte-requires
     slice-write-bytes
     add-at
     loop-less
@@ -72,6 +62,4 @@ repeat-bytes-spec =
     same-length
     returns
     same-length-2
-    returns-2
-    same-length-3
-    returns-3)
+    returns-2)
