@@ -118,7 +118,9 @@ module _ (s : ℕ) (m : ℕ → ℕ → Float) (xs : List Float) where
     same-area =
         let k = kept-upper s (omega arith) in
         one-fill (2 * s) s (besideIdentity s m) (upper s m s xs)
-        ∙ same-rest 0 (s * (2 * s)) _ (upper s m s xs) xs nan (k .len) (λ i h. absurd (not-suc-le-zero h)) (λ i h. kept-place k i nan (omega (arith, zero-add (s * (2 * s)))))
+        ∙ same-rest 0 (s * (2 * s)) _ (upper s m s xs) xs nan (k .len)
+        (λ i h. absurd (not-suc-le-zero h))
+        (λ i h. kept-place k i nan (omega (arith, zero-add (s * (2 * s)))))
         ∙ sym (one-fill (2 * s) s (besideIdentity s m) xs)
 
     pub completed-upper : completed s (upper s m s xs) ≡ laid s m xs

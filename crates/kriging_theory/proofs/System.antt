@@ -39,7 +39,8 @@ module _ (s : Survey) where
   back : (l : ℕ) → wells s + l - wells s ≡ l
   back l = omega arith
 
-  pub entry-is : (u v : Index) → Within (systemOf s) u → Within (systemOf s) v → entry s (rowOf (systemOf s) u) (rowOf (systemOf s) v) ≡ coefficientOf (systemOf s) u v
+  pub entry-is : (u v : Index) → Within (systemOf s) u → Within (systemOf s) v
+      → entry s (rowOf (systemOf s) u) (rowOf (systemOf s) v) ≡ coefficientOf (systemOf s) u v
   unfolding entry joined between coefficientOf variogramOf
   entry-is (Well i) (Well j) hu hv = rw (inside i hu, inside j hv)
   entry-is (Well i) (Drift l) hu hv = rw (inside i hu, past l, back l) (drift-well s i l)
@@ -68,7 +69,8 @@ pub right-length : (s : Survey) (q : ℕ) → length (rightHand s q) ≡ size s
 unfolding rightHand rightHandOf
 right-length s q = length-append (table (wells s) _) (nodeRow s q) ∙ ap₂ (λ (m n : ℕ). m + n) (table-length (wells s) _) (node-row-length s q)
 
-pub right-is : (s : Survey) (q : ℕ) (u : Index) → Within (systemOf s) u → getD (rightHand s q) (rowOf (systemOf s) u) nan ≡ rightOf (systemOf s) (nodePlace s q) u
+pub right-is : (s : Survey) (q : ℕ) (u : Index) → Within (systemOf s) u
+    → getD (rightHand s q) (rowOf (systemOf s) u) nan ≡ rightOf (systemOf s) (nodePlace s q) u
 unfolding rightHand rightHandOf rightOf variogramOf
 right-is s q (Well i) h = joined-at (wells s) _ (nodeRow s q) i nan h
 right-is s q (Drift l) h = joined-past (wells s) _ (nodeRow s q) l nan ∙ drift-node s q l

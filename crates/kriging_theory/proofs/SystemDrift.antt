@@ -1,4 +1,5 @@
--- The drift functions of the system, at the wells and at the nodes, are the drift columns of the fit: there are p of them, and row i of F and f0 hold their values.
+-- The drift functions of the system, at the wells and at the nodes, are the drift columns of the fit: there are p of them, and row i of F and f0 hold their
+-- values.
 use Prim.Native.Nat.{ℕ, suc, _+_}
 use native.Mathlib.Nat.{add-zero}
 use native.Mathlib.Numerals.{add-one}
