@@ -7,7 +7,7 @@ use mathlib.Core.Path.{_≡_, refl, ap, sym, _∙_}
 use mathlib.Core.Logic.{_≢_}
 use mathlib.Core.Bool.{Bool, cond}
 use mathlib.Core.List.{List}
-use lib.Dec.{eqb, ltb}
+use lib.Dec.{eqb}
 use lib.ListN.{length, getD}
 use lib.Ieee.{Float}
 use borrow.Author.Tests.{lt-ltb, le-ltb, eq-eqb, ne-eqb}
@@ -23,7 +23,7 @@ unfolding laid besideIdentity
 same-laid s e f work h =
     same-entries (2 * s) s _ _ work (λ i c hi hc.
     elim (decLt c s) [
-      | yes l ↦ ap (λ (x : Float). cond (ltb c s) x (cond (eqb c (s + i)) oneFloat zeroFloat)) (h i c hi l)
+      | yes l ↦ rw (lt-ltb c s l) (h i c hi l)
       | no n ↦ rw (le-ltb c s (omega arith))
     ])
 
