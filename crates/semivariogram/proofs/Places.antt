@@ -9,18 +9,19 @@ use mathlib.Core.List.{List, [], _∷_, _++_}
 use lib.ListN.{length, getD, set, drop, length-drop}
 use lib.Seq.{drop-cons, getD-set-same, getD-set-other}
 use lib.Ieee.{Float, nan}
+use Rattle.survey.specs.Limits.{base}
 use Rattle.semivariogram_theory.specs.Pairs.{Pair, pair, pairsFrom, pairs}
 use Rattle.semivariogram_theory.proofs.Pairs.{twice}
-use Rattle.semivariogram.specs.Parts.{Reached, Stored}
+use Rattle.semivariogram.specs.Parts.{mostPairs, Reached, Stored}
 use Rattle.semivariogram.proofs.Passes.{laterFrom, next-sample, no-sample, next-later, no-later, all-pairs}
 
--- 48 samples have 1,128 pairs, and fewer no more
-pub few-pairs : (n : ℕ) → n ≤ 48 → length (pairs n) ≤ 1128
+-- fewer samples than the most have no more pairs
+pub few-pairs : (n : ℕ) → n ≤ base .wells → length (pairs n) ≤ mostPairs
 unfolding pairs
 few-pairs zero h = let t = twice 0 0 in omega arith
 few-pairs (suc m) h =
-    let l : m ≤ 47 = omega arith in
-    let k : suc m * m ≤ 48 * 47 = mul-le-mul h l in
+    let l : m ≤ base .wells - 1 = omega arith in
+    let k : suc m * m ≤ base .wells * (base .wells - 1) = mul-le-mul h l in
     let s : suc m * suc m ≡ suc m * m + suc m = mul-suc (suc m) m in
     omega (arith, twice 0 (suc m))
 

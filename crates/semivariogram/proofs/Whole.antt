@@ -10,9 +10,10 @@ use Rattle.error.specs.declared.Refusal.{Refusal}
 use Rattle.error.proofs.First.{numbers}
 use Rattle.ieee.specs.Floats.{zeroFloat}
 use Rattle.survey.specs.declared.Limits.{Limits}
+use Rattle.survey.specs.Limits.{base}
 use Rattle.semivariogram_theory.specs.Pairs.{pairs}
 use Rattle.semivariogram_theory.specs.Call.{Samples, Areas, Outcome, samples}
-use Rattle.semivariogram_theory.specs.Refusals.{refusal}
+use Rattle.semivariogram_theory.specs.Refusals.{mostBins, refusal}
 use Rattle.semivariogram_theory.specs.Bins.{sumIn, count, keptBins, filled}
 use Rattle.semivariogram.specs.Parts.{Taken, Left}
 use Rattle.semivariogram_theory.specs.Semivariogram.{callWhere, calculated}
@@ -22,15 +23,15 @@ use Rattle.semivariogram_theory.proofs.Calculated.{is-done, ends}
 
 -- ---- the start
 -- what is known of a call that is not refused
-pub taken-is : (q : Samples) (a : Areas) → Accepted q a → samples q ≤ 48 → Taken q
+pub taken-is : (q : Samples) (a : Areas) → Accepted q a → samples q ≤ base .wells → Taken q
 taken-is q a k h = record { dimension = k .dimension; few = h; points = k .points; coordinates = k .coordinates; bins = k .bins }
 
 -- before the first pair all sums and counts are 0
-pub none-added : (q : Samples) → q .bins ≤ 64 → Left q (pairs (samples q)) (replicate 64 zeroFloat) (replicate 64 0)
+pub none-added : (q : Samples) → q .bins ≤ mostBins → Left q (pairs (samples q)) (replicate mostBins zeroFloat) (replicate mostBins 0)
 unfolding count
 none-added q h = record {
-  sum = λ b l. ap (λ (s : Float). sumIn q b s (pairs (samples q))) (getD-replicate 64 b zeroFloat nan (omega arith));
-  number = λ b l. ap (λ (n : ℕ). n + count q b) (getD-replicate 64 b 0 0 (omega arith)) ∙ zero-add (count q b);
+  sum = λ b l. ap (λ (s : Float). sumIn q b s (pairs (samples q))) (getD-replicate mostBins b zeroFloat nan (omega arith));
+  number = λ b l. ap (λ (n : ℕ). n + count q b) (getD-replicate mostBins b 0 0 (omega arith)) ∙ zero-add (count q b);
 }
 
 -- ---- the end

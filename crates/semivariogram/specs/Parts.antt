@@ -1,5 +1,5 @@
 -- What the parts of the call's code have worked out: the squared distances of a list of points, the bounds of the bins, and the bins while pairs are left.
-use Prim.Native.Nat.{ℕ, _+_, _-_, _*_, _≤_, _<_, min}
+use Prim.Native.Nat.{ℕ, _+_, _-_, _*_, _/_, _≤_, _<_, min}
 use mathlib.Core.Path.{_≡_}
 use mathlib.Core.Bool.{false}
 use mathlib.Core.List.{List}
@@ -11,17 +11,23 @@ use Rattle.ieee.specs.Floats.{zeroFloat, floorOf}
 use Rattle.ieee.specs.Root.{sqrtOf}
 use Rattle.ieee.specs.Values.{Signed}
 use Rattle.variogram.specs.Distance.{squares, axisFrom}
+use Rattle.survey.specs.Limits.{base}
 use Rattle.semivariogram_theory.specs.Pairs.{Pair, pair, pairs}
 use Rattle.semivariogram_theory.specs.Call.{Samples, samples}
+use Rattle.semivariogram_theory.specs.Refusals.{mostBins}
 use Rattle.semivariogram_theory.specs.Bins.{countIn, sumIn, count}
+
+-- "i < j": of the most samples, "n > 48" being refused, so many pairs
+abbrev pub mostPairs : ℕ
+mostPairs = base .wells * (base .wells - 1) / 2
 
 -- what is known of a call that is not refused
 pub record Taken (q : Samples) : Type 0 where
   pub dimension : (1 ≤ q .dimension) × (q .dimension ≤ 3)
-  pub few : samples q ≤ 48
+  pub few : samples q ≤ base .wells
   pub points : length (q .points) ≡ samples q * q .dimension
   pub coordinates : (k : ℕ) → k < length (q .points) → T (finite (getD (q .points) k nan))
-  pub bins : (1 ≤ q .bins) × (q .bins ≤ 64)
+  pub bins : (1 ≤ q .bins) × (q .bins ≤ mostBins)
 
 -- the squared distance of a pair of points of d numbers, row after row
 abbrev pub squareIn : List Float → ℕ → Pair → Float

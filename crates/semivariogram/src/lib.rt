@@ -8,10 +8,12 @@ use crate::binning::add_pairs;
 use crate::binning::write_kept;
 use crate::bounds::bin_bounds;
 use crate::distances::all_squares;
+use crate::refusals::MOST_BINS;
 use crate::refusals::calculate_refusal;
 use error::Judgement;
 use error::Refusal;
 use survey::Limits;
+use survey::MOST_WELLS;
 ghost use mathlib.Core.Path.{_≡_};
 ghost use lib.ListN.{length};
 ghost use Rattle.survey.specs.Limits.{base};
@@ -21,6 +23,9 @@ ghost use Rattle.semivariogram_theory.specs.Call.{samplesOf, areasOf};
 ghost use Rattle.semivariogram.specs.Outcome.{outcomeOf};
 ghost use Rattle.semivariogram_theory.specs.Semivariogram.{calculated};
 ghost use Rattle.semivariogram_theory.specs.Binned.{Ends};
+
+// The pairs of the most samples.
+const MOST_PAIRS: usize = MOST_WELLS * (MOST_WELLS - 1) / 2;
 
 // How a call of the calculator ends.
 pub enum Semivariogram {
@@ -46,12 +51,12 @@ fn kept_bins(
         ≡ filled (samplesOf (now (points .entry)) (now (values .entry)) d «n_bins»)
         (areasOf (now (distances .entry)) (now (semivariances .entry)) (now (counts .entry)))) ⌝ }
 {
-    let mut squares = [0.0; 1128];
+    let mut squares = [0.0; MOST_PAIRS];
     let max_sq = all_squares(points, values.len(), d, &mut squares);
     let max_dist = ieee::sqrt(max_sq);
     let bin_width = max_dist / std::num::nearest_u64_to_f64(n_bins as u64);
-    let mut lows = [0.0; 64];
-    let mut highs = [0.0; 64];
+    let mut lows = [0.0; MOST_BINS];
+    let mut highs = [0.0; MOST_BINS];
     let bounded = bin_bounds(
         bin_width,
         n_bins,
@@ -60,8 +65,8 @@ fn kept_bins(
         &mut lows,
         &mut highs,
     );
-    let mut bin_sums = [0.0; 64];
-    let mut bin_counts = [0; 64];
+    let mut bin_sums = [0.0; MOST_BINS];
+    let mut bin_counts = [0; MOST_BINS];
     add_pairs(
         points,
         values,

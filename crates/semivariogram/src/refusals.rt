@@ -12,7 +12,7 @@ ghost use Rattle.semivariogram_theory.specs.Call.{samplesOf, areasOf};
 ghost use Rattle.semivariogram_theory.specs.Refusals.{refusal};
 
 // The most bins.
-const MOST_BINS: usize = 64;
+pub(crate) const MOST_BINS: usize = 64;
 
 // Whether a number is not one of least..=most.
 fn outside(number: usize, least: usize, most: usize) -> bool

@@ -15,14 +15,14 @@ use Rattle.ieee.proofs.FiniteLists.{is-finite}
 use Rattle.survey.specs.declared.Limits.{Limits}
 use Rattle.semivariogram_theory.specs.Call.{Samples, Areas, answerAreas, samples}
 use Rattle.semivariogram_theory.specs.Rules.{rules}
-use Rattle.semivariogram_theory.specs.Refusals.{refusal}
+use Rattle.semivariogram_theory.specs.Refusals.{mostBins, refusal}
 use Rattle.semivariogram_theory.proofs.Told.{told}
 
 pub record Accepted (q : Samples) (a : Areas) : Type 0 where
   pub dimension : (1 ≤ q .dimension) × (q .dimension ≤ 3)
   pub points : length (q .points) ≡ samples q * q .dimension
   pub coordinates : (k : ℕ) → k < length (q .points) → T (finite (getD (q .points) k nan))
-  pub bins : (1 ≤ q .bins) × (q .bins ≤ 64)
+  pub bins : (1 ≤ q .bins) × (q .bins ≤ mostBins)
   pub distances : q .bins ≤ length (a .distances)
   pub semivariances : q .bins ≤ length (a .semivariances)
   pub counts : q .bins ≤ length (a .counts)
@@ -37,7 +37,7 @@ accepted limits q a h =
     let d1 : ¬ (q .dimension < 1) = λ x. not 13 (inl x) in
     let d3 : ¬ (3 < q .dimension) = λ x. not 13 (inr x) in
     let b1 : ¬ (q .bins < 1) = λ x. not 15 (inl x) in
-    let b64 : ¬ (64 < q .bins) = λ x. not 15 (inr x) in
+    let b64 : ¬ (mostBins < q .bins) = λ x. not 15 (inr x) in
     let long : (i : ℕ) → areaAt (answerAreas q a) i .taken ≤ areaAt (answerAreas q a) i .places = long-at (answerAreas q a) (not 18) in
     record {
       dimension = omega arith;

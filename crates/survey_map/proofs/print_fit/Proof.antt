@@ -151,7 +151,8 @@ returns-2 c =
     let w = c .before .before in
     let r = at-refused (w .before) in
     let f = at-fit (r .before .before) in
-    same-text (at-entry f .args .text .now) (refused-text (survey-of f) (left f) (r .fit .given .0 .0) (refused r)) (w .write-refusal .ensures .0, w .write-refusal .ensures .1 .0)
+    same-text (at-entry f .args .text .now) (refused-text (survey-of f) (left f) (r .fit .given .0 .0) (refused r))
+    (w .write-refusal .ensures .0, w .write-refusal .ensures .1 .0)
 
 pub print-fit-spec : {M : Type 1} → statement M
 print-fit-spec =

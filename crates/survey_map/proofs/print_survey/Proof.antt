@@ -136,7 +136,8 @@ returns-2 c =
     let f = at-reader (r .before .before) in
     let s = at-entry f in
     let e = ended-as f _ (r .read2 .given .1) in
-    same-text (s .args .text .now) (unread-text (s .args .bytes .now) (r .read2 .given .0 .0) (e .ruled _ .0 refl)) (w .write-refusal .ensures .0, w .write-refusal .ensures .1 .0)
+    same-text (s .args .text .now) (unread-text (s .args .bytes .now) (r .read2 .given .0 .0) (e .ruled _ .0 refl))
+    (w .write-refusal .ensures .0, w .write-refusal .ensures .1 .0)
 
 pub print-survey-spec : {M : Type 1} → statement M
 print-survey-spec =

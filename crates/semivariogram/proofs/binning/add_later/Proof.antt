@@ -12,7 +12,7 @@ use Rattle.ieee.specs.Values.{Signed}
 use Rattle.semivariogram_theory.specs.Pairs.{Pair, pair, pairsFrom, pairs}
 use Rattle.semivariogram_theory.specs.Call.{Samples, samplesOf}
 use Rattle.semivariogram_theory.specs.Bins.{lag, halfSquare, binOf}
-use Rattle.semivariogram.specs.Parts.{squareIn, Reached, Left}
+use Rattle.semivariogram.specs.Parts.{mostPairs, squareIn, Reached, Left}
 use Rattle.semivariogram.proofs.Passes.{laterFrom}
 use Rattle.semivariogram.proofs.Places.{few-pairs, is-next, one-read, first-of, here-of, next-of, last-of}
 use Rattle.semivariogram.proofs.Squares.{square-in, square-clear, root-is}
@@ -67,7 +67,7 @@ here c =
     let l = c .before .loop in
     here-of (length (a .values .now)) (a .i) (l .j) _ (l .place) (omega (arith, c .loop-test .taken, l .inv .1)) (l .inv .6)
 
-place-inside : (c : State tie.In-loop) → c .before .loop .place < 1128
+place-inside : (c : State tie.In-loop) → c .before .loop .place < mostPairs
 place-inside c =
     let s = at-entry (c .before) in
     let n = length (s .args .values .now) in
@@ -104,7 +104,7 @@ sum-place : (c : State tie.After-pair-bin) → c .pair-bin .result * 8 < 2 ^ 64
 sum-place c = omega (arith, below-bins c, at-entry (at-loop c) .pre .6 .bins)
 
 -- and one more in its count
-fits-more : (c : State tie.After-pair-bin) → getD (at-loop c .loop .bin-counts) (c .pair-bin .result) 0 ≤ 1128
+fits-more : (c : State tie.After-pair-bin) → getD (at-loop c .loop .bin-counts) (c .pair-bin .result) 0 ≤ mostPairs
 fits-more c =
     let l = at-loop c in
     let s = at-entry l in

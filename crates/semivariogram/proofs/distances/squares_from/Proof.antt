@@ -10,7 +10,7 @@ use lib.ListN.{length, length-set}
 use Rattle.area.proofs.Rows.{row-end}
 use Rattle.semivariogram_theory.specs.Pairs.{pair, pairsFrom, pairs}
 use Rattle.semivariogram_theory.specs.Bins.{greatest}
-use Rattle.semivariogram.specs.Parts.{squareIn, Reached, Stored}
+use Rattle.semivariogram.specs.Parts.{mostPairs, squareIn, Reached, Stored}
 use Rattle.semivariogram.proofs.Passes.{later, laterFrom, greatest-turn, greatest-last}
 use Rattle.semivariogram.proofs.Places.{few-pairs, is-next, one-stored, first-of, here-of, next-of, last-of}
 use Rattle.semivariogram.proofs.distances.squares_from.Statement.{statement}
@@ -37,7 +37,7 @@ here : (c : State tie.In-loop) → let a = at-entry (c .before) .args in let l =
     Reached (pairs (a .n)) (pair (a .i) (l .j) ∷ (laterFrom (a .i) (suc (l .j)) (a .n) ++ pairsFrom (suc (a .i)) (a .n - suc (a .i)))) (l .place)
 here c = let a = at-entry (c .before) .args in let l = c .before .loop in here-of (a .n) (a .i) (l .j) _ (l .place) (c .loop-test .taken) (l .inv .5)
 
-place-inside : (c : State tie.In-loop) → c .before .loop .place < 1128
+place-inside : (c : State tie.In-loop) → c .before .loop .place < mostPairs
 place-inside c =
     let s = at-entry (c .before) in
     omega (arith, is-next (pairs (s .args .n)) _ _ (c .before .loop .place) (here c) .0, few-pairs (s .args .n) (s .pre .1))
