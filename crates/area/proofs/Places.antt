@@ -121,7 +121,8 @@ same-rest start k f xs ys d l before past =
           elim (decLt i (start + k)) [
             | yes q ↦
                 let e : start + (i - start) ≡ i = omega arith in
-                rw (← e) (at-place start k f xs (i - start) d (omega arith) (omega arith) ∙ sym (at-place start k f ys (i - start) d (omega arith) (omega arith)))
+                rw (← e) (at-place start k f xs (i - start) d (omega arith) (omega arith)
+                ∙ sym (at-place start k f ys (i - start) d (omega arith) (omega arith)))
             | no q ↦
                 other-place start k f xs i d (λ j c. omega arith) ∙ past i (omega arith) ∙ sym (other-place start k f ys i d (λ j c. omega arith))
           ]

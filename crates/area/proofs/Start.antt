@@ -29,7 +29,8 @@ first-written : {A : Type 0} (d : A) (xs area : List A) (k : ℕ) → k ≤ leng
     → written 0 k (λ j. getD xs j d) area ≡ take k xs ++ drop k area
 first-written d xs area zero h g = refl
 first-written {A} d xs area (suc k) h g =
-    ap (λ (ys : List A). set ys (0 + k) (getD xs k d)) (first-written d xs area k (omega arith) (omega arith) ∙ ap (λ (ys : List A). take k xs ++ ys) (drop-cons area k d g))
+    ap (λ (ys : List A). set ys (0 + k) (getD xs k d)) (first-written d xs area k (omega arith) (omega arith)
+    ∙ ap (λ (ys : List A). take k xs ++ ys) (drop-cons area k d g))
     ∙ set-at (take k xs) (getD area k d) (drop (suc k) area) (getD xs k d) (0 + k) (length-take-le k xs (omega arith) ∙ sym (zero-add k))
     ∙ sym (append-snoc (take k xs) (getD xs k d) (drop (suc k) area))
     ∙ ap (λ (ys : List A). ys ++ drop (suc k) area) (sym (take-suc xs k d h))

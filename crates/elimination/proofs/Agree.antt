@@ -35,7 +35,8 @@ agree-written n start k f g xs ys fit e h =
         let inside : p - start < k = omega arith in
         let long = h .left in
         let long′ = h .right in
-        rw (← at-it) (at-place start k f xs (p - start) nan (omega arith) inside ∙ e (p - start) inside ∙ sym (at-place start k g ys (p - start) nan (omega arith) inside))
+        rw (← at-it) (at-place start k f xs (p - start) nan (omega arith) inside ∙ e (p - start) inside
+        ∙ sym (at-place start k g ys (p - start) nan (omega arith) inside))
     by p b (no l) (no m) = getD-past start k f xs p nan (omega arith) ∙ h .same p b ∙ sym (getD-past start k g ys p nan (omega arith))
 
 -- ---- the stages of a step, on s rows of w
@@ -53,8 +54,11 @@ module _ (w s : ℕ) (xs ys : List Float) (h : Agree (s * w) xs ys) where
   same-held i (suc m) hi b =
       let r = same-held i m hi (omega arith) in
       let test : lt (magnitude w i xs (held w i m xs)) (magnitude w i xs (i + 1 + m)) ≡ lt (magnitude w i ys (held w i m ys)) (magnitude w i ys (i + 1 + m)) =
-      ap₂ lt (same-magnitude i (held w i m xs) hi (omega arith) ∙ ap (magnitude w i ys) (r .0)) (same-magnitude i (i + 1 + m) hi (omega arith)) in
-      (ap₂ (λ (t : Bool) (k : ℕ). cond t (i + 1 + m) k) test (r .0), by (lt (magnitude w i xs (held w i m xs)) (magnitude w i xs (i + 1 + m))) (held w i m xs) (r .1))
+      ap₂ lt (same-magnitude i (held w i m xs) hi (omega arith) ∙ ap (magnitude w i ys) (r .0)) (same-magnitude i (i + 1 + m) hi (omega arith)) in (
+        ap₂ (λ (t : Bool) (k : ℕ). cond t (i + 1 + m) k) test (r .0),
+        by (lt (magnitude w i xs (held w i m xs)) (magnitude w i xs (i + 1 + m)))
+            (held w i m xs) (r .1),
+      )
     where
       by : (t : Bool) (k : ℕ) → k ≤ i + m → cond t (i + 1 + m) k ≤ i + suc m
       by true k l = omega arith
@@ -87,7 +91,8 @@ agree-either {n} p q xs ys us vs e g h = subst (λ (b : Bool). Agree n (cond p x
     by true = g
     by false = h
 
-agree-cleared : (skip : Bool) (w s i n : ℕ) (xs ys : List Float) → n ≤ s → i < s → i < w → Agree (s * w) xs ys → Agree (s * w) (cleared skip w i n xs) (cleared skip w i n ys)
+agree-cleared : (skip : Bool) (w s i n : ℕ) (xs ys : List Float) → n ≤ s → i < s → i < w → Agree (s * w) xs ys
+    → Agree (s * w) (cleared skip w i n xs) (cleared skip w i n ys)
 unfolding cleared
 agree-cleared skip w s i zero xs ys l hi hw h = h
 agree-cleared skip w s i (suc k) xs ys l hi hw h =
@@ -111,7 +116,8 @@ agree-step skip s i xs ys b h =
     (agree-swapped w s xs ys h i (hold s i xs) b (hold-below s i xs b)) in
     agree-cleared skip w s i s _ _ (omega arith) b (omega arith) (agree-divided w s _ _ g i b (omega arith))
 
-pub agree-stepped : (skip : Bool) (s n : ℕ) (xs ys : List Float) → n ≤ s → Agree (s * (2 * s)) xs ys → Agree (s * (2 * s)) (stepped skip s n xs) (stepped skip s n ys)
+pub agree-stepped : (skip : Bool) (s n : ℕ) (xs ys : List Float) → n ≤ s → Agree (s * (2 * s)) xs ys
+    → Agree (s * (2 * s)) (stepped skip s n xs) (stepped skip s n ys)
 unfolding stepped
 agree-stepped skip s zero xs ys l h = h
 agree-stepped skip s (suc n) xs ys l h = agree-step skip s n _ _ l (agree-stepped skip s n xs ys (omega arith) h)

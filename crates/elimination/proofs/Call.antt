@@ -155,7 +155,8 @@ module _ {A : Type 0} (ts : List Test) (rules : List Rule) (c : Call A) (tests :
       refused-so n m (gone-through y t f) = absurd (n (number-is f))
 
   -- what holds of the areas however the call ends: of those lent, of those where a step stopped, and of those where all went through
-  pub whichever : (P : A → Type 0) → P (c .lent) → ((i : ℕ) → i ≤ c .size → P (c .stopped (workAfter c i))) → P (c .answered (workAfter c (c .size))) → P (called c .areas)
+  pub whichever : (P : A → Type 0) → P (c .lent) → ((i : ℕ) → i ≤ c .size → P (c .stopped (workAfter c i))) → P (c .answered (workAfter c (c .size)))
+      → P (called c .areas)
   whichever P a b d = by way
     where
       by : Way rules c → P (called c .areas)

@@ -48,7 +48,13 @@ data Ways (skip : Bool) (s n : ℕ) (xs : List Float) : Type 0 where
 
 one-more : (skip : Bool) (s n : ℕ) (xs : List Float) → n < s → (b : Bool) → small s n (stepped skip s n xs) ≡ b → Through skip s n xs → Ways skip s (suc n) xs
 one-more skip s n xs h true e t = stop n (record { before = t; reached = h; below = e })
-one-more skip s n xs h false e t = through (record { whole = t .whole; steps = h; none = λ k b. below-more (λ (k : ℕ). small s k (stepped skip s k xs) ≡ false) n (t .none) e k (rw add-one b) })
+one-more skip s n xs h false e t =
+    through (record {
+      whole = t .whole;
+      steps = h;
+      none = λ k b. below-more (λ (k : ℕ). small s k (stepped skip s k xs) ≡ false) n (t .none) e k
+          (rw add-one b);
+    })
 
 ways : (skip : Bool) (s n : ℕ) (xs : List Float) → n ≤ s → Ways skip s n xs
 ways skip s zero xs h =

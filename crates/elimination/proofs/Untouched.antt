@@ -1,4 +1,5 @@
--- The whole elimination keeps the area's length and leaves what lies past 2·s·s as it was, for every s and every area: "all past the named lengths is untouched".
+-- The whole elimination keeps the area's length and leaves what lies past 2·s·s as it was, for every s and every area: "all past the named lengths is
+-- untouched".
 use Prim.Native.Nat.{ℕ, zero, suc, _+_, _*_, _≤_}
 use native.Mathlib.Omega.{arith}
 use mathlib.Core.Path.{_≡_}

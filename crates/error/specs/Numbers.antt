@@ -3,7 +3,9 @@ use Prim.Native.Nat.{ℕ}
 use Rattle.error.specs.declared.Judgement.{Judgement}
 use Rattle.error.specs.declared.Judgement.the-variants.{Accepted, Refused}
 use Rattle.error.specs.declared.Refusal.{Refusal}
-use Rattle.error.specs.declared.Refusal.the-variants.{CoordinatesLength, NodesLength, NoBasis, BasisCode, Regularization, ExternalLength, TooFewWells, NodeExternalLength, TooMany, Tolerance, NotFinite, Model, Dimension, TooFewSamples, Bins, SurveyFile, WorkArea, AnswerArea, Singular}
+use Rattle.error.specs.declared.Refusal.the-variants.{CoordinatesLength, NodesLength, NoBasis, BasisCode, Regularization, ExternalLength}
+use Rattle.error.specs.declared.Refusal.the-variants.{TooFewWells, NodeExternalLength, TooMany, Tolerance, NotFinite, Model, Dimension}
+use Rattle.error.specs.declared.Refusal.the-variants.{TooFewSamples, Bins, SurveyFile, WorkArea, AnswerArea, Singular}
 
 -- each line is a line of the paper's list
 abbrev pub numberOf : Refusal → ℕ

@@ -1,6 +1,7 @@
 -- No sum of up to 2^80 products of f64 wraps in 67 words: what is read is the exact sum, in units of 2^-2148.
 use Prim.Native.Nat.{ℕ, zero, suc, _+_, _*_, _/_, _%_, _^_, _-_, _≤_, _<_}
-use native.Mathlib.Nat.{le-trans, le-of-lt, le-of-eq, lt-of-le-of-lt, mul-le-mul, mul-le-mul-right, mul-lt-mul-of-pos-right, mul-right-comm, one-mul, zero-mul, zero-div, add-mul, div-lt-iff-lt-mul, add-le-add}
+use native.Mathlib.Nat.{le-trans, le-of-lt, le-of-eq, lt-of-le-of-lt, mul-le-mul, mul-le-mul-right, mul-lt-mul-of-pos-right}
+use native.Mathlib.Nat.{mul-right-comm, one-mul, zero-mul, zero-div, add-mul, div-lt-iff-lt-mul, add-le-add}
 use native.Mathlib.Omega.{arith}
 use mathlib.Core.Path.{_≡_, refl, sym, ap, _∙_, subst, ap₂}
 use mathlib.Core.Bool.{Bool, true, false, cond, _&&_}
@@ -36,7 +37,9 @@ multiple-lt (fin s zero e) f =
     subst (λ (n : ℕ). n < 2 ^ 2098)
     (sym (ap (λ (n : ℕ). n / down e) (ap (λ (n : ℕ). n * 2 ^ 1074) (zero-mul (up e)) ∙ zero-mul (2 ^ 1074)) ∙ zero-div (down e))) (pow-pos 2098)
 multiple-lt (fin s (suc m) e) f =
-    let k : suc m * up e < 2 ^ 1024 * down e = ltb→lt (suc m * up e) (2 ^ 1024 * down e) (and-r (eqb (suc m % 2) 1 && ltb (suc m) (2 ^ 53) && leb (down e) (2 ^ 1074)) (ltb (suc m * up e) (2 ^ 1024 * down e)) f) in
+    let k : suc m * up e < 2 ^ 1024 * down e =
+    ltb→lt (suc m * up e) (2 ^ 1024 * down e) (and-r (eqb (suc m % 2) 1 && ltb (suc m) (2 ^ 53) && leb (down e) (2 ^ 1074))
+    (ltb (suc m * up e) (2 ^ 1024 * down e)) f) in
     div-lt-iff-lt-mul (down-pos e) .1 (
     subst (λ (n : ℕ). suc m * up e * 2 ^ 1074 < n) (mul-right-comm (2 ^ 1024) (down e) (2 ^ 1074)) (mul-lt-mul-of-pos-right k (pow-pos 1074)))
 
@@ -100,7 +103,8 @@ pub terms-sum : (k : ℕ) (x y : ℕ → Float) → Terms k (sumℤ k (λ i. uni
 terms-sum k x y =
     record {
       within =
-          sumℤ-bound k (λ i. units (x i) *ℤ units (y i)) termBound (λ i l. subst (λ (n : ℕ). natAbs (units (x i) *ℤ units (y i)) ≤ n) (one-mul termBound) (term (x i) (y i) .within));
+          sumℤ-bound k (λ i. units (x i) *ℤ units (y i)) termBound (λ i l. subst (λ (n : ℕ). natAbs (units (x i) *ℤ units (y i)) ≤ n) (one-mul termBound)
+          (term (x i) (y i) .within));
     }
 
 -- ---- nothing wraps
@@ -148,6 +152,7 @@ module _ (ws : List ℕ) (w : Words ws) (l : length ws ≡ 67) (x y : Float) whe
   right-not-finite h = nothing (ap (λ (z : ℤ). units x *ℤ z) (units-not-finite y h) ∙ *ℤ-zero (units x))
 
 -- the definitions compute: the largest product twice less one unit, and back
-computes : reading (held (units (ofBits binary64 0x7fef_ffff_ffff_ffff) *ℤ units (ofBits binary64 0xffef_ffff_ffff_ffff) *ℤ pos 2 -ℤ pos 1)) ≡ negℤ (pos ((2 ^ 53 - 1) ^ 2 * 2 ^ 4091 + 1))
+computes : reading (held (units (ofBits binary64 0x7fef_ffff_ffff_ffff) *ℤ units (ofBits binary64 0xffef_ffff_ffff_ffff) *ℤ pos 2 -ℤ pos 1))
+    ≡ negℤ (pos ((2 ^ 53 - 1) ^ 2 * 2 ^ 4091 + 1))
 unfolding units ofBits toBits held residue modulus half reading
 computes = refl

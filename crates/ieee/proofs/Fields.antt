@@ -34,7 +34,8 @@ unfolding ofFields
 fields-value s zero t h = subst (λ (n : ℕ). HasValue (odd 53 s t 0 1074) s n (2 ^ 1074)) (mul-one t) (odd-sign 53 s t 0 1074)
 fields-value s (suc e) t h = go (eqb (suc e) 2047) (eqb t 0) h
   where
-    go : (a b : Bool) → T (finite (cond a (cond b (inf s) nan) (odd 53 s (2 ^ 52 + t) e 1074))) → HasValue (cond a (cond b (inf s) nan) (odd 53 s (2 ^ 52 + t) e 1074)) s ((2 ^ 52 + t) * 2 ^ e) (2 ^ 1074)
+    go : (a b : Bool) → T (finite (cond a (cond b (inf s) nan) (odd 53 s (2 ^ 52 + t) e 1074)))
+        → HasValue (cond a (cond b (inf s) nan) (odd 53 s (2 ^ 52 + t) e 1074)) s ((2 ^ 52 + t) * 2 ^ e) (2 ^ 1074)
     go true true k = absurd k
     go true false k = absurd k
     go false b k = odd-sign 53 s (2 ^ 52 + t) e 1074
@@ -49,7 +50,8 @@ bits-value x f h =
     subst (λ (y : Float). HasValue y (leb (2 ^ 63) b) (fieldsMultiple (b % 2 ^ 63 / 2 ^ 52) (b % 2 ^ 52)) (2 ^ 1074)) is
     (fields-value (leb (2 ^ 63) b) (b % 2 ^ 63 / 2 ^ 52) (b % 2 ^ 52) (subst (λ (y : Float). T (finite y)) (sym is) h))
 
-pub multiple-of-bits : (x : Float) → T (fits binary64 x) → T (finite x) → multiple x ≡ fieldsMultiple (toBits binary64 x % 2 ^ 63 / 2 ^ 52) (toBits binary64 x % 2 ^ 52)
+pub multiple-of-bits : (x : Float) → T (fits binary64 x) → T (finite x)
+    → multiple x ≡ fieldsMultiple (toBits binary64 x % 2 ^ 63 / 2 ^ 52) (toBits binary64 x % 2 ^ 52)
 multiple-of-bits x f h =
     let b = toBits binary64 x in
     value-multiple x (leb (2 ^ 63) b) (fieldsMultiple (b % 2 ^ 63 / 2 ^ 52) (b % 2 ^ 52)) (bits-value x f h)

@@ -50,5 +50,6 @@ finite-at (x ∷ xs) (suc k) h l = finite-at xs k (and-r (finite x) (allFinite x
 pub not-all-finite : (xs : List Float) → T (not (allFinite xs)) ↔ SomeNotFinite xs
 not-all-finite xs = (
   some-not-finite xs,
-  λ s. not-T (allFinite xs) (λ h. T-not (finite (getD xs (s .place) nan)) (not-finite (getD xs (s .place) nan) .1 (s .is)) (finite-at xs (s .place) h (s .inside))),
+  λ s. not-T (allFinite xs) (λ h. T-not (finite (getD xs (s .place) nan)) (not-finite (getD xs (s .place) nan) .1 (s .is))
+      (finite-at xs (s .place) h (s .inside))),
 )

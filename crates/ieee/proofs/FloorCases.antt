@@ -98,7 +98,8 @@ pub record WholePart (x r : Float) : Type 0 where
   pub format : T (fits binary64 r)
   pub value : HasValue r false (multiple x / 2 ^ 1074 * 2 ^ 1074) (2 ^ 1074)
 
-pub whole-of-bits : (x : Float) (r : ℕ) → T (fits binary64 x) → T (finite x) → signOf x ≡ false → WholeBits (toBits binary64 x) r → WholePart x (ofBits binary64 r)
+pub whole-of-bits : (x : Float) (r : ℕ) → T (fits binary64 x) → T (finite x) → signOf x ≡ false → WholeBits (toBits binary64 x) r
+    → WholePart x (ofBits binary64 r)
 whole-of-bits x r f h s d =
     let b = toBits binary64 x in
     let p = plain-bits x f h s in

@@ -1,6 +1,8 @@
 -- What `floorOf` gives is the greatest whole number not above a finite f64, over whole multiples of 2^-1074, for both signs.
 use Prim.Native.Nat.{ℕ, _+_, _-_, _*_, _/_, _%_, _^_, _<_, _≤_}
-use native.Mathlib.Nat.{lt-of-le-of-lt, lt-of-lt-of-le, mul-one, mul-assoc, mul-right-comm, add-mul, one-mul, eq-of-mul-eq-mul-right, div-add-mod', mod-lt, mul-mod-left, eq-zero-or-pos, eq-or-lt-of-le, div-mul-le-self, div-lt-iff-lt-mul, mul-lt-mul-of-pos-right, le-of-eq, le-of-lt, mul-le-mul-left, lt-of-not-le, add-lt-add-iff-right}
+use native.Mathlib.Nat.{lt-of-le-of-lt, lt-of-lt-of-le, mul-one, mul-assoc, mul-right-comm, add-mul, one-mul, eq-of-mul-eq-mul-right}
+use native.Mathlib.Nat.{div-add-mod', mod-lt, mul-mod-left, eq-zero-or-pos, eq-or-lt-of-le, div-mul-le-self, div-lt-iff-lt-mul}
+use native.Mathlib.Nat.{mul-lt-mul-of-pos-right, le-of-eq, le-of-lt, mul-le-mul-left, lt-of-not-le, add-lt-add-iff-right}
 use native.Mathlib.Omega.{arith}
 use mathlib.Core.Path.{_≡_, refl, ap, sym, _∙_, subst}
 use mathlib.Core.Bool.{true, false, true≢false}
@@ -61,10 +63,12 @@ module _ (m : ℕ) (e : ℤ) (f : T (fits binary64 (fin true m e))) where
       ∙ mul-mod-left c (down e)
 
   -- a negative r of c ones, and how it lies to x
-  of-ones : (r : Float) (c : ℕ) → T (fits binary64 r) → HasValue r true c 1 → multiple (fin true m e) ≤ c * 2 ^ 1074 → c * 2 ^ 1074 < multiple (fin true m e) + 2 ^ 1074 → GreatestWhole (fin true m e) r
+  of-ones : (r : Float) (c : ℕ) → T (fits binary64 r) → HasValue r true c 1 → multiple (fin true m e) ≤ c * 2 ^ 1074
+      → c * 2 ^ 1074 < multiple (fin true m e) + 2 ^ 1074 → GreatestWhole (fin true m e) r
   of-ones r c g v lo hi =
       let h = value-finite r true c 1 v in
-      let is : multiple r ≡ c * 2 ^ 1074 = sym (mul-one (multiple r)) ∙ sym (same-fraction r (signOf r) true c 1 (multiple r) (2 ^ 1074) (own-multiple r g h) v) in
+      let is : multiple r ≡ c * 2 ^ 1074 =
+      sym (mul-one (multiple r)) ∙ sym (same-fraction r (signOf r) true c 1 (multiple r) (2 ^ 1074) (own-multiple r g h) v) in
       record {
         format = g;
         number = h;
@@ -84,7 +88,8 @@ module _ (m : ℕ) (e : ℤ) (f : T (fits binary64 (fin true m e))) where
       let is : x ≡ round binary64 true ((a + (down e - 1)) / down e) 1 =
       sym (round-own x true (a / down e) 1 f (lit< tt) v)
       ∙ ap (λ (n : ℕ). round binary64 true n 1) (sym (ceiling-whole a (down e) (down-pos e) whole)) in
-      let M : a / down e * 2 ^ 1074 ≡ multiple x = same-fraction x true true (a / down e) 1 (multiple x) (2 ^ 1074) (own-multiple x f tt) v ∙ mul-one (multiple x) in
+      let M : a / down e * 2 ^ 1074 ≡ multiple x =
+      same-fraction x true true (a / down e) 1 (multiple x) (2 ^ 1074) (own-multiple x f tt) v ∙ mul-one (multiple x) in
       let U = pow-pos 1074 in
       subst (λ (r : Float). GreatestWhole x r) is (of-ones x (a / down e) f v (le-of-eq (sym M)) (lt-of-le-of-lt (le-of-eq M) (more (multiple x) (2 ^ 1074) U)))
 
@@ -94,11 +99,14 @@ module _ (m : ℕ) (e : ℤ) (f : T (fits binary64 (fin true m e))) where
       let d = point x f tt in
       let g = d .1 in
       let low : g < 1074 = lt-of-not-le (λ (l : 1074 ≤ g).
-      let z = no-fraction (d .0 * 2 ^ (g - 1074)) (d .3 ∙ ap (λ (k : ℕ). d .0 * 2 ^ k) (let y : g ≡ g - 1074 + 1074 = omega arith in y) ∙ ap (λ (n : ℕ). d .0 * n) (pow-add 2 (g - 1074) 1074) ∙ sym (mul-assoc (d .0) (2 ^ (g - 1074)) (2 ^ 1074))) in
+      let z =
+      no-fraction (d .0 * 2 ^ (g - 1074)) (d .3 ∙ ap (λ (k : ℕ). d .0 * 2 ^ k) (let y : g ≡ g - 1074 + 1074 = omega arith in y)
+      ∙ ap (λ (n : ℕ). d .0 * n) (pow-add 2 (g - 1074) 1074) ∙ sym (mul-assoc (d .0) (2 ^ (g - 1074)) (2 ^ 1074))) in
       omega arith) in
       subst (λ (n : ℕ). n < 2 ^ 53) (ones-of true m e f)
       (div-lt-iff-lt-mul {k = 2 ^ 1074} {x = multiple x} {y = 2 ^ 53} (pow-pos 1074) .1
-      (subst (λ (n : ℕ). n < 2 ^ 53 * 2 ^ 1074) (sym (d .3)) (lt-of-lt-of-le (mul-lt-mul-of-pos-right (d .2) (pow-pos g)) (mul-le-mul-left (2 ^ 53) (pow-mono {i = g} {j = 1074} (le-of-lt low))))))
+      (subst (λ (n : ℕ). n < 2 ^ 53 * 2 ^ 1074) (sym (d .3)) (lt-of-lt-of-le (mul-lt-mul-of-pos-right (d .2) (pow-pos g))
+      (mul-le-mul-left (2 ^ 53) (pow-mono {i = g} {j = 1074} (le-of-lt low))))))
 
   fraction-case : 0 < m * up e % down e → GreatestWhole (fin true m e) (floorOf (fin true m e))
   unfolding floorOf
@@ -111,12 +119,14 @@ module _ (m : ℕ) (e : ℤ) (f : T (fits binary64 (fin true m e))) where
       let r = round binary64 true c 1 in
       let v : HasValue r true c 1 = round-whole binary64 true c (omega arith) in
       let K : a / down e ≡ M / 2 ^ 1074 = sym (ones-of true m e f) in
-      let steps : c * 2 ^ 1074 ≡ M / 2 ^ 1074 * 2 ^ 1074 + 2 ^ 1074 = ap (λ (n : ℕ). (n + 1) * 2 ^ 1074) K ∙ add-mul (M / 2 ^ 1074) 1 (2 ^ 1074) ∙ ap (λ (n : ℕ). M / 2 ^ 1074 * 2 ^ 1074 + n) (one-mul (2 ^ 1074)) in
+      let steps : c * 2 ^ 1074 ≡ M / 2 ^ 1074 * 2 ^ 1074 + 2 ^ 1074 =
+      ap (λ (n : ℕ). (n + 1) * 2 ^ 1074) K ∙ add-mul (M / 2 ^ 1074) 1 (2 ^ 1074) ∙ ap (λ (n : ℕ). M / 2 ^ 1074 * 2 ^ 1074 + n) (one-mul (2 ^ 1074)) in
       let hi = from-part M (2 ^ 1074) (pow-pos 1074) in
       let lo : M / 2 ^ 1074 * 2 ^ 1074 < M =
       elim (eq-or-lt-of-le (div-mul-le-self M (2 ^ 1074))) [ inl y ↦ absurd (let z = no-fraction (M / 2 ^ 1074) (sym y) in omega arith) | inr y ↦ y ] in
       subst (λ (n : ℕ). GreatestWhole x (round binary64 true n 1)) (sym (ceiling-more a (down e) (down-pos e) p))
-      (of-ones r c (round-fits binary64 true c 1) v (subst (λ (n : ℕ). M ≤ n) (sym steps) (le-of-lt hi)) (subst (λ (n : ℕ). n < M + 2 ^ 1074) (sym steps) (add-lt-add-iff-right (2 ^ 1074) .1 lo)))
+      (of-ones r c (round-fits binary64 true c 1) v (subst (λ (n : ℕ). M ≤ n) (sym steps) (le-of-lt hi))
+      (subst (λ (n : ℕ). n < M + 2 ^ 1074) (sym steps) (add-lt-add-iff-right (2 ^ 1074) .1 lo)))
 
   negative : GreatestWhole (fin true m e) (floorOf (fin true m e))
   negative = elim (eq-zero-or-pos (m * up e % down e)) [ inl z ↦ whole-case z | inr p ↦ fraction-case p ]

@@ -61,7 +61,8 @@ module _ (m : ℕ) (e : ℤ) (f : T (fits binary64 (fin false m e))) where
   whole-if nan w h = absurd h
   whole-if (inf t) w h = absurd h
   whole-if (fin t n g) w h =
-      let l : n * up g * down e ≡ m * up e * down g = eqb→eq (n * up g * down e) (m * up e * down g) (and-l (eqb (n * up g * down e) (m * up e * down g)) (Bool·beq t false || eqb (n * up g * down e) 0) h) in
+      let l : n * up g * down e ≡ m * up e * down g =
+      eqb→eq (n * up g * down e) (m * up e * down g) (and-l (eqb (n * up g * down e) (m * up e * down g)) (Bool·beq t false || eqb (n * up g * down e) 0) h) in
       eq-of-mul-eq-mul-right (down g) (down-pos g) (m * up e) (m * up e / down e * down e) (sym l ∙ left n g (in-ones (fin t n g) w .1))
 
   if-whole : (r : Float) → WholePart (fin false m e) r → m * up e ≡ m * up e / down e * down e → T (eq r (fin false m e))
@@ -69,7 +70,8 @@ module _ (m : ℕ) (e : ℤ) (f : T (fits binary64 (fin false m e))) where
   if-whole nan w h = absurd (w .value)
   if-whole (inf t) w h = absurd (w .value)
   if-whole (fin true n g) w h = absurd (true≢false (w .value .0))
-  if-whole (fin false n g) w h = and-i (eqb (n * up g * down e) (m * up e * down g)) true (eq→eqb (left n g (in-ones (fin false n g) w .1) ∙ ap (λ (k : ℕ). k * down g) (sym h))) tt
+  if-whole (fin false n g) w h =
+      and-i (eqb (n * up g * down e) (m * up e * down g)) true (eq→eqb (left n g (in-ones (fin false n g) w .1) ∙ ap (λ (k : ℕ). k * down g) (sym h))) tt
 
   if-fraction : (r : Float) → WholePart (fin false m e) r → T (not (eq r (fin false m e))) → 0 < m * up e % down e
   if-fraction r w h =
@@ -116,7 +118,8 @@ floor-whole-number (fin true m e) r f h s w t =
     let g = neg-fits binary64 (fin true m e) f in
     whole-number m e f g r (subst (λ (y : Float). WholePart (fin false m e) y) (sym w) (floor-whole (fin false m e) g tt refl)) t
 
-pub floor-fraction : (x r : Float) → T (fits binary64 x) → T (finite x) → signOf x ≡ true → r ≡ floorOf (neg x) → T (not (eq r (neg x))) → sub binary64 (neg (ofBits binary64 4607182418800017408)) r ≡ floorOf x
+pub floor-fraction : (x r : Float) → T (fits binary64 x) → T (finite x) → signOf x ≡ true → r ≡ floorOf (neg x) → T (not (eq r (neg x)))
+    → sub binary64 (neg (ofBits binary64 4607182418800017408)) r ≡ floorOf x
 unfolding neg
 floor-fraction nan r f h s w t = absurd h
 floor-fraction (inf b) r f h s w t = absurd h

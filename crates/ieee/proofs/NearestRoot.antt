@@ -1,6 +1,7 @@
 -- The root that `rootOf` gives is the f64 nearest the exact root, over whole numbers, and the roots of what is not above zero.
 use Prim.Native.Nat.{ℕ, zero, suc, _+_, _-_, _*_, _/_, _%_, _^_, _<_, _≤_}
-use native.Mathlib.Nat.{le-refl, lt-of-le-of-lt, lt-of-not-le, le-of-lt, mul-pos, mul-assoc, mul-le-mul, mul-le-mul-right, mul-lt-mul-of-pos-right, mul-mul-mul-comm, lt-of-mul-lt-mul-right, add-mul, one-mul, zero-mul, pow-suc}
+use native.Mathlib.Nat.{le-refl, lt-of-le-of-lt, lt-of-not-le, le-of-lt, mul-pos, mul-assoc, mul-le-mul, mul-le-mul-right, mul-lt-mul-of-pos-right}
+use native.Mathlib.Nat.{mul-mul-mul-comm, lt-of-mul-lt-mul-right, add-mul, one-mul, zero-mul, pow-suc}
 use native.Mathlib.Omega.{arith}
 use native.Mathlib.Numerals.{add-one}
 use mathlib.Core.Path.{_≡_, refl, ap, sym, _∙_, subst}
@@ -32,7 +33,9 @@ module _ (c g r k : ℕ) (small : c < 2 ^ 53) (lo : 2 ^ 52 ≤ r) (h : r * 2 ^ k
   whole-steps : k ≤ g → (r + 1) * 2 ^ k ≤ c * 2 ^ g
   whole-steps l =
       let d = c * 2 ^ (g - k) in
-      let e : c * 2 ^ g ≡ d * 2 ^ k = ap (λ (n : ℕ). c * 2 ^ n) (let x : g ≡ g - k + k = omega arith in x) ∙ ap (λ (n : ℕ). c * n) (pow-add 2 (g - k) k) ∙ sym (mul-assoc c (2 ^ (g - k)) (2 ^ k)) in
+      let e : c * 2 ^ g ≡ d * 2 ^ k =
+      ap (λ (n : ℕ). c * 2 ^ n) (let x : g ≡ g - k + k = omega arith in x) ∙ ap (λ (n : ℕ). c * n) (pow-add 2 (g - k) k)
+      ∙ sym (mul-assoc c (2 ^ (g - k)) (2 ^ k)) in
       let x : r < d = lt-of-mul-lt-mul-right (2 ^ k) (subst (λ (n : ℕ). r * 2 ^ k < n) e h) in
       subst (λ (n : ℕ). (r + 1) * 2 ^ k ≤ n) (sym e) (mul-le-mul-right (2 ^ k) (let y : r + 1 ≤ d = omega arith in y))
 
@@ -129,7 +132,8 @@ module _ (W R : ℕ) (d : Rounded W R) (c g : ℕ) (small : c < 2 ^ 53) where
           let x = odd-steps j (d .q) (2 ^ (d .h + 1)) e in
           let n = next-steps j (2 ^ (d .h + 1)) in
           let y = value-odd e in
-          let z : c * 2 ^ g < suc (j * 2 ^ (d .h + 1)) = lt-of-not-le (λ (m : j * 2 ^ (d .h + 1) < c * 2 ^ g). let t = gap c g j (d .h + 1) small half-digits m in omega arith) in
+          let z : c * 2 ^ g < suc (j * 2 ^ (d .h + 1)) =
+          lt-of-not-le (λ (m : j * 2 ^ (d .h + 1) < c * 2 ^ g). let t = gap c g j (d .h + 1) small half-digits m in omega arith) in
           above-odd (c * 2 ^ g + R) (omega arith) (omega arith)
 
   pub lies-below : R < c * 2 ^ g → 4 * W < (c * 2 ^ g + R) * (c * 2 ^ g + R)
@@ -159,10 +163,12 @@ scale-le : (a M W p : ℕ) → M * (p * p) ≡ W → a * a ≤ M → a * p * (a 
 scale-le a M W p e l = subst (λ (n : ℕ). n ≤ W) (sym (mul-mul-mul-comm a p a p)) (subst (λ (n : ℕ). a * a * (p * p) ≤ n) e (mul-le-mul-right (p * p) l))
 
 scale-below : (a M W p : ℕ) → 0 < p → M * (p * p) ≡ W → a * a < M → a * p * (a * p) < W
-scale-below a M W p P e l = subst (λ (n : ℕ). n < W) (sym (mul-mul-mul-comm a p a p)) (subst (λ (n : ℕ). a * a * (p * p) < n) e (mul-lt-mul-of-pos-right l (mul-pos P P)))
+scale-below a M W p P e l =
+    subst (λ (n : ℕ). n < W) (sym (mul-mul-mul-comm a p a p)) (subst (λ (n : ℕ). a * a * (p * p) < n) e (mul-lt-mul-of-pos-right l (mul-pos P P)))
 
 scale-above : (a M W p : ℕ) → 0 < p → M * (p * p) ≡ W → M < a * a → W < a * p * (a * p)
-scale-above a M W p P e l = subst (λ (n : ℕ). W < n) (sym (mul-mul-mul-comm a p a p)) (subst (λ (n : ℕ). n < a * a * (p * p)) e (mul-lt-mul-of-pos-right l (mul-pos P P)))
+scale-above a M W p P e l =
+    subst (λ (n : ℕ). W < n) (sym (mul-mul-mul-comm a p a p)) (subst (λ (n : ℕ). n < a * a * (p * p)) e (mul-lt-mul-of-pos-right l (mul-pos P P)))
 
 -- the square of an odd number is odd
 odd-square : (q n : ℕ) → q % 2 ≡ 1 → q * q ≤ n * 2 ^ 54 → q * q < n * 2 ^ 54
@@ -216,7 +222,8 @@ normal-form (suc e) t a b p = (2 ^ 52 + t, 1073 + suc e, normal e t (omega arith
 
 found-normal : (v field fraction s e : ℕ) → Normalised field fraction s e → v ≡ fieldsMultiple field fraction → Found v
 found-normal v field fraction s e d is =
-    root-found v (s * (1 + e % 2)) (e / 2) (not-halved s e (d .lower)) (doubled s e (d .upper)) (let x = d .least in omega arith) (let x = d .greatest in omega arith)
+    root-found v (s * (1 + e % 2)) (e / 2) (not-halved s e (d .lower)) (doubled s e (d .upper)) (let x = d .least in omega arith)
+    (let x = d .greatest in omega arith)
     (normalised-value v field fraction s e d is)
 
 found : (x : Float) → T (fits binary64 x) → T (positive x) → Found (multiple x)
@@ -239,8 +246,12 @@ root-nearest x d =
       format = root-fits (multiple x);
       number = d .number;
       sign = d .sign;
-      below = λ y f h s l. let c = point y f h in subst (λ (Y : ℕ). (Y + R) * (Y + R) < 4 * W) (sym (c .3)) (lies-above W R (d .rounded) (c .0) (c .1) (c .2) (subst (λ (Y : ℕ). Y < R) (c .3) l));
-      above = λ y f h s l. let c = point y f h in subst (λ (Y : ℕ). 4 * W < (Y + R) * (Y + R)) (sym (c .3)) (lies-below W R (d .rounded) (c .0) (c .1) (c .2) (subst (λ (Y : ℕ). R < Y) (c .3) l));
+      below =
+          λ y f h s l. let c = point y f h in subst (λ (Y : ℕ). (Y + R) * (Y + R) < 4 * W) (sym (c .3))
+          (lies-above W R (d .rounded) (c .0) (c .1) (c .2) (subst (λ (Y : ℕ). Y < R) (c .3) l));
+      above =
+          λ y f h s l. let c = point y f h in subst (λ (Y : ℕ). 4 * W < (Y + R) * (Y + R)) (sym (c .3))
+          (lies-below W R (d .rounded) (c .0) (c .1) (c .2) (subst (λ (Y : ℕ). R < Y) (c .3) l));
     }
 
 pub sqrt-nearest : (x : Float) → T (fits binary64 x) → T (positive x) → NearestRoot x (sqrtOf x)

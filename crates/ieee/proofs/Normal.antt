@@ -30,7 +30,9 @@ module _ (a z : ℕ) (t : Top a z) where
   power = sym (pow-add 2 (t .j) (z - 11)) ∙ ap (λ (k : ℕ). 2 ^ k) (let p = t .place in let l = t .low in let e : t .j + (z - 11) ≡ 52 = omega arith in e)
 
   power-next : 2 ^ suc (t .j) * 2 ^ (z - 11) ≡ 2 ^ 53
-  power-next = sym (pow-add 2 (suc (t .j)) (z - 11)) ∙ ap (λ (k : ℕ). 2 ^ k) (let p = t .place in let l = t .low in let e : suc (t .j) + (z - 11) ≡ 53 = omega arith in e)
+  power-next =
+      sym (pow-add 2 (suc (t .j)) (z - 11))
+      ∙ ap (λ (k : ℕ). 2 ^ k) (let p = t .place in let l = t .low in let e : suc (t .j) + (z - 11) ≡ 53 = omega arith in e)
 
   at-least : 2 ^ 52 ≤ a * 2 ^ (z - 11)
   at-least = subst (λ (n : ℕ). n ≤ a * 2 ^ (z - 11)) power (mul-le-mul-right (2 ^ (z - 11)) (t .lower))
@@ -51,7 +53,8 @@ module _ (a z : ℕ) (t : Top a z) where
         value =
             ap (λ (n : ℕ). n * 2 ^ (1074 - (z - 11))) whole
             ∙ mul-assoc a (2 ^ (z - 11)) (2 ^ (1074 - (z - 11)))
-            ∙ ap (λ (n : ℕ). a * n) (sym (pow-add 2 (z - 11) (1074 - (z - 11))) ∙ ap (λ (k : ℕ). 2 ^ k) (let e : z - 11 + (1074 - (z - 11)) ≡ 1074 = omega arith in e));
+            ∙ ap (λ (n : ℕ). a * n) (sym (pow-add 2 (z - 11) (1074 - (z - 11)))
+            ∙ ap (λ (k : ℕ). 2 ^ k) (let e : z - 11 + (1074 - (z - 11)) ≡ 1074 = omega arith in e));
       }
 
 pub normal : (e t : ℕ) → e < 2046 → t < 2 ^ 52 → Normalised (suc e) t (2 ^ 52 + t) (1073 + suc e)

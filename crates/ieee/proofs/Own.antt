@@ -35,7 +35,8 @@ own-multiple x f h =
 -- two ways to write one value: x / U and a / c
 cross : (v d a c M U : ℕ) → 0 < d → v * U ≡ M * d → v * c ≡ a * d → a * U ≡ M * c
 cross v d a c M U D h k =
-    eq-of-mul-eq-mul-right d D (a * U) (M * c) (mul-right-comm a U d ∙ ap (λ (n : ℕ). n * U) (sym k) ∙ mul-right-comm v c U ∙ ap (λ (n : ℕ). n * c) h ∙ mul-right-comm M d c)
+    eq-of-mul-eq-mul-right d D (a * U) (M * c) (mul-right-comm a U d ∙ ap (λ (n : ℕ). n * U) (sym k) ∙ mul-right-comm v c U ∙ ap (λ (n : ℕ). n * c) h
+    ∙ mul-right-comm M d c)
 
 pub same-fraction : (x : Float) (s t : Bool) (a c M U : ℕ) → HasValue x s M U → HasValue x t a c → a * U ≡ M * c
 same-fraction nan s t a c M U h k = absurd h
@@ -49,7 +50,9 @@ round-multiple x f h =
     let s = signOf x in
     let M = multiple x in
     let r = round binary64 s M (2 ^ 1074) in
-    let v : HasValue r s M (2 ^ 1074) = round-exact binary64 s M (2 ^ 1074) (d .0) (d .1) (pow-pos 1074) (d .2) (subst (λ (n : ℕ). n < 2 ^ 2098) (d .3) (multiple-under x f h)) (ap (λ (n : ℕ). n * 2 ^ 1074) (d .3)) in
+    let v : HasValue r s M (2 ^ 1074) =
+    round-exact binary64 s M (2 ^ 1074) (d .0) (d .1) (pow-pos 1074) (d .2) (subst (λ (n : ℕ). n < 2 ^ 2098) (d .3) (multiple-under x f h))
+    (ap (λ (n : ℕ). n * 2 ^ 1074) (d .3)) in
     same-value r x (round-fits binary64 s M (2 ^ 1074)) f (value-finite r s M (2 ^ 1074) v) h (value-sign r s M (2 ^ 1074) v) (value-multiple r s M v)
 
 pub round-own : (x : Float) (s : Bool) (a c : ℕ) → T (fits binary64 x) → 0 < c → HasValue x s a c → round binary64 s a c ≡ x

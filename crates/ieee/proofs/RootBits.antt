@@ -1,6 +1,7 @@
 -- The pattern that `nearest_root` puts together is the f64 that `rootOf` gives.
 use Prim.Native.Nat.{ℕ, zero, suc, _+_, _-_, _*_, _/_, _%_, _^_, _<_, _≤_}
-use native.Mathlib.Nat.{le-trans, lt-of-le-of-lt, lt-of-lt-of-le, lt-of-not-le, le-of-eq, mul-pos, mul-assoc, mul-le-mul, mul-le-mul-right, mul-lt-mul-of-pos-right, mul-mul-mul-comm, pow-suc}
+use native.Mathlib.Nat.{le-trans, lt-of-le-of-lt, lt-of-lt-of-le, lt-of-not-le, le-of-eq, mul-pos, mul-assoc}
+use native.Mathlib.Nat.{mul-le-mul, mul-le-mul-right, mul-lt-mul-of-pos-right, mul-mul-mul-comm, pow-suc}
 use native.Mathlib.Omega.{arith}
 use mathlib.Core.Path.{_≡_, refl, ap, sym, _∙_, subst}
 use mathlib.Core.Bool.{Bool, false}
@@ -43,10 +44,13 @@ pattern-value e r small lo hi =
 -- ---- powers of four
 pub four-power : (j : ℕ) → 4 ^ j ≡ 2 ^ j * 2 ^ j
 four-power zero = refl
-four-power (suc j) = rw (pow-suc 4 j, pow-suc 2 j) (ap (λ (n : ℕ). n * 4) (four-power j) ∙ (let e : 2 ^ j * 2 * (2 ^ j * 2) ≡ 4 * (2 ^ j * 2 ^ j) = square-even (2 ^ j) in let f : 2 ^ j * 2 ^ j * 4 ≡ 2 ^ j * 2 * (2 ^ j * 2) = omega arith in f))
+four-power (suc j) =
+    rw (pow-suc 4 j, pow-suc 2 j) (ap (λ (n : ℕ). n * 4) (four-power j)
+    ∙ (let e : 2 ^ j * 2 * (2 ^ j * 2) ≡ 4 * (2 ^ j * 2 ^ j) = square-even (2 ^ j) in let f : 2 ^ j * 2 ^ j * 4 ≡ 2 ^ j * 2 * (2 ^ j * 2) = omega arith in f))
 
 four-mono : (i j : ℕ) → i ≤ j → 4 ^ i ≤ 4 ^ j
-four-mono i j h = subst (λ (n : ℕ). 4 ^ i ≤ n) (sym (four-power j)) (subst (λ (n : ℕ). n ≤ 2 ^ j * 2 ^ j) (sym (four-power i)) (mul-le-mul (pow-mono h) (pow-mono h)))
+four-mono i j h =
+    subst (λ (n : ℕ). 4 ^ i ≤ n) (sym (four-power j)) (subst (λ (n : ℕ). n ≤ 2 ^ j * 2 ^ j) (sym (four-power i)) (mul-le-mul (pow-mono h) (pow-mono h)))
 
 two-power : (r : ℕ) → r < 2 → 2 ^ r ≡ 1 + r
 two-power zero h = refl
@@ -65,12 +69,15 @@ even-power a =
 -- ---- q is the root of M, and w that of M * p * p: w has the digits of q, and then those below p
 root-above : (q w M W p : ℕ) → q * q ≤ M → M * (p * p) ≡ W → W < (w + 1) * (w + 1) → q * p ≤ w
 root-above q w M W p a e b =
-    let x : q * p < w + 1 = root-lt (q * p) (w + 1) (lt-of-le-of-lt (le-trans (subst (λ (n : ℕ). n ≤ M * (p * p)) (mul-mul-mul-comm q q p p) (mul-le-mul-right (p * p) a)) (le-of-eq e)) b) in
+    let x : q * p < w + 1 =
+    root-lt (q * p) (w + 1) (lt-of-le-of-lt (le-trans (subst (λ (n : ℕ). n ≤ M * (p * p)) (mul-mul-mul-comm q q p p) (mul-le-mul-right (p * p) a))
+    (le-of-eq e)) b) in
     omega arith
 
 root-below : (q w M W p : ℕ) → M < (q + 1) * (q + 1) → 0 < p → M * (p * p) ≡ W → w * w ≤ W → w < (q + 1) * p
 root-below q w M W p a P e b =
-    root-lt w ((q + 1) * p) (lt-of-le-of-lt (le-trans b (le-of-eq (sym e))) (subst (λ (n : ℕ). M * (p * p) < n) (mul-mul-mul-comm (q + 1) (q + 1) p p) (mul-lt-mul-of-pos-right a (mul-pos P P))))
+    root-lt w ((q + 1) * p) (lt-of-le-of-lt (le-trans b (le-of-eq (sym e)))
+    (subst (λ (n : ℕ). M * (p * p) < n) (mul-mul-mul-comm (q + 1) (q + 1) p p) (mul-lt-mul-of-pos-right a (mul-pos P P))))
 
 -- a root of 54 digits is not all ones, for an n of at most 2^54 - 2
 pub not-all-ones : (q n : ℕ) → n ≤ 2 ^ 54 - 2 → q * q ≤ n * 2 ^ 54 → q ≤ 2 ^ 54 - 2
@@ -123,7 +130,8 @@ module _ (v n half : ℕ) (lo : 2 ^ 52 ≤ n) (hi : n ≤ 2 ^ 54 - 2) (least : 5
   bounded : v * 2 ^ 1074 < 4 ^ 1586
   bounded =
       subst (λ (x : ℕ). x < 4 ^ 1586) value
-      (lt-of-lt-of-le (mul-lt-mul-of-pos-right (let y : n < 4 ^ 27 = omega arith in y) (subst (λ (x : ℕ). 0 < x) (sym (four-power half)) (mul-pos (pow-pos half) (pow-pos half))))
+      (lt-of-lt-of-le (mul-lt-mul-of-pos-right (let y : n < 4 ^ 27 = omega arith in y)
+      (subst (λ (x : ℕ). 0 < x) (sym (four-power half)) (mul-pos (pow-pos half) (pow-pos half))))
       (subst (λ (x : ℕ). x ≤ 4 ^ 1586) (pow-add 4 27 half) (four-mono (27 + half) 1586 (omega arith))))
 
   pub root-pattern : rootOf v ≡ ofBits binary64 ((half - 26) * 2 ^ 52 + (wholeRoot 54 (n * 2 ^ 54) + 1) / 2)

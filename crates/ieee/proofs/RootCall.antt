@@ -45,7 +45,8 @@ field-below x f h =
     let b = toBits binary64 x in
     let s = leb (2 ^ 63) b in
     let is : ofFields binary64 s (b % 2 ^ 63 / 2 ^ 52) (b % 2 ^ 52) ≡ x = ofBits-toBits binary64 x f in
-    let other : b % 2 ^ 63 / 2 ^ 52 ≡ 2047 → ⊥ = λ e. all-ones s (b % 2 ^ 52) (subst (λ (n : ℕ). T (finite (ofFields binary64 s n (b % 2 ^ 52)))) e (subst (λ (y : Float). T (finite y)) (sym is) h)) in
+    let other : b % 2 ^ 63 / 2 ^ 52 ≡ 2047 → ⊥ =
+    λ e. all-ones s (b % 2 ^ 52) (subst (λ (n : ℕ). T (finite (ofFields binary64 s n (b % 2 ^ 52)))) e (subst (λ (y : Float). T (finite y)) (sym is) h)) in
     omega arith
 
 -- ---- the fields of a number above zero
@@ -65,11 +66,14 @@ above-zero x f p =
     let sign : leb (2 ^ 63) b ≡ false = sym (sign-of-bits x f h) ∙ positive-sign x p in
     let low : b < 2 ^ 63 = leb-false (2 ^ 63) b sign in
     let whole : b % 2 ^ 63 / 2 ^ 52 ≡ b / 2 ^ 52 = omega arith in
-    let v : HasValue x false (fieldsMultiple (b % 2 ^ 63 / 2 ^ 52) (b % 2 ^ 52)) (2 ^ 1074) = subst (λ (s : Bool). HasValue x s (fieldsMultiple (b % 2 ^ 63 / 2 ^ 52) (b % 2 ^ 52)) (2 ^ 1074)) sign (bits-value x f h) in
+    let v : HasValue x false (fieldsMultiple (b % 2 ^ 63 / 2 ^ 52) (b % 2 ^ 52)) (2 ^ 1074) =
+    subst (λ (s : Bool). HasValue x s (fieldsMultiple (b % 2 ^ 63 / 2 ^ 52) (b % 2 ^ 52)) (2 ^ 1074)) sign (bits-value x f h) in
     let k = field-below x f h in
     record {
       field = subst (λ (n : ℕ). n < 2047) whole k;
-      some = subst (λ (n : ℕ). 0 < n + b % 2 ^ 52) whole (some-digit (b % 2 ^ 63 / 2 ^ 52) (b % 2 ^ 52) (value-pos x (fieldsMultiple (b % 2 ^ 63 / 2 ^ 52) (b % 2 ^ 52)) (2 ^ 1074) p (pow-pos 1074) v));
+      some =
+          subst (λ (n : ℕ). 0 < n + b % 2 ^ 52) whole (some-digit (b % 2 ^ 63 / 2 ^ 52) (b % 2 ^ 52)
+          (value-pos x (fieldsMultiple (b % 2 ^ 63 / 2 ^ 52) (b % 2 ^ 52)) (2 ^ 1074) p (pow-pos 1074) v));
       value = multiple-of-bits x f h ∙ ap (λ (n : ℕ). fieldsMultiple n (b % 2 ^ 52)) whole;
     }
 
@@ -94,11 +98,14 @@ no-nan e r h k =
     rw (ne-eqb (b % 2 ^ 63 / 2 ^ 52) 2047 (λ (y : b % 2 ^ 63 / 2 ^ 52 ≡ 2047). omega arith)) tt
 
 -- ---- the pattern, from a normalised significand
-pub normalised-value : (v field fraction s e : ℕ) → Normalised field fraction s e → v ≡ fieldsMultiple field fraction → s * (1 + e % 2) * 4 ^ (e / 2) ≡ v * 2 ^ 1074
-normalised-value v field fraction s e d is = mul-assoc s (1 + e % 2) (4 ^ (e / 2)) ∙ ap (λ (n : ℕ). s * n) (sym (even-power e)) ∙ d .value ∙ ap (λ (n : ℕ). n * 2 ^ 1074) (sym is)
+pub normalised-value : (v field fraction s e : ℕ) → Normalised field fraction s e → v ≡ fieldsMultiple field fraction
+    → s * (1 + e % 2) * 4 ^ (e / 2) ≡ v * 2 ^ 1074
+normalised-value v field fraction s e d is =
+    mul-assoc s (1 + e % 2) (4 ^ (e / 2)) ∙ ap (λ (n : ℕ). s * n) (sym (even-power e)) ∙ d .value ∙ ap (λ (n : ℕ). n * 2 ^ 1074) (sym is)
 
 pub root-of-normalised : (v field fraction s e : ℕ) → Normalised field fraction s e → v ≡ fieldsMultiple field fraction
     → ofBits binary64 ((e / 2 - 26) * 2 ^ 52 + (wholeRoot 54 (s * (1 + e % 2) * 2 ^ 54) + 1) / 2) ≡ rootOf v
 root-of-normalised v field fraction s e d is =
-    sym (root-pattern v (s * (1 + e % 2)) (e / 2) (not-halved s e (d .lower)) (doubled s e (d .upper)) (let x = d .least in omega arith) (let x = d .greatest in omega arith)
+    sym (root-pattern v (s * (1 + e % 2)) (e / 2) (not-halved s e (d .lower)) (doubled s e (d .upper)) (let x = d .least in omega arith)
+    (let x = d .greatest in omega arith)
     (normalised-value v field fraction s e d is))

@@ -53,7 +53,9 @@ root-of-infinity (fin s m e) h k = absurd k
 -- a zero passes the test for zero, and a number with a clear sign and a digit the one for above zero
 zero-passes : (s : Bool) (e : ℤ) → T (eq (fin s 0 e) zeroFloat)
 unfolding eq ofBits
-zero-passes s e = subst (λ (n : ℕ). T (level s n false (0 * down e))) (sym (ap (λ (n : ℕ). n * 1) (zero-mul (up e)))) (subst (λ (n : ℕ). T (level s 0 false n)) (sym (zero-mul (down e))) (go s))
+zero-passes s e =
+    subst (λ (n : ℕ). T (level s n false (0 * down e))) (sym (ap (λ (n : ℕ). n * 1) (zero-mul (up e))))
+    (subst (λ (n : ℕ). T (level s 0 false n)) (sym (zero-mul (down e))) (go s))
   where
     go : (t : Bool) → T (level t 0 false 0)
     go true = tt

@@ -11,7 +11,8 @@ use borrow.Author.Tests.{le-leb, lt-leb}
 use Rattle.ieee.specs.Root.{wholeRoot, nextDigit}
 use Rattle.ieee.proofs.WholeRoot.{square-even, square-odd}
 
--- After i digits: the operand's first 2i digits are rest + root * root, root is their whole root, and what is left of the operand stands at the top of `digits`.
+-- After i digits: the operand's first 2i digits are rest + root * root, root is their whole root, and what is left of the operand stands at the top of
+-- `digits`.
 pub record Digits (n digits rest root i : ℕ) : Type 0 where
   pub taken : (rest + root * root) * 2 ^ 64 + digits ≡ n * 2 ^ 10 * 4 ^ i
   pub is-root : wholeRoot i (rest + root * root) ≡ root
@@ -54,7 +55,8 @@ module _ (n digits rest root i : ℕ) (d : Digits n digits rest root i) (more : 
   room r h = let p : 2 ^ (i + 1) ≡ 2 ^ i * 2 = rw (add-one, pow-suc 2 i) in let b = d .below in omega arith
 
   -- the next digit is 1
-  pub digit-one : root * 4 + 1 ≤ rest * 4 + digits / 2 ^ 62 → Digits n (digits % 2 ^ 62 * 4) (rest * 4 + digits / 2 ^ 62 - (root * 4 + 1)) (root * 2 + 1) (i + 1)
+  pub digit-one : root * 4 + 1 ≤ rest * 4 + digits / 2 ^ 62
+      → Digits n (digits % 2 ^ 62 * 4) (rest * 4 + digits / 2 ^ 62 - (root * 4 + 1)) (root * 2 + 1) (i + 1)
   unfolding next two
   digit-one h =
       let q = square-odd root in
@@ -65,7 +67,9 @@ module _ (n digits rest root i : ℕ) (d : Digits n digits rest root i) (more : 
       let f = d .fits in
       record {
         taken = subst (λ (z : ℕ). z * 2 ^ 64 + digits % 2 ^ 62 * 4 ≡ n * 2 ^ 10 * 4 ^ (i + 1)) (sym e) next-taken;
-        is-root = subst (λ (z : ℕ). wholeRoot (i + 1) z ≡ root * 2 + 1) (sym e) (next-root ∙ ap (λ (b : Bool). cond b (2 * root + 1) (2 * root)) t ∙ ap (λ (z : ℕ). z + 1) two-root);
+        is-root =
+            subst (λ (z : ℕ). wholeRoot (i + 1) z ≡ root * 2 + 1) (sym e)
+            (next-root ∙ ap (λ (b : Bool). cond b (2 * root + 1) (2 * root)) t ∙ ap (λ (z : ℕ). z + 1) two-root);
         small = omega arith;
         below = room (root * 2 + 1) (omega arith);
         fits = omega arith;

@@ -1,6 +1,7 @@
 -- The root's 54 digits, rounded to 53, are the f64 that `rootOf` gives.
 use Prim.Native.Nat.{ℕ, zero, suc, _+_, _-_, _*_, _/_, _%_, _^_, _<_, _≤_, compare, Ordering, Ordering·lt, Ordering·eq, Ordering·gt}
-use native.Mathlib.Nat.{le-trans, lt-of-lt-of-le, lt-of-not-le, not-le-of-lt, lt-irrefl, le-of-lt, mul-assoc, mul-comm, mul-le-mul-right, mul-left-comm, add-mul, one-mul, mul-pos, mul-div-mul-right, pow-suc}
+use native.Mathlib.Nat.{le-trans, lt-of-lt-of-le, lt-of-not-le, not-le-of-lt, lt-irrefl, le-of-lt, mul-assoc, mul-comm}
+use native.Mathlib.Nat.{mul-le-mul-right, mul-left-comm, add-mul, one-mul, mul-pos, mul-div-mul-right, pow-suc}
 use native.Mathlib.Omega.{arith}
 use native.Mathlib.Numerals.{add-one}
 use mathlib.Core.Path.{_≡_, refl, ap, sym, _∙_, subst}
@@ -67,7 +68,8 @@ closest-half q p l small = elim (parity q) [ inl e ↦ even e | inr e ↦ odd e 
     odd : q ≡ 2 * (q / 2) + 1 → closest (2 * (q * p + l) + 1) (4 * p) ≡ (q + 1) / 2
     odd e =
         let j = q / 2 in
-        let x : q * p ≡ 2 * (j * p) + p = ap (λ (n : ℕ). n * p) e ∙ add-mul (2 * j) 1 p ∙ ap (λ (n : ℕ). n + 1 * p) (mul-assoc 2 j p) ∙ ap (λ (n : ℕ). 2 * (j * p) + n) (one-mul p) in
+        let x : q * p ≡ 2 * (j * p) + p =
+        ap (λ (n : ℕ). n * p) e ∙ add-mul (2 * j) 1 p ∙ ap (λ (n : ℕ). n + 1 * p) (mul-assoc 2 j p) ∙ ap (λ (n : ℕ). 2 * (j * p) + n) (one-mul p) in
         let y : j * (4 * p) ≡ 4 * (j * p) = mul-left-comm j 4 p in
         let z : 2 * (q * p + l) + 1 ≡ j * (4 * p) + (2 * p + 2 * l + 1) = omega arith in
         let u : suc j ≡ (q + 1) / 2 = omega arith in
@@ -82,7 +84,9 @@ size-is w a b e lo hi =
 
 -- the same fraction over 2^1074
 over-units : (a U P Q : ℕ) → Q ≡ P * 2 → a * U * (4 * P) ≡ a * (2 * U * Q)
-over-units a U P Q e = ap (λ (n : ℕ). a * U * n) (let x : 4 * P ≡ 2 * Q = omega arith in x) ∙ mul-assoc a U (2 * Q) ∙ ap (λ (n : ℕ). a * n) (sym (mul-assoc U 2 Q) ∙ ap (λ (n : ℕ). n * Q) (mul-comm U 2))
+over-units a U P Q e =
+    ap (λ (n : ℕ). a * U * n) (let x : 4 * P ≡ 2 * Q = omega arith in x) ∙ mul-assoc a U (2 * Q)
+    ∙ ap (λ (n : ℕ). a * n) (sym (mul-assoc U 2 Q) ∙ ap (λ (n : ℕ). n * Q) (mul-comm U 2))
 
 -- ---- the rounding of w + 1/2 for a w of 54 + h digits, of which q are the first 54
 module _ (q h w : ℕ) (q-lo : 2 ^ 53 ≤ q) (q-hi : q < 2 ^ 54) (w-lo : q * 2 ^ h ≤ w) (w-hi : w < (q + 1) * 2 ^ h) where
@@ -103,7 +107,8 @@ module _ (q h w : ℕ) (q-lo : 2 ^ 53 ≤ q) (q-hi : q < 2 ^ 54) (w-lo : q * 2 ^
       let l = w - q * 2 ^ h in
       let e : w ≡ q * 2 ^ h + l = omega arith in
       let f : (q + 1) * 2 ^ h ≡ q * 2 ^ h + 2 ^ h = add-mul q 1 (2 ^ h) ∙ ap (λ (n : ℕ). q * 2 ^ h + n) (one-mul (2 ^ h)) in
-      closest-same ((2 * w + 1) * 2 ^ 1074) (2 * 2 ^ 1074 * 2 ^ (h + 1)) (2 * w + 1) (4 * 2 ^ h) (mul-pos (pow-pos 1075) (pow-pos (h + 1))) (mul-pos (pow-pos 2) (pow-pos h))
+      closest-same ((2 * w + 1) * 2 ^ 1074) (2 * 2 ^ 1074 * 2 ^ (h + 1)) (2 * w + 1) (4 * 2 ^ h) (mul-pos (pow-pos 1075) (pow-pos (h + 1)))
+      (mul-pos (pow-pos 2) (pow-pos h))
       (over-units (2 * w + 1) (2 ^ 1074) (2 ^ h) (2 ^ (h + 1)) (rw (add-one, pow-suc 2 h)))
       ∙ ap (λ (n : ℕ). closest (2 * n + 1) (4 * 2 ^ h)) e
       ∙ closest-half q (2 ^ h) l (omega arith)
@@ -114,5 +119,6 @@ module _ (q h w : ℕ) (q-lo : 2 ^ 53 ≤ q) (q-hi : q < 2 ^ 54) (w-lo : q * 2 ^
       round-is binary64 false (2 * w + 1) (2 * 2 ^ 1074)
       ∙ ap (λ (k : ℕ). units binary64 false (closest ((2 * w + 1) * 2 ^ 1074) (2 * 2 ^ 1074 * 2 ^ k)) k) dropped
       ∙ ap (λ (n : ℕ). units binary64 false n (h + 1)) rounds in
-      let fine : (q + 1) / 2 * 2 ^ (h + 1) < 2 ^ 2098 = lt-of-lt-of-le (shl-lt 54 (h + 1) (omega arith)) (pow-mono {i = 54 + (h + 1)} {j = 2098} (omega arith)) in
+      let fine : (q + 1) / 2 * 2 ^ (h + 1) < 2 ^ 2098 =
+      lt-of-lt-of-le (shl-lt 54 (h + 1) (omega arith)) (pow-mono {i = 54 + (h + 1)} {j = 2098} (omega arith)) in
       subst (λ (x : Float). HasValue x false ((q + 1) / 2 * 2 ^ (h + 1)) (2 ^ 1074)) (sym is) (units-val binary64 false ((q + 1) / 2) (h + 1) fine)

@@ -1,6 +1,7 @@
 -- A finite value that fits its format is a whole multiple of the format's smallest value, 2 ^ -low: m * 2 ^ j of them, with m below 2 ^ prec.
 use Prim.Native.Nat.{ℕ, zero, suc, _+_, _-_, _*_, _/_, _%_, _^_, _≤_, _<_}
-use native.Mathlib.Nat.{lt-irrefl, lt-of-lt-of-le, le-of-suc-le-suc, lt-of-not-le, sub-add-cancel, zero-mul, mul-one, one-mul, mul-assoc, mul-comm, mul-right-comm, mul-pos, mul-lt-mul-of-pos-right, lt-of-mul-lt-mul-right, mul-div-cancel}
+use native.Mathlib.Nat.{lt-irrefl, lt-of-lt-of-le, le-of-suc-le-suc, lt-of-not-le, sub-add-cancel, zero-mul, mul-one, one-mul, mul-assoc}
+use native.Mathlib.Nat.{mul-comm, mul-right-comm, mul-pos, mul-lt-mul-of-pos-right, lt-of-mul-lt-mul-right, mul-div-cancel}
 use mathlib.Core.Path.{_≡_, sym, ap, _∙_, subst}
 use mathlib.Core.Bool.{Bool, _&&_}
 use lib.IntN.{ℤ, pos, negsuc}
@@ -73,7 +74,8 @@ on-grid f m e h =
         is = q;
         exact = ap (λ (z : ℕ). z * down e) q ∙ sym x;
         under = lt-of-mul-lt-mul-right (down e) (subst (λ (z : ℕ). z < 2 ^ (l + suc (emax f)) * down e) x
-            (subst (λ (z : ℕ). m * up e * 2 ^ l < z) (mul-right-comm (2 ^ suc (emax f)) (down e) (2 ^ l) ∙ ap (λ (z : ℕ). z * down e) (mul-comm (2 ^ suc (emax f)) (2 ^ l) ∙ sym (pow-add 2 l (suc (emax f)))))
+            (subst (λ (z : ℕ). m * up e * 2 ^ l < z) (mul-right-comm (2 ^ suc (emax f)) (down e) (2 ^ l)
+            ∙ ap (λ (z : ℕ). z * down e) (mul-comm (2 ^ suc (emax f)) (2 ^ l) ∙ sym (pow-add 2 l (suc (emax f)))))
             (mul-lt-mul-of-pos-right (h .magnitude) (pow-pos l))));
       },
     )

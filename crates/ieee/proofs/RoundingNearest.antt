@@ -1,6 +1,7 @@
 -- The kit's `round` obeys the rule of specs/Ieee754.antt, at every fraction.
 use Prim.Native.Nat.{ℕ, zero, suc, _+_, _-_, _*_, _/_, _%_, _^_, _≤_, _<_}
-use native.Mathlib.Nat.{le-trans, le-of-eq, lt-of-lt-of-le, not-le-of-lt, zero-lt-suc, mul-one, mul-assoc, mul-right-comm, mul-le-mul-right, mul-lt-mul-of-pos-right, add-mul}
+use native.Mathlib.Nat.{le-trans, le-of-eq, lt-of-lt-of-le, not-le-of-lt, zero-lt-suc, mul-one, mul-assoc}
+use native.Mathlib.Nat.{mul-right-comm, mul-le-mul-right, mul-lt-mul-of-pos-right, add-mul}
 use native.Mathlib.Omega.{arith}
 use mathlib.Core.Path.{_≡_, refl, sym, ap, ap₂, _∙_, subst}
 use mathlib.Core.Logic.{_≢_, _⊎_, inl, inr}
@@ -105,12 +106,14 @@ bracket X Y Z R n e h l g k = omega arith
 -- with B half-way between M and W, and n / den below B: what is no farther from n / den than M is not W or more
 half-way : (M W B den n r : ℕ) → 0 < den → 2 * B ≡ M + W → M < W → n < B * den → W ≤ r → gap (r * den) n ≤ gap (M * den) n → ⊥
 half-way M W B den n r D e h l g k =
-    bracket (M * den) (W * den) (B * den) (r * den) n (sym (mul-assoc 2 B den) ∙ ap (λ (x : ℕ). x * den) e ∙ add-mul M W den) (mul-lt-mul-of-pos-right h D) l (mul-le-mul-right den g) k
+    bracket (M * den) (W * den) (B * den) (r * den) n (sym (mul-assoc 2 B den) ∙ ap (λ (x : ℕ). x * den) e ∙ add-mul M W den)
+    (mul-lt-mul-of-pos-right h D) l (mul-le-mul-right den g) k
 
 under : (s : Bool) (num den : ℕ) → 0 < den → num < overflowBound * den → T (finite (round binary64 s num den))
 under s num den D h = elim (cases s num den) [
   | inl c ↦ c .1 .is-finite
-  | inr c ↦ absurd (half-way ((2 ^ 53 - 1) * 2 ^ 2045) (overflow binary64) (overflowBound * 2 ^ 1074) den (num * 2 ^ 1074) (grid binary64 num den) D refl (lit< tt)
+  | inr c ↦
+      absurd (half-way ((2 ^ 53 - 1) * 2 ^ 2045) (overflow binary64) (overflowBound * 2 ^ 1074) den (num * 2 ^ 1074) (grid binary64 num den) D refl (lit< tt)
       (lt-of-lt-of-le (mul-lt-mul-of-pos-right h (pow-pos 1074)) (le-of-eq (mul-right-comm overflowBound den (2 ^ 1074))))
       (c .0)
       (grid-near 53 (num * 2 ^ 1074) den (2 ^ 53 - 1) 2045 (lit< tt) D (lit< tt)))
@@ -127,13 +130,15 @@ point (fin s m e) h t =
     let o = on-grid binary64 m e d in
     (m, o .0, d .digits, o .1 .is)
 
-near-all : (num den : ℕ) → 0 < den → (y : Float) → T (fits binary64 y) → T (finite y) → gap (grid binary64 num den * den) (num * 2 ^ 1074) ≤ gap (multiple y * den) (num * 2 ^ 1074)
+near-all : (num den : ℕ) → 0 < den → (y : Float) → T (fits binary64 y) → T (finite y)
+    → gap (grid binary64 num den * den) (num * 2 ^ 1074) ≤ gap (multiple y * den) (num * 2 ^ 1074)
 near-all num den D y h t =
     let n = num * 2 ^ 1074 in
     let c = point y h t in
     subst (λ (z : ℕ). gap (grid binary64 num den * den) n ≤ gap (z * den) n) (sym (c .3)) (grid-near 53 n den (c .0) (c .1) (lit< tt) D (c .2))
 
-tie-all : (num den : ℕ) → 0 < den → (y : Float) → T (fits binary64 y) → T (finite y) → gap (grid binary64 num den * den) (num * 2 ^ 1074) ≡ gap (multiple y * den) (num * 2 ^ 1074)
+tie-all : (num den : ℕ) → 0 < den → (y : Float) → T (fits binary64 y) → T (finite y)
+    → gap (grid binary64 num den * den) (num * 2 ^ 1074) ≡ gap (multiple y * den) (num * 2 ^ 1074)
     → multiple y ≢ grid binary64 num den → kept 53 (num * 2 ^ 1074) den % 2 ≡ 0
 tie-all num den D y h t e ne =
     let n = num * 2 ^ 1074 in
@@ -202,7 +207,8 @@ factor-zero zero d h e = refl
 factor-zero (suc a) d h e = absurd (omega arith)
 
 even-all : (s : Bool) (num den : ℕ) → 0 < den → T (finite (round binary64 s num den)) → (y : Float) → T (fits binary64 y) → T (finite y)
-    → apart (round binary64 s num den) s num den ≡ apart y s num den → valueOf y ≢ valueOf (round binary64 s num den) → toBits binary64 (round binary64 s num den) % 2 ≡ 0
+    → apart (round binary64 s num den) s num den ≡ apart y s num den → valueOf y ≢ valueOf (round binary64 s num den)
+    → toBits binary64 (round binary64 s num den) % 2 ≡ 0
 even-all s num den D t y h u a ne =
     let n = num * 2 ^ 1074 in
     let x = round binary64 s num den in
@@ -218,7 +224,8 @@ even-all s num den D t y h u a ne =
           let o : multiple y * den ≡ 0 = other-sign (gap (r * den) n) (multiple y * den) n (near-zero num den D) g in
           let z : multiple y ≡ 0 = factor-zero (multiple y) den D o in
           tie-all num den D y h u (as-zero (gap (r * den) n) (multiple y * den) n o g)
-          (λ (w : multiple y ≡ r). ne (ap (λ (i : ℕ). signed (signOf y) i) z ∙ signed-zero (signOf y) ∙ sym (ap (λ (i : ℕ). signed (signOf x) i) (v .its-multiple ∙ sym w ∙ z) ∙ signed-zero (signOf x))))
+          (λ (w : multiple y ≡ r). ne (ap (λ (i : ℕ). signed (signOf y) i) z ∙ signed-zero (signOf y)
+          ∙ sym (ap (λ (i : ℕ). signed (signOf x) i) (v .its-multiple ∙ sym w ∙ z) ∙ signed-zero (signOf x))))
     ])
 
 -- ---- the rule

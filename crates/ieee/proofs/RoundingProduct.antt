@@ -1,6 +1,7 @@
 -- The kit's `mul` and `div` on f64 are the product and the quotient of specs/Ieee754.antt, at every operand that is an f64.
 use Prim.Native.Nat.{ℕ, zero, suc, _*_, _/_, _^_, _<_}
-use native.Mathlib.Nat.{zero-lt-suc, pos-of-ne-zero, lt-irrefl, zero-mul, zero-div, mul-assoc, mul-comm, mul-left-comm, mul-mul-mul-comm, mul-pos, eq-of-mul-eq-mul-right}
+use native.Mathlib.Nat.{zero-lt-suc, pos-of-ne-zero, lt-irrefl, zero-mul, zero-div, mul-assoc, mul-comm}
+use native.Mathlib.Nat.{mul-left-comm, mul-mul-mul-comm, mul-pos, eq-of-mul-eq-mul-right}
 use mathlib.Core.Path.{_≡_, refl, sym, ap, _∙_, subst}
 use mathlib.Core.Logic.{_≢_}
 use mathlib.Core.Bool.{Bool, cond}
@@ -22,7 +23,8 @@ zero-multiple s e = ap (λ (x : ℕ). x * 2 ^ 1074 / down e) (zero-mul (up e)) �
 
 nonzero : (s : Bool) (m : ℕ) (e : ℤ) → T (fits binary64 (fin s (suc m) e)) → multiple (fin s (suc m) e) ≢ 0
 nonzero s m e h z =
-    lt-irrefl 0 (subst (λ (x : ℕ). 0 < x) (sym (multiple-exact s (suc m) e h) ∙ ap (λ (x : ℕ). x * down e) z ∙ zero-mul (down e)) (mul-pos (mul-pos (zero-lt-suc m) (up-pos e)) (pow-pos 1074)))
+    lt-irrefl 0 (subst (λ (x : ℕ). 0 < x) (sym (multiple-exact s (suc m) e h) ∙ ap (λ (x : ℕ). x * down e) z ∙ zero-mul (down e))
+    (mul-pos (mul-pos (zero-lt-suc m) (up-pos e)) (pow-pos 1074)))
 
 -- ---- `mul`
 
@@ -126,7 +128,8 @@ div-rounded (fin s m e) (fin t (suc n) d) h k u v ne =
     (cross (m * up e) (suc n * up d) (down d) (down e) A B (2 ^ 1074) (pow-pos 1074) (multiple-exact s m e h) (multiple-exact t (suc n) d k)) in
     subst (λ (r : Float). Nearest r (unlike s t) A B) (sym is) (round-nearest (unlike s t) A B (pos-of-ne-zero ne))
 
-div-zero : (x y : Float) → T (fits binary64 x) → T (fits binary64 y) → T (finite x) → T (finite y) → multiple x ≢ 0 → multiple y ≡ 0 → div binary64 x y ≡ inf (unlike (signOf x) (signOf y))
+div-zero : (x y : Float) → T (fits binary64 x) → T (fits binary64 y) → T (finite x) → T (finite y) → multiple x ≢ 0 → multiple y ≡ 0
+    → div binary64 x y ≡ inf (unlike (signOf x) (signOf y))
 unfolding div
 div-zero nan y h k u v ne z = absurd u
 div-zero (inf s) y h k u v ne z = absurd u
@@ -136,7 +139,8 @@ div-zero (fin s zero e) (fin t n d) h k u v ne z = absurd (ne (zero-multiple s e
 div-zero (fin s (suc m) e) (fin t (suc n) d) h k u v ne z = absurd (nonzero t n d k z)
 div-zero (fin s (suc m) e) (fin t zero d) h k u v ne z = ap (λ (b : Bool). cond b nan (inf (unlike s t))) (eqb·suc-zero m)
 
-zero-div-zero : (x y : Float) → T (fits binary64 x) → T (fits binary64 y) → T (finite x) → T (finite y) → multiple x ≡ 0 → multiple y ≡ 0 → div binary64 x y ≡ nan
+zero-div-zero : (x y : Float) → T (fits binary64 x) → T (fits binary64 y) → T (finite x) → T (finite y) → multiple x ≡ 0 → multiple y ≡ 0
+    → div binary64 x y ≡ nan
 unfolding div
 zero-div-zero nan y h k u v w z = absurd u
 zero-div-zero (inf s) y h k u v w z = absurd u

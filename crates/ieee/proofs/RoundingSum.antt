@@ -30,7 +30,8 @@ same-test false false p q = refl
 less-same : (a b c A B C : ℕ) → 0 < c → 0 < C → a * C ≡ A * c → b * C ≡ B * c → ltb a b ≡ ltb A B
 less-same a b c A B C hc hC e g = same-test (ltb a b) (ltb A B)
     (λ t. lt→ltb A B (lt-of-mul-lt-mul-right c (subst (λ (x : ℕ). x < B * c) e (subst (λ (x : ℕ). a * C < x) g (mul-lt-mul-of-pos-right (ltb→lt a b t) hC)))))
-    (λ t. lt→ltb a b (lt-of-mul-lt-mul-right C (subst (λ (x : ℕ). x < b * C) (sym e) (subst (λ (x : ℕ). A * c < x) (sym g) (mul-lt-mul-of-pos-right (ltb→lt A B t) hc)))))
+    (λ t. lt→ltb a b (lt-of-mul-lt-mul-right C (subst (λ (x : ℕ). x < b * C) (sym e)
+    (subst (λ (x : ℕ). A * c < x) (sym g) (mul-lt-mul-of-pos-right (ltb→lt A B t) hc)))))
 
 sub-mul : (a b c : ℕ) → (a - b) * c ≡ a * c - b * c
 sub-mul a b c = mul-comm (a - b) c ∙ mul-sub c a b ∙ ap (λ (x : ℕ). x - c * b) (mul-comm c a) ∙ ap (λ (x : ℕ). a * c - x) (mul-comm c b)
@@ -44,11 +45,16 @@ add-same a b c A B C e g = add-mul a b C ∙ ap (λ (x : ℕ). x + b * C) e ∙ 
 sum-same : (s : Bool) (a : ℕ) (t : Bool) (b c A B C : ℕ) → 0 < c → 0 < C → a * C ≡ A * c → b * C ≡ B * c → sum binary64 s a t b c ≡ sum binary64 s A t B C
 unfolding sum
 sum-same s a t b c A B C hc hC e g =
-    ap (λ (x : Bool). cond (Bool·beq s t) (round binary64 s (a + b) c) (cond x (round binary64 t (b - a) c) (round binary64 (s && ltb b a) (a - b) c))) (less-same a b c A B C hc hC e g)
-    ∙ ap (λ (x : Bool). cond (Bool·beq s t) (round binary64 s (a + b) c) (cond (ltb A B) (round binary64 t (b - a) c) (round binary64 (s && x) (a - b) c))) (less-same b a c B A C hc hC g e)
-    ∙ ap (λ (x : Float). cond (Bool·beq s t) x (cond (ltb A B) (round binary64 t (b - a) c) (round binary64 (s && ltb B A) (a - b) c))) (round-same binary64 s (a + b) c (A + B) C hc hC (add-same a b c A B C e g))
-    ∙ ap (λ (x : Float). cond (Bool·beq s t) (round binary64 s (A + B) C) (cond (ltb A B) x (round binary64 (s && ltb B A) (a - b) c))) (round-same binary64 t (b - a) c (B - A) C hc hC (sub-same b a c B A C g e))
-    ∙ ap (λ (x : Float). cond (Bool·beq s t) (round binary64 s (A + B) C) (cond (ltb A B) (round binary64 t (B - A) C) x)) (round-same binary64 (s && ltb B A) (a - b) c (A - B) C hc hC (sub-same a b c A B C e g))
+    ap (λ (x : Bool). cond (Bool·beq s t) (round binary64 s (a + b) c) (cond x (round binary64 t (b - a) c) (round binary64 (s && ltb b a) (a - b) c)))
+    (less-same a b c A B C hc hC e g)
+    ∙ ap (λ (x : Bool). cond (Bool·beq s t) (round binary64 s (a + b) c) (cond (ltb A B) (round binary64 t (b - a) c) (round binary64 (s && x) (a - b) c)))
+    (less-same b a c B A C hc hC g e)
+    ∙ ap (λ (x : Float). cond (Bool·beq s t) x (cond (ltb A B) (round binary64 t (b - a) c) (round binary64 (s && ltb B A) (a - b) c)))
+    (round-same binary64 s (a + b) c (A + B) C hc hC (add-same a b c A B C e g))
+    ∙ ap (λ (x : Float). cond (Bool·beq s t) (round binary64 s (A + B) C) (cond (ltb A B) x (round binary64 (s && ltb B A) (a - b) c)))
+    (round-same binary64 t (b - a) c (B - A) C hc hC (sub-same b a c B A C g e))
+    ∙ ap (λ (x : Float). cond (Bool·beq s t) (round binary64 s (A + B) C) (cond (ltb A B) (round binary64 t (B - A) C) x))
+    (round-same binary64 (s && ltb B A) (a - b) c (A - B) C hc hC (sub-same a b c A B C e g))
 
 -- ---- a sum of two whole multiples of 2 ^ -1074
 
@@ -69,7 +75,9 @@ no-two : (a b : ℕ) → a < b → b < a → ⊥
 no-two a b h g = omega arith
 
 lower : (a b : ℕ) → a < b → Nearest (round binary64 true (b - a) (2 ^ 1074)) true (suc (b - suc a)) (2 ^ 1074)
-lower a b h = subst (λ (x : ℕ). Nearest (round binary64 true x (2 ^ 1074)) true (suc (b - suc a)) (2 ^ 1074)) (sym (below-is a b h)) (round-nearest true (suc (b - suc a)) (2 ^ 1074) (pow-pos 1074))
+lower a b h =
+    subst (λ (x : ℕ). Nearest (round binary64 true x (2 ^ 1074)) true (suc (b - suc a)) (2 ^ 1074)) (sym (below-is a b h))
+    (round-nearest true (suc (b - suc a)) (2 ^ 1074) (pow-pos 1074))
 
 sum-rounds : (s : Bool) (a : ℕ) (t : Bool) (b : ℕ) → Rounds (sum binary64 s a t b (2 ^ 1074)) (signed s a +ℤ signed t b)
 unfolding sum
@@ -77,10 +85,13 @@ sum-rounds false a false b = λ ne. round-nearest false (a + b) (2 ^ 1074) (pow-
 sum-rounds true a true b = subst (λ (z : ℤ). Rounds (round binary64 true (a + b) (2 ^ 1074)) z) (sym (minus-minus a b)) (negated (a + b))
 sum-rounds false a true b = subst (λ (z : ℤ). Rounds (sum binary64 false a true b (2 ^ 1074)) z) (sym (plus-minus a b)) (go (ltb a b) (ltb→lt a b))
   where
-    go : (x : Bool) → (T x → a < b) → Rounds (cond x (round binary64 true (b - a) (2 ^ 1074)) (round binary64 false (a - b) (2 ^ 1074))) (cond x (negsuc (b - suc a)) (pos (a - b)))
+    go : (x : Bool) → (T x → a < b)
+        → Rounds (cond x (round binary64 true (b - a) (2 ^ 1074)) (round binary64 false (a - b) (2 ^ 1074))) (cond x (negsuc (b - suc a)) (pos (a - b)))
     go true h ne = lower a b (h tt)
     go false h ne = round-nearest false (a - b) (2 ^ 1074) (pow-pos 1074)
-sum-rounds true a false b = subst (λ (z : ℤ). Rounds (sum binary64 true a false b (2 ^ 1074)) z) (sym (minus-plus a b)) (go (ltb a b) (ltb b a) (ltb→lt a b) (nltb→le a b) (ltb→lt b a) (nltb→le b a))
+sum-rounds true a false b =
+    subst (λ (z : ℤ). Rounds (sum binary64 true a false b (2 ^ 1074)) z) (sym (minus-plus a b))
+    (go (ltb a b) (ltb b a) (ltb→lt a b) (nltb→le a b) (ltb→lt b a) (nltb→le b a))
   where
     go : (x y : Bool) → (T x → a < b) → (T (not x) → b ≤ a) → (T y → b < a) → (T (not y) → a ≤ b)
         → Rounds (cond x (round binary64 false (b - a) (2 ^ 1074)) (round binary64 y (a - b) (2 ^ 1074))) (cond y (negsuc (a - suc b)) (pos (b - a)))
@@ -107,12 +118,14 @@ sum-zero false a false b e = rounds-zero false (a + b) (ap natAbs e)
 sum-zero true a true b e = rounds-zero true (a + b) (sym (signed-abs true (a + b)) ∙ ap natAbs (sym (minus-minus a b) ∙ e))
 sum-zero false a true b e = go (ltb a b) (ltb→lt a b) (sym (sub-abs a b) ∙ ap natAbs (sym (plus-minus a b) ∙ e))
   where
-    go : (x : Bool) → (T x → a < b) → gap a b ≡ 0 → cond x (round binary64 true (b - a) (2 ^ 1074)) (round binary64 false (a - b) (2 ^ 1074)) ≡ fin false 0 (pos 0)
+    go : (x : Bool) → (T x → a < b) → gap a b ≡ 0
+        → cond x (round binary64 true (b - a) (2 ^ 1074)) (round binary64 false (a - b) (2 ^ 1074)) ≡ fin false 0 (pos 0)
     go true h g = absurd (gap-level a b g (h tt))
     go false h g = rounds-zero false (a - b) (gap-zero a b g)
 sum-zero true a false b e = go (ltb a b) (ltb b a) (ltb→lt a b) (ltb→lt b a) (sym (sub-abs b a) ∙ ap natAbs (sym (minus-plus a b) ∙ e))
   where
-    go : (x y : Bool) → (T x → a < b) → (T y → b < a) → gap b a ≡ 0 → cond x (round binary64 false (b - a) (2 ^ 1074)) (round binary64 y (a - b) (2 ^ 1074)) ≡ fin false 0 (pos 0)
+    go : (x y : Bool) → (T x → a < b) → (T y → b < a) → gap b a ≡ 0
+        → cond x (round binary64 false (b - a) (2 ^ 1074)) (round binary64 y (a - b) (2 ^ 1074)) ≡ fin false 0 (pos 0)
     go true y h k g = absurd (gap-back b a g (h tt))
     go false true h k g = absurd (gap-level b a g (k tt))
     go false false h k g = rounds-zero false (a - b) (gap-turned a b g)
@@ -134,7 +147,8 @@ add-is : (s : Bool) (m : ℕ) (e : ℤ) (t : Bool) (n : ℕ) (d : ℤ) → T (fi
     → add binary64 (fin s m e) (fin t n d) ≡ sum binary64 s (multiple (fin s m e)) t (multiple (fin t n d)) (2 ^ 1074)
 unfolding add
 add-is s m e t n d h k =
-    sum-same s (m * up e * down d) t (n * up d * down e) (down e * down d) (multiple (fin s m e)) (multiple (fin t n d)) (2 ^ 1074) (mul-pos (down-pos e) (down-pos d)) (pow-pos 1074)
+    sum-same s (m * up e * down d) t (n * up d * down e) (down e * down d) (multiple (fin s m e)) (multiple (fin t n d)) (2 ^ 1074)
+    (mul-pos (down-pos e) (down-pos d)) (pow-pos 1074)
     (left-over (m * up e) (down d) (down e) (multiple (fin s m e)) (2 ^ 1074) (multiple-exact s m e h))
     (right-over (n * up d) (down d) (down e) (multiple (fin t n d)) (2 ^ 1074) (multiple-exact t n d k))
 
@@ -144,9 +158,11 @@ add-rounded (inf s) y h k u v = absurd u
 add-rounded (fin s m e) nan h k u v = absurd v
 add-rounded (fin s m e) (inf t) h k u v = absurd v
 add-rounded (fin s m e) (fin t n d) h k u v =
-    subst (λ (r : Float). Rounds r (valueOf (fin s m e) +ℤ valueOf (fin t n d))) (sym (add-is s m e t n d h k)) (sum-rounds s (multiple (fin s m e)) t (multiple (fin t n d)))
+    subst (λ (r : Float). Rounds r (valueOf (fin s m e) +ℤ valueOf (fin t n d))) (sym (add-is s m e t n d h k))
+    (sum-rounds s (multiple (fin s m e)) t (multiple (fin t n d)))
 
-add-zero-sum : (x y : Float) → T (fits binary64 x) → T (fits binary64 y) → T (finite x) → T (finite y) → valueOf x +ℤ valueOf y ≡ pos 0 → add binary64 x y ≡ fin (signOf x && signOf y) 0 (pos 0)
+add-zero-sum : (x y : Float) → T (fits binary64 x) → T (fits binary64 y) → T (finite x) → T (finite y) → valueOf x +ℤ valueOf y ≡ pos 0
+    → add binary64 x y ≡ fin (signOf x && signOf y) 0 (pos 0)
 add-zero-sum nan y h k u v z = absurd u
 add-zero-sum (inf s) y h k u v z = absurd u
 add-zero-sum (fin s m e) nan h k u v z = absurd v

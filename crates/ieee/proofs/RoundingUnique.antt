@@ -19,7 +19,8 @@ use Rattle.ieee.proofs.RoundingSigned.{signed-abs}
 use Rattle.ieee.proofs.RoundingNearest.{same-or-not, apart-like, apart-is, point, finite-is, last-digit, round-nearest}
 
 -- another f64 as near as the rounded one has an odd last digit
-other-odd : (num den : ℕ) → 0 < den → (y : Float) → T (fits binary64 y) → T (finite y) → gap (grid binary64 num den * den) (num * 2 ^ 1074) ≡ gap (multiple y * den) (num * 2 ^ 1074)
+other-odd : (num den : ℕ) → 0 < den → (y : Float) → T (fits binary64 y) → T (finite y)
+    → gap (grid binary64 num den * den) (num * 2 ^ 1074) ≡ gap (multiple y * den) (num * 2 ^ 1074)
     → multiple y ≢ grid binary64 num den → toBits binary64 y % 2 ≡ 1
 other-odd num den D y h t e ne =
     let n = num * 2 ^ 1074 in

@@ -1,7 +1,10 @@
 -- Rounding over the whole numbers. `closest a b` is a whole number nearest to a / b, and where another one is as near it is even and the other odd.
--- `kept * 2 ^ drop`, which `round` gives, is nearest to n / den among all c * 2 ^ g with c of p binary digits. Where another one is as near, the last of its p digits is even and the other's is odd.
+-- `kept * 2 ^ drop`, which `round` gives, is nearest to n / den among all c * 2 ^ g with c of p binary digits. Where another one is as near, the last of its
+-- p digits is even and the other's is odd.
 use Prim.Native.Nat.{ℕ, zero, suc, pred, _+_, _-_, _*_, _/_, _%_, _^_, _≤_, _<_, compare, Ordering, Ordering·lt, Ordering·eq, Ordering·gt}
-use native.Mathlib.Nat.{le-trans, le-of-eq, le-of-lt, le-antisymm, lt-suc-self, lt-of-lt-of-le, lt-of-le-of-lt, lt-of-not-le, not-le-of-lt, zero-lt-suc, suc-pred-eq-of-pos, sub-add-cancel, mul-assoc, mul-right-comm, mul-pos, mul-mod-left, mul-le-mul-right, mul-lt-mul-of-pos-right, div-add-mod', mod-lt, mul-div-cancel, le-div-iff-mul-le, div-div-eq-div-mul, pow-suc}
+use native.Mathlib.Nat.{le-trans, le-of-eq, le-of-lt, le-antisymm, lt-suc-self, lt-of-lt-of-le, lt-of-le-of-lt, lt-of-not-le, not-le-of-lt}
+use native.Mathlib.Nat.{zero-lt-suc, suc-pred-eq-of-pos, sub-add-cancel, mul-assoc, mul-right-comm, mul-pos, mul-mod-left, mul-le-mul-right}
+use native.Mathlib.Nat.{mul-lt-mul-of-pos-right, div-add-mod', mod-lt, mul-div-cancel, le-div-iff-mul-le, div-div-eq-div-mul, pow-suc}
 use native.Mathlib.Omega.{arith}
 use mathlib.Core.Path.{_≡_, sym, ap, _∙_, subst}
 use mathlib.Core.Logic.{_≢_, _⊎_, inl, inr}
@@ -89,7 +92,8 @@ nearest-near Ordering·gt w t b c h g = upper-near w t b c g (le-of-lt h)
 ne-of-lt : (a b : ℕ) → a < b → a ≡ b → ⊥
 ne-of-lt a b h e = omega arith
 
-nearest-even : (o : Ordering) (w t b c : ℕ) → Cmp o (t * 2) b → t < b → gap (nearest w o * b) (w * b + t) ≡ gap (c * b) (w * b + t) → c ≢ nearest w o → nearest w o % 2 ≡ 0
+nearest-even : (o : Ordering) (w t b c : ℕ) → Cmp o (t * 2) b → t < b → gap (nearest w o * b) (w * b + t) ≡ gap (c * b) (w * b + t) → c ≢ nearest w o
+    → nearest w o % 2 ≡ 0
 nearest-even Ordering·lt w t b c h g e n = absurd (ne-of-lt _ _ (lower-alone w t b c h n) e)
 nearest-even Ordering·eq w t b c h g e n = tie-even w
 nearest-even Ordering·gt w t b c h g e n = absurd (ne-of-lt _ _ (upper-alone w t b c g h n) e)
@@ -104,7 +108,8 @@ closest-near a b c B =
 pub closest-even : (a b c : ℕ) → 0 < b → gap (closest a b * b) a ≡ gap (c * b) a → c ≢ closest a b → closest a b % 2 ≡ 0
 closest-even a b c B e n =
     let o = compare (a % b * 2) b in
-    nearest-even o (a / b) (a % b) b c (cmp (a % b * 2) b) (mod-lt a B) (subst (λ (x : ℕ). gap (closest a b * b) x ≡ gap (c * b) x) (sym (div-add-mod' a b)) e) n
+    nearest-even o (a / b) (a % b) b c (cmp (a % b * 2) b) (mod-lt a B)
+    (subst (λ (x : ℕ). gap (closest a b * b) x ≡ gap (c * b) x) (sym (div-add-mod' a b)) e) n
 
 -- ---- the grid: numbers c * 2 ^ g, with c of p digits
 
@@ -223,7 +228,8 @@ last-digit-even p q k P Q e =
 
 -- ---- the other one of a tie is odd
 
-nearest-other : (o : Ordering) (w t b c : ℕ) → Cmp o (t * 2) b → t < b → gap (nearest w o * b) (w * b + t) ≡ gap (c * b) (w * b + t) → c ≢ nearest w o → (w ≤ c) × (c ≤ suc w) × (c % 2 ≡ 1)
+nearest-other : (o : Ordering) (w t b c : ℕ) → Cmp o (t * 2) b → t < b → gap (nearest w o * b) (w * b + t) ≡ gap (c * b) (w * b + t) → c ≢ nearest w o
+    → (w ≤ c) × (c ≤ suc w) × (c % 2 ≡ 1)
 nearest-other Ordering·lt w t b c h g e n = absurd (ne-of-lt _ _ (lower-alone w t b c h n) e)
 nearest-other Ordering·gt w t b c h g e n = absurd (ne-of-lt _ _ (upper-alone w t b c g h n) e)
 nearest-other Ordering·eq w t b c h g e n =
@@ -250,10 +256,13 @@ nearest-other Ordering·eq w t b c h g e n =
 closest-other : (a b c : ℕ) → 0 < b → gap (closest a b * b) a ≡ gap (c * b) a → c ≢ closest a b → (a / b ≤ c) × (c ≤ suc (a / b)) × (c % 2 ≡ 1)
 closest-other a b c B e n =
     let o = compare (a % b * 2) b in
-    nearest-other o (a / b) (a % b) b c (cmp (a % b * 2) b) (mod-lt a B) (subst (λ (x : ℕ). gap (closest a b * b) x ≡ gap (c * b) x) (sym (div-add-mod' a b)) e) n
+    nearest-other o (a / b) (a % b) b c (cmp (a % b * 2) b) (mod-lt a B)
+    (subst (λ (x : ℕ). gap (closest a b * b) x ≡ gap (c * b) x) (sym (div-add-mod' a b)) e) n
 
 odd-under : (p c : ℕ) → 0 < p → c ≤ 2 ^ p → c % 2 ≡ 1 → c < 2 ^ p
-odd-under p c P h o = lt-of-le-ne h (λ (e : c ≡ 2 ^ p). clash (c % 2) o (ap (λ (x : ℕ). x % 2) (e ∙ ap (λ (x : ℕ). 2 ^ x) (sym (suc-pred-eq-of-pos P)) ∙ pow-suc 2 (pred p)) ∙ mul-mod-left (2 ^ pred p) 2))
+odd-under p c P h o =
+    lt-of-le-ne h (λ (e : c ≡ 2 ^ p). clash (c % 2) o (ap (λ (x : ℕ). x % 2) (e ∙ ap (λ (x : ℕ). 2 ^ x) (sym (suc-pred-eq-of-pos P)) ∙ pow-suc 2 (pred p))
+    ∙ mul-mod-left (2 ^ pred p) 2))
   where
     clash : (x : ℕ) → x ≡ 1 → x ≡ 0 → ⊥
     clash x h g = omega arith

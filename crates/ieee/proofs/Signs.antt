@@ -20,7 +20,9 @@ odd-signed d s (suc q) k l = number _ _
 
 units-signed : (s : Bool) (q k : ℕ) → Signed s (units binary64 s q k)
 unfolding units
-units-signed s q k = either (ltb (q * 2 ^ k) (2 ^ (low binary64 + suc (emax binary64)))) (odd (suc (prec binary64)) s q k (low binary64)) (inf s) (odd-signed (suc (prec binary64)) s q k (low binary64)) infinite
+units-signed s q k =
+    either (ltb (q * 2 ^ k) (2 ^ (low binary64 + suc (emax binary64)))) (odd (suc (prec binary64)) s q k (low binary64)) (inf s)
+    (odd-signed (suc (prec binary64)) s q k (low binary64)) infinite
 
 -- rounding keeps the sign
 pub round-signed : (s : Bool) (a c : ℕ) → Signed s (round binary64 s a c)
@@ -39,7 +41,8 @@ difference (fin s m e) (fin t n d) h g =
     let c : ℕ = down e * down d in
     some-sign (Bool·beq s (not t)) (round binary64 s (a + b) c) (cond (ltb a b) (round binary64 (not t) (b - a) c) (round binary64 (s && ltb b a) (a - b) c))
     (s, round-signed s (a + b) c)
-    (some-sign (ltb a b) (round binary64 (not t) (b - a) c) (round binary64 (s && ltb b a) (a - b) c) (not t, round-signed (not t) (b - a) c) (s && ltb b a, round-signed (s && ltb b a) (a - b) c))
+    (some-sign (ltb a b) (round binary64 (not t) (b - a) c) (round binary64 (s && ltb b a) (a - b) c) (not t, round-signed (not t) (b - a) c)
+    (s && ltb b a, round-signed (s && ltb b a) (a - b) c))
 
 -- its square has a clear one
 pub square-clear : (s : Bool) (x : Float) → Signed s x → Signed false (mul binary64 x x)

@@ -26,7 +26,9 @@ large : (e t : ℕ) → 1075 ≤ e → fieldsMultiple e t ≡ fieldsMultiple e t
 large zero t h = absurd (omega arith)
 large (suc e) t h =
     let S = 2 ^ 52 + t in
-    let is : S * 2 ^ e ≡ S * 2 ^ (e - 1074) * 2 ^ 1074 = ap (λ (k : ℕ). S * 2 ^ k) (let x : e ≡ e - 1074 + 1074 = omega arith in x) ∙ ap (λ (n : ℕ). S * n) (pow-add 2 (e - 1074) 1074) ∙ sym (mul-assoc S (2 ^ (e - 1074)) (2 ^ 1074)) in
+    let is : S * 2 ^ e ≡ S * 2 ^ (e - 1074) * 2 ^ 1074 =
+    ap (λ (k : ℕ). S * 2 ^ k) (let x : e ≡ e - 1074 + 1074 = omega arith in x) ∙ ap (λ (n : ℕ). S * n) (pow-add 2 (e - 1074) 1074)
+    ∙ sym (mul-assoc S (2 ^ (e - 1074)) (2 ^ 1074)) in
     is ∙ ap (λ (n : ℕ). n * 2 ^ 1074) (sym (mul-div-cancel (S * 2 ^ (e - 1074)) (pow-pos 1074)) ∙ ap (λ (n : ℕ). n / 2 ^ 1074) (sym is))
 
 pub own-whole : (bits : ℕ) → 1075 ≤ bits / 2 ^ 52 → WholeBits bits bits
@@ -78,9 +80,12 @@ cleared bits k e h =
 
 -- ---- every pattern has one
 pub whole-pattern : (bits : ℕ) → (r : ℕ) × WholeBits bits r
-whole-pattern bits = go (ltb (bits / 2 ^ 52) 1023) (ltb (bits / 2 ^ 52) 1075) (ltb→lt (bits / 2 ^ 52) 1023) (nltb→le (bits / 2 ^ 52) 1023) (ltb→lt (bits / 2 ^ 52) 1075) (nltb→le (bits / 2 ^ 52) 1075)
+whole-pattern bits =
+    go (ltb (bits / 2 ^ 52) 1023) (ltb (bits / 2 ^ 52) 1075) (ltb→lt (bits / 2 ^ 52) 1023) (nltb→le (bits / 2 ^ 52) 1023) (ltb→lt (bits / 2 ^ 52) 1075)
+    (nltb→le (bits / 2 ^ 52) 1075)
   where
-    go : (a b : Bool) → (T a → bits / 2 ^ 52 < 1023) → (T (not a) → 1023 ≤ bits / 2 ^ 52) → (T b → bits / 2 ^ 52 < 1075) → (T (not b) → 1075 ≤ bits / 2 ^ 52) → (r : ℕ) × WholeBits bits r
+    go : (a b : Bool) → (T a → bits / 2 ^ 52 < 1023) → (T (not a) → 1023 ≤ bits / 2 ^ 52) → (T b → bits / 2 ^ 52 < 1075)
+        → (T (not b) → 1075 ≤ bits / 2 ^ 52) → (r : ℕ) × WholeBits bits r
     go true b k l m n = (0, below-one bits (k tt))
     go false false k l m n = (bits, own-whole bits (n tt))
     go false true k l m n =

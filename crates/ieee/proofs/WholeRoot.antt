@@ -12,7 +12,8 @@ pub square-even : (r : ℕ) → r * 2 * (r * 2) ≡ 4 * (r * r)
 square-even r = let e : r * 2 * (r * 2) ≡ r * r * 4 = mul-mul-mul-comm r 2 r 2 in omega arith
 
 pub square-next : (r : ℕ) → (r + 1) * (r + 1) ≡ r * r + 2 * r + 1
-square-next r = let e : (r + 1) * (r + 1) ≡ r * (r + 1) + 1 * (r + 1) = add-mul r 1 (r + 1) in let f : r * (r + 1) ≡ r * r + r * 1 = mul-add r r 1 in omega arith
+square-next r =
+    let e : (r + 1) * (r + 1) ≡ r * (r + 1) + 1 * (r + 1) = add-mul r 1 (r + 1) in let f : r * (r + 1) ≡ r * r + r * 1 = mul-add r r 1 in omega arith
 
 pub square-odd : (r : ℕ) → (r * 2 + 1) * (r * 2 + 1) ≡ 4 * (r * r) + 4 * r + 1
 square-odd r = square-next (r * 2) ∙ let e = square-even r in omega arith
@@ -40,7 +41,9 @@ digit-lt : (r n : ℕ) → n / 4 < (r + 1) * (r + 1) → n < (nextDigit r n + 1)
 digit-lt r n h = go (leb ((2 * r + 1) * (2 * r + 1)) n) (nleb→lt ((2 * r + 1) * (2 * r + 1)) n)
   where
     go : (b : Bool) → (T (not b) → n < (2 * r + 1) * (2 * r + 1)) → n < (cond b (2 * r + 1) (2 * r) + 1) * (cond b (2 * r + 1) (2 * r) + 1)
-    go true t = let e = square-next (2 * r + 1) in let f = square-next (2 * r) in let g = square-next r in let k : 2 * r * (2 * r) ≡ 4 * (r * r) = mul-mul-mul-comm 2 r 2 r in omega arith
+    go true t =
+        let e = square-next (2 * r + 1) in let f = square-next (2 * r) in let g = square-next r in
+        let k : 2 * r * (2 * r) ≡ 4 * (r * r) = mul-mul-mul-comm 2 r 2 r in omega arith
     go false t = t tt
 
 pub whole-root-le : (k n : ℕ) → wholeRoot k n * wholeRoot k n ≤ n
@@ -51,4 +54,6 @@ whole-root-le (suc k) n = digit-le (wholeRoot k (n / 4)) n (whole-root-le k (n /
 pub whole-root-lt : (k n : ℕ) → n < 4 ^ k → n < (wholeRoot k n + 1) * (wholeRoot k n + 1)
 unfolding wholeRoot
 whole-root-lt zero n h = h
-whole-root-lt (suc k) n h = digit-lt (wholeRoot k (n / 4)) n (whole-root-lt k (n / 4) (div-lt-iff-lt-mul {k = 4} {x = n} {y = 4 ^ k} (lit< tt) .1 (subst (λ (z : ℕ). n < z) (pow-suc 4 k) h)))
+whole-root-lt (suc k) n h =
+    digit-lt (wholeRoot k (n / 4)) n (whole-root-lt k (n / 4)
+    (div-lt-iff-lt-mul {k = 4} {x = n} {y = 4 ^ k} (lit< tt) .1 (subst (λ (z : ℕ). n < z) (pow-suc 4 k) h)))

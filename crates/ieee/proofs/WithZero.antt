@@ -16,7 +16,8 @@ unfolding add ofBits
 plus-zero nan f h = refl
 plus-zero (inf s) f h = refl
 plus-zero (fin true m e) f h = cc
-plus-zero (fin false m e) f h = rw (zero-mul (down e), zero-add, mul-one, one-mul) (round-own (fin false m e) false (m * up e) (down e) f (down-pos e) (refl, refl))
+plus-zero (fin false m e) f h =
+    rw (zero-mul (down e), zero-add, mul-one, one-mul) (round-own (fin false m e) false (m * up e) (down e) f (down-pos e) (refl, refl))
 
 pub less-zero : (x : Float) → T (fits binary64 x) → sub binary64 x zeroFloat ≡ x
 unfolding sub ofBits

@@ -40,11 +40,14 @@ zero-exponent s (negsuc k) h = absurd (even k (sym (one-mul (2 ^ suc k)) ∙ eqb
 -- a magnitude m * up e that is 0 has m = 0
 zero-digits : (m : ℕ) (e : ℤ) → m * up e * 1 ≡ 0 → m ≡ 0
 zero-digits zero e h = refl
-zero-digits (suc m) e h = let p : 0 < suc m * up e = mul-pos (zero-lt-suc m) (up-pos e) in let q : suc m * up e ≡ 0 = sym (mul-one (suc m * up e)) ∙ h in absurd (omega arith)
+zero-digits (suc m) e h =
+    let p : 0 < suc m * up e = mul-pos (zero-lt-suc m) (up-pos e) in let q : suc m * up e ≡ 0 = sym (mul-one (suc m * up e)) ∙ h in absurd (omega arith)
 
 pub magnitude-zero : (s : Bool) (m : ℕ) (e : ℤ) → T (eq (fin s m e) zeroFloat) → m ≡ 0
 unfolding eq ofBits
-magnitude-zero s m e h = zero-digits m e (eqb→eq (m * up e * 1) (0 * 1 * down e) (and-l (eqb (m * up e * 1) (0 * 1 * down e)) (Bool·beq s false || eqb (m * up e * 1) 0) h) ∙ zero-mul (down e))
+magnitude-zero s m e h =
+    zero-digits m e (eqb→eq (m * up e * 1) (0 * 1 * down e) (and-l (eqb (m * up e * 1) (0 * 1 * down e)) (Bool·beq s false || eqb (m * up e * 1) 0) h)
+    ∙ zero-mul (down e))
 
 pub eq-zero : (x : Float) → T (fits binary64 x) → T (eq x zeroFloat) → absOf x ≡ fin false 0 (pos 0)
 unfolding eq ofBits
@@ -62,7 +65,8 @@ negative nan h = refl
 negative (inf true) h = refl
 negative (inf false) h = absurd h
 negative (fin true m e) h = refl
-negative (fin false m e) h = let l : m * up e * 1 < 0 * 1 * down e = ltb→lt (m * up e * 1) (0 * 1 * down e) h in let z : 0 * 1 * down e ≡ 0 = zero-mul (down e) in absurd (omega arith)
+negative (fin false m e) h =
+    let l : m * up e * 1 < 0 * 1 * down e = ltb→lt (m * up e * 1) (0 * 1 * down e) h in let z : 0 * 1 * down e ≡ 0 = zero-mul (down e) in absurd (omega arith)
 
 -- a sign that is set on a number that is neither below zero nor zero: there is none
 no-such : (m : ℕ) (e : ℤ) → T (not (lt (fin true m e) zeroFloat)) → T (not (eq (fin true m e) zeroFloat)) → ⊥

@@ -1,6 +1,8 @@
--- IEEE 754-2019 for f64: its rounding to nearest, ties to even (§4.3.1), and what it asks of a sum, a difference, a product and a quotient (§4.3, §6, §7.2, §7.3).
+-- IEEE 754-2019 for f64: its rounding to nearest, ties to even (§4.3.1), and what it asks of a sum, a difference, a product and a quotient (§4.3, §6, §7.2,
+-- §7.3).
 -- An exact result is ±num / den, a fraction of two whole numbers, so the rule is said over whole numbers. How a result is worked out is not said here.
--- That the operations of the language obey it is proved in proofs/RoundingSum.antt and proofs/RoundingProduct.antt; that it leaves no other result, in proofs/RoundingUnique.antt.
+-- That the operations of the language obey it is proved in proofs/RoundingSum.antt and proofs/RoundingProduct.antt; that it leaves no other result, in
+-- proofs/RoundingUnique.antt.
 use Prim.Native.Nat.{ℕ, _-_, _*_, _%_, _^_, _≤_, _<_}
 use mathlib.Core.Path.{_≡_}
 use mathlib.Core.Logic.{_≢_}
@@ -32,10 +34,13 @@ pub record Nearest (r : Float) (s : Bool) (num den : ℕ) : Type 0 where
   pub under : num < overflowBound * den → T (finite r)
   -- "the floating-point number nearest to the infinitely precise result shall be delivered"
   pub nearest : T (finite r) → (y : Float) → T (fits binary64 y) → T (finite y) → apart r s num den ≤ apart y s num den
-  -- "if the two nearest floating-point numbers bracketing an unrepresentable infinitely precise result are equally near, the one with an even least significant digit shall be delivered"
-  pub even : T (finite r) → (y : Float) → T (fits binary64 y) → T (finite y) → apart r s num den ≡ apart y s num den → valueOf y ≢ valueOf r → toBits binary64 r % 2 ≡ 0
+  -- "if the two nearest floating-point numbers bracketing an unrepresentable infinitely precise result are equally near, the one with an even least
+  -- significant digit shall be delivered"
+  pub even : T (finite r) → (y : Float) → T (fits binary64 y) → T (finite y) → apart r s num den ≡ apart y s num den → valueOf y ≢ valueOf r
+      → toBits binary64 r % 2 ≡ 0
 
--- ---- the operations. Each is performed "as if it first produced an intermediate result correct to infinite precision and with unbounded range, and then rounded that result" (§4.3).
+-- ---- the operations. Each is performed "as if it first produced an intermediate result correct to infinite precision and with unbounded range, and then
+-- rounded that result" (§4.3).
 -- Of an operation with a NaN for an input "the result shall be a quiet NaN" (§6.2), and so shall the result of an invalid one (§7.2).
 
 abbrev pub negative : ℤ → Bool
@@ -45,8 +50,10 @@ negative (negsuc n) = true
 -- r is x + y
 pub record Sum (x y r : Float) : Type 0 where
   -- the exact sum is a whole multiple of 2^-1074
-  pub rounded : T (finite x) → T (finite y) → valueOf x +ℤ valueOf y ≢ pos 0 → Nearest r (negative (valueOf x +ℤ valueOf y)) (natAbs (valueOf x +ℤ valueOf y)) (2 ^ 1074)
-  -- §6.3: "When the sum of two operands with opposite signs .. is exactly zero, the sign of that sum .. shall be +0"; "when x is zero, x + x .. [has] the sign of x"
+  pub rounded : T (finite x) → T (finite y) → valueOf x +ℤ valueOf y ≢ pos 0
+      → Nearest r (negative (valueOf x +ℤ valueOf y)) (natAbs (valueOf x +ℤ valueOf y)) (2 ^ 1074)
+  -- §6.3: "When the sum of two operands with opposite signs .. is exactly zero, the sign of that sum .. shall be +0"; "when x is zero, x + x .. [has] the
+  -- sign of x"
   pub exactZero : T (finite x) → T (finite y) → valueOf x +ℤ valueOf y ≡ pos 0 → r ≡ fin (signOf x && signOf y) 0 (pos 0)
   -- §6.1: "addition(∞, x), addition(x, ∞) .. for finite x" are exact; and two infinities of one sign are the limiting case of two large numbers of that sign
   pub leftInfinite : (s : Bool) → x ≡ inf s → T (finite y) → r ≡ inf s
@@ -59,8 +66,10 @@ pub record Sum (x y r : Float) : Type 0 where
 
 -- r is x - y
 pub record Difference (x y r : Float) : Type 0 where
-  pub rounded : T (finite x) → T (finite y) → valueOf x -ℤ valueOf y ≢ pos 0 → Nearest r (negative (valueOf x -ℤ valueOf y)) (natAbs (valueOf x -ℤ valueOf y)) (2 ^ 1074)
-  -- §6.3: "When .. the difference of two operands with like signs .. is exactly zero, the sign of that .. difference .. shall be +0"; "when x is zero, .. x - (-x) [has] the sign of x"
+  pub rounded : T (finite x) → T (finite y) → valueOf x -ℤ valueOf y ≢ pos 0
+      → Nearest r (negative (valueOf x -ℤ valueOf y)) (natAbs (valueOf x -ℤ valueOf y)) (2 ^ 1074)
+  -- §6.3: "When .. the difference of two operands with like signs .. is exactly zero, the sign of that .. difference .. shall be +0"; "when x is zero, .. x -
+  -- (-x) [has] the sign of x"
   pub exactZero : T (finite x) → T (finite y) → valueOf x -ℤ valueOf y ≡ pos 0 → r ≡ fin (signOf x && not (signOf y)) 0 (pos 0)
   -- §6.1: "subtraction(∞, x), or subtraction(x, ∞), for finite x" are exact
   pub leftInfinite : (s : Bool) → x ≡ inf s → T (finite y) → r ≡ inf s

@@ -15,8 +15,10 @@ unfoldable pub wholeRoot : ℕ → ℕ → ℕ
 wholeRoot zero n = 0
 wholeRoot (suc k) n = nextDigit (wholeRoot k (n / 4)) n
 
--- The root of v multiples of 2^-1074, for a v above 0: in the same multiples it lies from w up to w + 1, for w the whole root of v * 2^1074, which is below 4^1586.
--- No number half-way between two f64 lies strictly between w and w + 1, nor is a root itself such a number, so w + 1/2 is rounded once and the root's f64 comes out.
+-- The root of v multiples of 2^-1074, for a v above 0: in the same multiples it lies from w up to w + 1, for w the whole root of v * 2^1074, which is below
+-- 4^1586.
+-- No number half-way between two f64 lies strictly between w and w + 1, nor is a root itself such a number, so w + 1/2 is rounded once and the root's f64
+-- comes out.
 unfoldable pub rootOf : ℕ → Float
 unfolding wholeRoot round
 rootOf v = round binary64 false (2 * wholeRoot 1586 (v * 2 ^ 1074) + 1) (2 * 2 ^ 1074)

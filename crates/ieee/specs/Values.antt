@@ -1,4 +1,5 @@
--- The value of a finite f64 as a whole multiple of 2^-1074, the smallest f64 above zero, in the kit's account of a float: `fin s m e` is m * 2^e with the sign s.
+-- The value of a finite f64 as a whole multiple of 2^-1074, the smallest f64 above zero, in the kit's account of a float: `fin s m e` is m * 2^e with the
+-- sign s.
 -- Every finite f64 is such a multiple (proofs/Fields.antt).
 use Prim.Native.Nat.{ℕ, zero, suc, _+_, _*_, _/_, _^_}
 use mathlib.Core.Bool.{Bool, true, false}

@@ -106,6 +106,7 @@ module _ (xs : List Float) (i d : ℕ) (h : hasPoint xs i d ≡ true) where
   pub point-within : i * d + d ≤ length xs
   point-within = leb-true (i * d + d) (length xs) (and-second (offered d) (leb (i * d + d) (length xs)) h)
 
-pub distance-offered : (xs : List Float) (i : ℕ) (ys : List Float) (j d : ℕ) → offered d ≡ true → distance xs i ys j d ≡ sqrtOf (squares (axisFrom xs (i * d)) (axisFrom ys (j * d)) d)
+pub distance-offered : (xs : List Float) (i : ℕ) (ys : List Float) (j d : ℕ) → offered d ≡ true
+    → distance xs i ys j d ≡ sqrtOf (squares (axisFrom xs (i * d)) (axisFrom ys (j * d)) d)
 unfolding distance
 distance-offered xs i ys j d h = rw h

@@ -1,4 +1,5 @@
--- The square of a difference is that of the opposite difference, bit for bit, and has a clear sign: what rounding does to a magnitude does not look at its sign.
+-- The square of a difference is that of the opposite difference, bit for bit, and has a clear sign: what rounding does to a magnitude does not look at its
+-- sign.
 use Prim.Native.Nat.{ℕ, zero, suc, _+_, _-_, _*_, _≤_, _<_}
 use native.Mathlib.Nat.{mul-comm, add-comm}
 use native.Mathlib.Omega.{arith}
@@ -40,14 +41,17 @@ module _ (a b c : ℕ) where
       let e : a - b ≡ b - a = omega arith in
       ap (λ (z : ℕ). round binary64 false z c) e
 
-abs-gap : (b s t : Bool) (n m c : ℕ) → absOf (cond b (round binary64 s n c) (round binary64 t m c)) ≡ cond b (round binary64 false n c) (round binary64 false m c)
+abs-gap : (b s t : Bool) (n m c : ℕ)
+    → absOf (cond b (round binary64 s n c) (round binary64 t m c)) ≡ cond b (round binary64 false n c) (round binary64 false m c)
 abs-gap true s t n m c = abs-round s n c
 abs-gap false s t n m c = abs-round t m c
 
 abs-sub : (s t : Bool) (a b c : ℕ) → absOf (sum binary64 s a (not t) b c) ≡ absOf (sum binary64 t b (not s) a c)
 unfolding sum
-abs-sub true true a b c = abs-gap (ltb a b) false (ltb b a) (b - a) (a - b) c ∙ gap a b c (ltb a b) (ltb b a) refl refl ∙ sym (abs-gap (ltb b a) false (ltb a b) (a - b) (b - a) c)
-abs-sub false false a b c = abs-gap (ltb a b) true false (b - a) (a - b) c ∙ gap a b c (ltb a b) (ltb b a) refl refl ∙ sym (abs-gap (ltb b a) true false (a - b) (b - a) c)
+abs-sub true true a b c =
+    abs-gap (ltb a b) false (ltb b a) (b - a) (a - b) c ∙ gap a b c (ltb a b) (ltb b a) refl refl ∙ sym (abs-gap (ltb b a) false (ltb a b) (a - b) (b - a) c)
+abs-sub false false a b c =
+    abs-gap (ltb a b) true false (b - a) (a - b) c ∙ gap a b c (ltb a b) (ltb b a) refl refl ∙ sym (abs-gap (ltb b a) true false (a - b) (b - a) c)
 abs-sub true false a b c = abs-round true (a + b) c ∙ ap (λ (n : ℕ). round binary64 false n c) (add-comm a b) ∙ sym (abs-round false (b + a) c)
 abs-sub false true a b c = abs-round false (a + b) c ∙ ap (λ (n : ℕ). round binary64 false n c) (add-comm a b) ∙ sym (abs-round true (b + a) c)
 

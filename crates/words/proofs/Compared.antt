@@ -17,7 +17,8 @@ use lib.IntN.{ℤ, pos, negsuc}
 use Rattle.words.specs.declared.Order.{Order}
 use Rattle.words.specs.declared.Order.the-variants.{Below, Same, Above}
 use Rattle.words.specs.Words.{number, modulus, half, reading}
-use Rattle.words.specs.Compared.{orderOf, isAtMost, HighestDiffering, signedWord, readAt, orLowest, lowestPlace, highestPlace, lessPlace, wordsTaken, SaysOf}
+use Rattle.words.specs.Compared.{orderOf, isAtMost, HighestDiffering, signedWord, readAt, orLowest}
+use Rattle.words.specs.Compared.{lowestPlace, highestPlace, lessPlace, wordsTaken, SaysOf}
 use Rattle.words.proofs.Whole.{either-lt}
 use Rattle.words.proofs.Words.{Words, words-get}
 use Rattle.words.proofs.Held.{number-below}
@@ -128,7 +129,8 @@ module _ (a b : List ℕ) (u : Words a) (v : Words b) (k : length a ≡ 67) (l :
   numbers : orderOf (pos (number a)) (pos (number b)) ≡ orderOf (pos (getD a i 0)) (pos (getD b i 0))
   numbers =
       ⊎-elim
-      (λ (h : getD a i 0 < getD b i 0). below _ _ (number-less a b i u v (k ∙ sym l) (subst (λ (n : ℕ). i < n) (sym k) within) (d .above) h) ∙ sym (below _ _ h))
+      (λ (h : getD a i 0 < getD b i 0). below _ _ (number-less a b i u v (k ∙ sym l) (subst (λ (n : ℕ). i < n) (sym k) within) (d .above) h)
+      ∙ sym (below _ _ h))
       (λ (h : getD b i 0 ≤ getD a i 0). let g : getD b i 0 < getD a i 0 = lt-of-le-ne h (λ e. d .differs (sym e)) in
       above _ _ (number-less b a i v u (l ∙ sym k) (subst (λ (n : ℕ). i < n) (sym l) within) (λ j q. sym (d .above j q)) g) ∙ sym (above _ _ g))
       (either-lt (getD a i 0) (getD b i 0))

@@ -56,7 +56,9 @@ module _ (ws : List ℕ) (w : Words ws) (l : length ws ≡ 67) where
   whole = ap number (sym (take-all 67 ws (subst (λ (n : ℕ). n ≤ 67) (sym l) (le-refl 67)))) ∙ number-take ws 66 (subst (λ (n : ℕ). 66 < n) (sym l) (le-refl 67))
 
   short : rest < p
-  short = subst (λ (n : ℕ). rest < 2 ^ (64 * n)) (length-take-le 66 ws (subst (λ (n : ℕ). 66 ≤ n) (sym l) (omega arith))) (number-lt (take 66 ws) (words-take ws 66 w))
+  short =
+      subst (λ (n : ℕ). rest < 2 ^ (64 * n)) (length-take-le 66 ws (subst (λ (n : ℕ). 66 ≤ n) (sym l) (omega arith)))
+      (number-lt (take 66 ws) (words-take ws 66 w))
 
   more : (n m : ℕ) → m ≤ n + m
   more n m = omega arith

@@ -26,7 +26,8 @@ loop-holds c =
       are-words 67 (a .sum) _ (c .good .0),
       their-length 67 (a .sum) _ (c .good .0),
       omega arith,
-      subst (λ (x : ℕ). Moved (a .negative) (number (a .sum)) (number (a .sum)) (2 ^ (64 * a .from)) x) (sym (one-mul (2 ^ (64 * a .from)))) (moved-none (a .negative) _ _),
+      subst (λ (x : ℕ). Moved (a .negative) (number (a .sum)) (number (a .sum)) (2 ^ (64 * a .from)) x) (sym (one-mul (2 ^ (64 * a .from))))
+          (moved-none (a .negative) _ _),
     )
 
 returns : tie.Need-returns Inv-loop μ-loop

@@ -18,7 +18,8 @@ returns : tie.Need-returns
 returns c =
     let a = c .before .args in
     c .add-product .ensures
-    ∙ ap (λ (z : ℤ). held (reading (a .sum) +ℤ z)) (ap (λ (w : ℤ). w *ℤ units (a .y)) (units-neg (a .x) (holds (fits binary64 (a .x)) (c .before .good .1 .0 .1))) ∙ negℤ-*ℤ (units (a .x)) (units (a .y)))
+    ∙ ap (λ (z : ℤ). held (reading (a .sum) +ℤ z)) (ap (λ (w : ℤ). w *ℤ units (a .y))
+    (units-neg (a .x) (holds (fits binary64 (a .x)) (c .before .good .1 .0 .1))) ∙ negℤ-*ℤ (units (a .x)) (units (a .y)))
 
 pub sub-product-spec : {M : Type 1} → statement M
 sub-product-spec = tie.close (tie.spec add-product-requires returns)

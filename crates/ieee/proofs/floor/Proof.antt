@@ -37,7 +37,8 @@ returns-3 : tie.Need-returns-3
 returns-3 c =
     let d = c .before .before in
     let x = d .before .before .args .x in
-    floor-zero x (holds (fits binary64 x) (d .before .before .good .0 .1)) (number d) (fails (lt (ofBits binary64 0) x) (c .before .if2 .left)) (fails (lt x (ofBits binary64 0)) (c .if3 .left))
+    floor-zero x (holds (fits binary64 x) (d .before .before .good .0 .1)) (number d) (fails (lt (ofBits binary64 0) x) (c .before .if2 .left))
+    (fails (lt x (ofBits binary64 0)) (c .if3 .left))
 
 returns-4 : tie.Need-returns-4
 returns-4 c =

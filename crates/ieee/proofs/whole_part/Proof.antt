@@ -27,7 +27,8 @@ returns : tie.Need-returns
 returns c =
     let d = c .before in
     let x = d .args .x in
-    floor-plain x (ofBits binary64 (c .whole-bits .result)) (fitting d) (d .pre .0) (d .pre .1) (whole-of-bits x (c .whole-bits .result) (fitting d) (d .pre .0) (d .pre .1) (c .whole-bits .ensures))
+    floor-plain x (ofBits binary64 (c .whole-bits .result)) (fitting d) (d .pre .0) (d .pre .1)
+    (whole-of-bits x (c .whole-bits .result) (fitting d) (d .pre .0) (d .pre .1) (c .whole-bits .ensures))
 
 pub whole-part-spec : {M : Type 1} → statement M
 whole-part-spec =

@@ -1,4 +1,5 @@
--- `variogram::has_point` meets its contract: a dimension that is not offered answers at once, and so does an i at which even points of one number are past the end,
+-- `variogram::has_point` meets its contract: a dimension that is not offered answers at once, and so does an i at which even points of one number are past
+-- the end,
 -- so that i * d does not wrap.
 use Prim.Native.Nat.{_+_, _*_, _≤_, _<_}
 use mathlib.Core.Path.{sym}
