@@ -119,9 +119,9 @@ fn answer(head: Head, numbers: &[f64], codes: &[u8], file: &mut [u8]) -> Came {
         part(numbers, lists.values, lists.coords),
         codes,
         part(numbers, lists.coords, lists.external),
+        head.options,
         part(numbers, lists.external, lists.nodes),
         part(numbers, lists.nodes, lists.node_external),
-        head.options,
         head.tolerance,
         file,
     );
