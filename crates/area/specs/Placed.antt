@@ -17,3 +17,8 @@ Room at bytes area = at + length bytes ≤ length area
 pub record Put (at : ℕ) (bytes area : List ℕ) (next : ℕ) (exit : List ℕ) : Type 0 where
   pub past : next ≡ at + length bytes
   pub holds : exit ≡ placed at bytes area
+
+-- and where there is no room: nothing is put, and the place is as it was
+pub record NotPut (at : ℕ) (area : List ℕ) (next : ℕ) (exit : List ℕ) : Type 0 where
+  pub past : next ≡ at
+  pub holds : exit ≡ area

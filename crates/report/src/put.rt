@@ -1,21 +1,11 @@
 // Texts, put into a lent area from a place on. Each function answers the place past its text.
+use area::put_bytes;
 ghost use mathlib.Core.Path.{_≡_};
 ghost use mathlib.Core.List.{[], _∷_};
 ghost use lib.ListN.{length};
 ghost use Rattle.report.specs.Numerals.{decimalText, bitsText};
 ghost use Rattle.report.specs.Listing.{spaced, wordLine, countLine, nodeLine, bitsLine, lines, nodeAt, bitsAt, refusedText};
 ghost use Rattle.area.specs.Placed.{Room, Put};
-
-// Bytes as they are.
-fn put_bytes(bytes: &[u8], text: &mut [u8], at: usize) -> usize
-    requires { ⌜ Room at (now bytes) (now text) ⌝ }
-    ensures { λ r. ⌜ Put at (now (bytes .entry)) (now (text .entry)) r (now (text .exit)) ⌝ }
-{
-    for j in 0..bytes.len() {
-        text[at + j] = bytes[j];
-    }
-    at + bytes.len()
-}
 
 // One byte.
 fn put_byte(byte: u8, text: &mut [u8], at: usize) -> usize

@@ -28,14 +28,3 @@ pub(crate) fn put_numbers(numbers: &[f64], file: &mut [u8], at: usize) -> usize
     }
     next
 }
-
-// Bytes as they are.
-pub(crate) fn put_bytes(bytes: &[u8], file: &mut [u8], at: usize) -> usize
-    requires { ⌜ at + length (now bytes) ≤ length (now file) ⌝ }
-    ensures { λ r. ⌜ Put at (now (bytes .entry)) (now (file .entry)) r (now (file .exit)) ⌝ }
-{
-    for j in 0..bytes.len() {
-        file[at + j] = bytes[j];
-    }
-    at + bytes.len()
-}

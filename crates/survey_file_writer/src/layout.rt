@@ -1,7 +1,7 @@
 // A file as the paper lays it out: the body, the codes and the trailer. There is no note, so the body begins at byte 0.
-use crate::bytes::put_bytes;
 use crate::bytes::put_numbers;
 use crate::refusals::taken_externals;
+use area::put_bytes;
 use survey::UniversalKrigingOptions;
 use variogram::VariogramModel;
 ghost use mathlib.Core.Path.{_≡_};

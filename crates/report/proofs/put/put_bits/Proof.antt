@@ -51,11 +51,14 @@ slice-aggregate-put-bytes : tie.Need-slice-aggregate-put-bytes
 slice-aggregate-put-bytes c = search needs
 
 put-bytes-requires : tie.Need-put-bytes-requires
-put-bytes-requires c κs =
-    let written = c .before .before in
-    let space = at-space written in
+put-bytes-requires c κs = search needs
+
+-- there is room for them past the space
+digits-fit : (c : tie.After-hex) → let space = at-space c in Room (space .put-byte .result) (take (c .hex .result) (c .hex .last .1 .1 .0)) (space .put-byte .last .1 .0)
+digits-fit c =
+    let space = at-space c in
     let entry = at-entry space in
-    subst (λ (t : List ℕ). Room (space .put-byte .result) t (space .put-byte .last .1 .0)) (sym (digits-are written))
+    subst (λ (t : List ℕ). Room (space .put-byte .result) t (space .put-byte .last .1 .0)) (sym (digits-are c))
     (room-then {xs = 32 ∷ []} (bitsText (entry .args .x)) (entry .pre) (space .put-byte .ensures))
 
 -- fn put_bits(x: f64, text: &mut [u8], at: usize) -> usize
@@ -69,7 +72,7 @@ returns c =
     let space = at-space written in
     put-then (space .put-byte .ensures)
     (subst (λ (t : List ℕ). Put (space .put-byte .result) t (space .put-byte .last .1 .0) (called .put-bytes .result) (called .put-bytes .last .1 .0))
-    (digits-are written) (called .put-bytes .ensures))
+    (digits-are written) (called .put-bytes .ensures .0 (digits-fit written)))
 
 pub put-bits-spec : {M : Type 1} → statement M
 put-bits-spec =

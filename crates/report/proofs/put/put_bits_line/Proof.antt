@@ -24,21 +24,24 @@ at-bits c = c .before .before .before
 for-two : (c : tie.Start) → Room (c .args .at) (c .args .word .now ++ spaced (bitsText (c .args .x))) (c .args .text .now)
 for-two c = room-first (c .args .at) (c .args .word .now ++ spaced (bitsText (c .args .x))) (ascii "\n") (c .args .text .now) (c .pre)
 
+word-put : (c : tie.After-put-bytes) → let a = at-entry c .args in Put (a .at) (a .word .now) (a .text .now) (c .put-bytes .result) (c .put-bytes .last .1 .0)
+word-put c =
+    let a = at-entry c .args in
+    c .put-bytes .ensures .0 (room-first (a .at) (a .word .now) (spaced (bitsText (a .x))) (a .text .now) (for-two (at-entry c)))
+
 -- what stands there after both
 put-two : (c : tie.After-put-bits) → let s = at-entry (at-word (c .before)) in
     Put (s .args .at) (s .args .word .now ++ spaced (bitsText (s .args .x))) (s .args .text .now) (c .put-bits .result) (c .put-bits .last .1 .0)
-put-two c = put-then (at-word (c .before) .put-bytes .ensures) (c .put-bits .ensures)
+put-two c = put-then (word-put (at-word (c .before))) (c .put-bits .ensures)
 
 -- let named = put_bytes(word, text, at);
 put-bytes-requires : tie.Need-put-bytes-requires
-put-bytes-requires c κs =
-    let a = at-called c .args in
-    room-first (a .at) (a .word .now) (spaced (bitsText (a .x))) (a .text .now) (for-two (at-called c))
+put-bytes-requires c κs = search needs
 
 -- let figured = put_bits(x, text, named);
 put-bits-requires : tie.Need-put-bits-requires
 put-bits-requires c κs =
-    let word = at-word c in room-then (spaced (bitsText (at-entry word .args .x))) (for-two (at-entry word)) (word .put-bytes .ensures)
+    let word = at-word c in room-then (spaced (bitsText (at-entry word .args .x))) (for-two (at-entry word)) (word-put word)
 
 -- put_byte(b'\n', text, figured)
 put-byte-requires : tie.Need-put-byte-requires

@@ -32,9 +32,16 @@ slice-aggregate-put-bytes : tie.Need-slice-aggregate-put-bytes
 slice-aggregate-put-bytes c = search needs
 
 put-bytes-requires : tie.Need-put-bytes-requires
-put-bytes-requires c κs =
-    let entry = at-entry (c .before .before) in
-    subst (λ (t : List ℕ). Room (entry .args .at) t (entry .args .text .now)) (sym (digits-are (c .before .before))) (entry .pre)
+put-bytes-requires c κs = search needs
+
+-- there is room for them
+digits-put : (c : tie.After-put-bytes) → let counted = at-count c in let entry = at-entry counted in
+    Put (entry .args .at) (take (counted .decimal .result) (counted .decimal .last .1 .0)) (entry .args .text .now) (c .put-bytes .result)
+    (c .put-bytes .last .1 .0)
+digits-put c =
+    let counted = at-count c in
+    let entry = at-entry counted in
+    c .put-bytes .ensures .0 (subst (λ (t : List ℕ). Room (entry .args .at) t (entry .args .text .now)) (sym (digits-are counted)) (entry .pre))
 
 -- fn put_decimal(n: u64, text: &mut [u8], at: usize) -> usize
 same-length : tie.Need-same-length
@@ -46,7 +53,7 @@ returns c =
     let counted = at-count called in
     let entry = at-entry counted in
     subst (λ (t : List ℕ). Put (entry .args .at) t (entry .args .text .now) (called .put-bytes .result) (called .put-bytes .last .1 .0)) (digits-are counted)
-    (called .put-bytes .ensures)
+    (digits-put called)
 
 pub put-decimal-spec : {M : Type 1} → statement M
 put-decimal-spec =

@@ -24,21 +24,24 @@ at-number c = c .before .before .before
 for-two : (c : tie.Start) → Room (c .args .at) (c .args .word .now ++ spaced (decimalText (c .args .n))) (c .args .text .now)
 for-two c = room-first (c .args .at) (c .args .word .now ++ spaced (decimalText (c .args .n))) (ascii "\n") (c .args .text .now) (c .pre)
 
+word-put : (c : tie.After-put-bytes) → let a = at-entry c .args in Put (a .at) (a .word .now) (a .text .now) (c .put-bytes .result) (c .put-bytes .last .1 .0)
+word-put c =
+    let a = at-entry c .args in
+    c .put-bytes .ensures .0 (room-first (a .at) (a .word .now) (spaced (decimalText (a .n))) (a .text .now) (for-two (at-entry c)))
+
 -- what stands there after both
 put-two : (c : tie.After-put-number) → let s = at-entry (at-word (c .before)) in
     Put (s .args .at) (s .args .word .now ++ spaced (decimalText (s .args .n))) (s .args .text .now) (c .put-number .result) (c .put-number .last .1 .0)
-put-two c = put-then (at-word (c .before) .put-bytes .ensures) (c .put-number .ensures)
+put-two c = put-then (word-put (at-word (c .before))) (c .put-number .ensures)
 
 -- let past = put_bytes(word, text, at);
 put-bytes-requires : tie.Need-put-bytes-requires
-put-bytes-requires c κs =
-    let a = at-called c .args in
-    room-first (a .at) (a .word .now) (spaced (decimalText (a .n))) (a .text .now) (for-two (at-called c))
+put-bytes-requires c κs = search needs
 
 -- let end = put_number(n, text, past);
 put-number-requires : tie.Need-put-number-requires
 put-number-requires c κs =
-    let word = at-word c in room-then (spaced (decimalText (at-entry word .args .n))) (for-two (at-entry word)) (word .put-bytes .ensures)
+    let word = at-word c in room-then (spaced (decimalText (at-entry word .args .n))) (for-two (at-entry word)) (word-put word)
 
 -- put_byte(b'\n', text, end)
 put-byte-requires : tie.Need-put-byte-requires

@@ -54,16 +54,15 @@ put-all-numbers-requires c κs = let r = room (at-entry c) in omega arith
 
 -- at = put_bytes(bases, file, at);
 put-bytes-requires : tie.Need-put-bytes-requires
-put-bytes-requires c κs =
-    let n = c .before .before .before in
-    let p = n .put-all-numbers .ensures in
-    let s = survey (entry-1 n) in
-    let r = room (entry-1 n) in
-    omega (arith, p .past, put-length p, length-f64Bytes (numbers s))
+put-bytes-requires c κs = search needs
 
 codes-put : (c : tie.After-put-bytes) → let s = survey (entry-2 c) in
     Put 0 (f64Bytes (numbers s) ++ s .bases) (entry-2 c .args .file .now) (c .put-bytes .result) (c .put-bytes .last .1 .0)
-codes-put c = put-then (at-numbers c .put-all-numbers .ensures) (c .put-bytes .ensures)
+codes-put c =
+    let p = at-numbers c .put-all-numbers .ensures in
+    let s = survey (entry-2 c) in
+    let r = room (entry-2 c) in
+    put-then p (c .put-bytes .ensures .0 (omega (arith, p .past, put-length p, length-f64Bytes (numbers s))))
 
 -- put_trailer(
 put-trailer-requires : tie.Need-put-trailer-requires

@@ -105,7 +105,7 @@ same-length c = search needs
 returns : tie.Need-returns
 returns c s en em ec ek =
     let b = c .before .before in
-    put-as (trailer-is (b .before .before .before) s en em ec ek) (b .put-bytes .ensures)
+    put-as (trailer-is (b .before .before .before) s en em ec ek) (b .put-bytes .ensures .0 (search needs))
 
 pub put-trailer-spec : {M : Type 1} → statement M
 put-trailer-spec =
