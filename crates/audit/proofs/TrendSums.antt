@@ -45,7 +45,8 @@ module _ (n p : ℕ) (w : ℕ → ℤ) (F : ℕ → ℕ → ℤ) (f v : ℕ → 
     -- the weighted sum of what is left over, by the columns' own sums: the two sums change places
     left-over : sumℤ n (λ i. w i *ℤ leftAt i) ≡ d *ℤ sumℤ n (λ i. w i *ℤ v i) -ℤ sumℤ p (λ j. A j *ℤ sumℤ n (λ i. w i *ℤ F i j))
     left-over =
-        sumℤ-same n (λ i. w i *ℤ leftAt i) (λ i. w i *ℤ (d *ℤ v i) -ℤ w i *ℤ sumℤ p (λ j. A j *ℤ F i j)) (λ i l. *ℤ--ℤ (w i) (d *ℤ v i) (sumℤ p (λ j. A j *ℤ F i j)))
+        sumℤ-same n (λ i. w i *ℤ leftAt i) (λ i. w i *ℤ (d *ℤ v i) -ℤ w i *ℤ sumℤ p (λ j. A j *ℤ F i j))
+        (λ i l. *ℤ--ℤ (w i) (d *ℤ v i) (sumℤ p (λ j. A j *ℤ F i j)))
         ∙ sumℤ--ℤ n (λ i. w i *ℤ (d *ℤ v i)) (λ i. w i *ℤ sumℤ p (λ j. A j *ℤ F i j))
         ∙ ap₂ (λ (x y : ℤ). x -ℤ y) values trends
       where

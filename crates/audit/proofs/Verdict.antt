@@ -48,7 +48,8 @@ module _ (a : Audited) where
       before j l m = met-of j l m (h j l m)
 
       rows : Met a (suc (a .weighed .p)) → MetBefore a (a .weighed .p + 2)
-      rows last j l m = elim (decLt j (1 + a .weighed .p)) [ yes b ↦ before j l b | no b ↦ let e : suc (a .weighed .p) ≡ j = omega arith in subst (Met a) e last ]
+      rows last j l m =
+          elim (decLt j (1 + a .weighed .p)) [ yes b ↦ before j l b | no b ↦ let e : suc (a .weighed .p) ≡ j = omega arith in subst (Met a) e last ]
 
       by : (b : Bool) → Tells b (Close (a .weighed) (a .value) (a .figure)) → Way a (cond b 0 (a .weighed .p + 1))
       by true t = good f (rows (last-met (t .then tt))) refl
@@ -124,7 +125,8 @@ verdict-is a few = way-verdict a few (verdictOf a) (way a)
 rows-bound : (a : Audited) → MetBefore a (a .weighed .p + 2) → TrendBound a
 rows-bound a met = record {
   bound = λ A D positive.
-      within-allowance (a .weighed .n) (a .weighed .p) (λ i. units (a .weighed .weight i)) (λ i j. units (a .weighed .drift i j)) (λ j. units (a .weighed .nodeDrift j)) (λ i. units (a .value i))
+      within-allowance (a .weighed .n) (a .weighed .p) (λ i. units (a .weighed .weight i)) (λ i j. units (a .weighed .drift i j))
+      (λ j. units (a .weighed .nodeDrift j)) (λ i. units (a .value i))
       (units (a .figure)) unit (units (a .weighed .tolerance))
       (λ j l. met (suc j) (omega arith) (omega arith) .column j l refl)
       (met (suc (a .weighed .p)) (omega arith) (omega arith) .figure refl) A D;

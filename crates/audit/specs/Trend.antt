@@ -39,7 +39,8 @@ allowance a A D =
     units (a .weighed .tolerance) *ℤ (pos D *ℤ (unit +ℤ pos (natAbs (units (a .figure)))))
     +ℤ units (a .weighed .tolerance) *ℤ sumℤ (a .weighed .p) (λ j. pos (natAbs (A j)) *ℤ (unit +ℤ pos (natAbs (units (a .weighed .nodeDrift j)))))
 
--- For every trend the figure is within the allowance of it: |figure − (trend at the node + Σ w_i·(value_i − trend at well i))| ≤ t·(1 + |figure|) + t·Σ |a_j|·(1 + |f0_j|)
+-- For every trend the figure is within the allowance of it:
+-- |figure − (trend at the node + Σ w_i·(value_i − trend at well i))| ≤ t·(1 + |figure|) + t·Σ |a_j|·(1 + |f0_j|)
 pub record TrendBound (a : Audited) : Type 0 where
   pub bound : (A : ℕ → ℤ) (D : ℕ) → 0 < D → pos (natAbs (pos D *ℤ units (a .figure) *ℤ unit -ℤ fromTrend a A D)) ≤ℤ allowance a A D
 

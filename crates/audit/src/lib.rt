@@ -182,7 +182,8 @@ pub fn audit_figure(
     figure: f64,
     tolerance: f64,
 ) -> usize
-    ensures { λ r. ⌜ r ≡ verdictWith «drift_verdict» (auditedIn (weighedIn (now (weights .entry)) [] (now (f0 .entry)) tolerance) (now (values .entry)) figure) ⌝ }
+    ensures { λ r. ⌜ r ≡ verdictWith «drift_verdict»
+        (auditedIn (weighedIn (now (weights .entry)) [] (now (f0 .entry)) tolerance) (now (values .entry)) figure) ⌝ }
 {
     if !ieee::is_finite(figure) {
         return 255;

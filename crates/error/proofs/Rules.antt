@@ -10,7 +10,8 @@ use mathlib.Core.List.{List, [], _∷_, _++_}
 use lib.Dec.{T, T-not, eqb, ltb, eqb→eq, ltb→lt, lt→ltb}
 use lib.Ieee.Fits.{and-i, and-l, and-r, eq→eqb}
 use Rattle.error.specs.Tests.{Test, firstOf, Tells}
-use Rattle.error.specs.Rules.{Told, no-more, tells, Rule, rule, Ruled, NoneApplies, Condition, Lowest, First, rulesBefore, positive, lacks, distinct, rising}
+use Rattle.error.specs.Rules.{Told, no-more, tells, Rule, rule, Ruled, NoneApplies, Condition, Lowest, First}
+use Rattle.error.specs.Rules.{rulesBefore, positive, lacks, distinct, rising}
 
 pub joined : {ts us : List Test} {rs ps : List Rule} → Told ts rs → Told us ps → Told (ts ++ us) (rs ++ ps)
 joined no-more h = h

@@ -110,7 +110,8 @@ fn shifted(product: Wide, shift: u64, negative: bool, place: usize) -> Term
 
 // The product x·y as a term of a sum, in units of 2^-2148.
 fn term_of(x: f64, y: f64) -> Term
-    ensures { λ r. ⌜ (units x *ℤ units y ≡ signed (r .negative) ((r .low + 2 ^ 64 * (r .middle + 2 ^ 64 * r .high)) * 2 ^ (64 * r .place))) × (r .place ≤ 63) ⌝ }
+    ensures { λ r. ⌜ (units x *ℤ units y ≡ signed (r .negative) ((r .low + 2 ^ 64 * (r .middle + 2 ^ 64 * r .high)) * 2 ^ (64 * r .place)))
+        × (r .place ≤ 63) ⌝ }
 {
     let a = parts_of(x);
     let b = parts_of(y);
