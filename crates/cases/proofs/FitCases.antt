@@ -2,7 +2,8 @@
 use mathlib.Core.Path.{refl}
 use lib.Ieee.{ofBits, toBits, add, sub, mul, div, lt, le, eq, ofInt, toUnsigned, round}
 use Rattle.kriging_theory.specs.Fit.{fitted}
-use Rattle.cases.specs.FitCases.{FitCases, TwoExternals, NoNode, LinearDrift, Row1Missed, Row1Met, FigureMissed, WeightInfinite, FigureInfinite, QuadraticDrift, FromTheFirst}
+use Rattle.cases.specs.FitCases.{FitCases, TwoExternals, NoNode, LinearDrift, Row1Missed, Row1Met, FigureMissed}
+use Rattle.cases.specs.FitCases.{WeightInfinite, FigureInfinite, QuadraticDrift, FromTheFirst}
 
 two-externals : TwoExternals
 unfolding fitted add sub mul div lt le eq ofInt toUnsigned round ofBits toBits

@@ -1,5 +1,5 @@
--- Interpolations whose answers were worked out outside these definitions, by tools/reading/cases.py, and are the original Rust's: another reading of the paper prints them,
--- holds them to the original, run, and tries wrong readings, each of which changes a number here.
+-- Interpolations whose answers were worked out outside these definitions, by tools/reading/cases.py, and are the original Rust's: another reading of the
+-- paper prints them, holds them to the original, run, and tries wrong readings, each of which changes a number here.
 use Prim.Native.Nat.{ℕ, _*_}
 use mathlib.Core.Path.{_≡_}
 use mathlib.Core.List.{List, [], _∷_}
@@ -28,7 +28,11 @@ queryOf kind d values points targets = record {
 
 -- in areas of NaNs of just the lengths that the query asks for
 abbrev pub answerOf : Query → Outcome Areas
-answerOf q = interpolated base q (record { work = replicate (2 * size q * size q) nan; figures = replicate (nodeCount q) nan; variances = replicate (nodeCount q) nan })
+answerOf q = interpolated base q (record {
+  work = replicate (2 * size q * size q) nan;
+  figures = replicate (nodeCount q) nan;
+  variances = replicate (nodeCount q) nan;
+})
 
 -- what is looked at: the number, the figures and the variances
 abbrev pub answer : ℕ → List Float → List Float → Outcome Areas
@@ -44,7 +48,8 @@ Interpolates q figures variances = seen (answerOf q) ≡ answer 0 (fs figures) (
 -- points 1 and 4 with 2 and 5, targets 2 and 3.5
 abbrev pub OnALine : Type 0
 OnALine =
-    Interpolates (queryOf Ordinary 1 (0x4000_0000_0000_0000 ∷ 0x4014_0000_0000_0000 ∷ []) (0x3ff0_0000_0000_0000 ∷ 0x4010_0000_0000_0000 ∷ []) (0x4000_0000_0000_0000 ∷ 0x400c_0000_0000_0000 ∷ []))
+    Interpolates (queryOf Ordinary 1 (0x4000_0000_0000_0000 ∷ 0x4014_0000_0000_0000 ∷ []) (0x3ff0_0000_0000_0000 ∷ 0x4010_0000_0000_0000 ∷ [])
+    (0x4000_0000_0000_0000 ∷ 0x400c_0000_0000_0000 ∷ []))
     (0x4009_3e03_2e1c_9f02 ∷ 0x4010_bf20_1e87_7929 ∷ [])
     (0x3fe4_79f0_1970_e4f7 ∷ 0x3fe2_4b41_82b3_febb ∷ [])
 

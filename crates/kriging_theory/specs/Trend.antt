@@ -12,7 +12,8 @@ use Rattle.audit.specs.Trend.{Verdict, TrendBound}
 use Rattle.kriging_theory.specs.Areas.{Areas}
 use Rattle.kriging_theory.specs.Drift.{drift, nodeRow}
 
--- node q as the areas at exit have it: its weights and its figure are those that the fit wrote; "Column entries are those of F and f0, the f64 numbers of the assembly and of the node"
+-- node q as the areas at exit have it: its weights and its figure are those that the fit wrote; "Column entries are those of F and f0, the f64 numbers of the
+-- assembly and of the node"
 abbrev pub atExit : Survey → Areas → ℕ → Audited
 atExit s e q = record {
   weighed = record {

@@ -14,7 +14,8 @@ use Rattle.survey_file_theory.specs.Rules.{WellFormed, ListsFit, readerR
 use Rattle.survey_file_theory.specs.Refusals.{readerRefusal}
 use Rattle.survey_file_theory.specs.Reader.{surveyIn, readBytes, headerOf, callWhere, reader, Reads, Ends}
 use Rattle.survey_file_theory.proofs.Told.{reader-told}
-use Rattle.survey_file_theory.proofs.WellFormed.{well-formed-exactly, malformed-exactly, room-exactly, short-exactly, reads, read-well-formed, refused-exactly}
+use Rattle.survey_file_theory.proofs.WellFormed.{well-formed-exactly, malformed-exactly, room-exactly, short-exactly}
+use Rattle.survey_file_theory.proofs.WellFormed.{reads, read-well-formed, refused-exactly}
 use Rattle.survey_file_theory.proofs.Lengths.{lengths, filled}
 
 module _ (version : ℕ) (bytes : List ℕ) (areas : Areas) where

@@ -51,7 +51,8 @@ left c =
 no-refusal : (c : tie.After-enum-told) → let s = at-entry (at-refusal c) in readerRefusal baseVersion (s .args .bytes .now) (lent s) ≡ 0
 no-refusal c = sym (at-refusal c .reader-refusal .ensures) ∙ ap judged (c .enum-told .given .1)
 
-is-accepted : (c : tie.After-enum-told) → let s = at-entry (at-refusal c) in WellFormed baseVersion (s .args .bytes .now) × ListsFit (s .args .bytes .now) (lent s)
+is-accepted : (c : tie.After-enum-told) → let s = at-entry (at-refusal c) in
+    WellFormed baseVersion (s .args .bytes .now) × ListsFit (s .args .bytes .now) (lent s)
 is-accepted c = let s = at-entry (at-refusal c) in accepted baseVersion (s .args .bytes .now) (lent s) (no-refusal c)
 
 -- let judgement = reader_refusal(

@@ -135,7 +135,8 @@ short-for c p =
     let a = areas c in
     let n = wells s in
     let m = nodeCount s in
-    tooShort (lent (a .predicted) m ∷ lent (a .variance) m ∷ lent (a .verdicts) m ∷ lent (a .weights) (n * m) ∷ lent (a .multipliers) p ∷ lent (a .trend) p ∷ [])
+    tooShort (lent (a .predicted) m ∷ lent (a .variance) m ∷ lent (a .verdicts) m
+    ∷ lent (a .weights) (n * m) ∷ lent (a .multipliers) p ∷ lent (a .trend) p ∷ [])
 
 answer-is : (c : tie.After-short-answer) → let s = at-work (c .before) in c .short-answer .result ≡ tooShort (answerAreas (survey s) (areas s))
 answer-is c = c .short-answer .ensures ∙ ap (short-for (at-work (c .before))) (exactly (c .before .before .before))
