@@ -55,7 +55,7 @@ def read_cases():
         yield reads(file_of(n, m, codes, note=b"note"), past=2)
     yield from (reads(file_of(1, 2, [1, 4, 2], model=model, note=note)) for model in (1, 2, 3, 4) for note in NOTES)
     file = file_of(1, 2, [1, 4, 2])
-    yield from (reads(with_pattern(file, at, pattern)) for at in range(len(file.patterns)) for pattern in (ODD + NANS)[at % 2::2])
+    yield from (reads(with_pattern(file, at, pattern)) for at in range(len(file.patterns)) for pattern in ODD + NANS)
     for n, m, codes, note in LONGEST:
         whole = file_of(n, m, codes, note=b"n" * note)
         assert len(whole.data()) == 65536

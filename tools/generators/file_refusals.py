@@ -1,5 +1,5 @@
 """Calls of the reader and of the writer that are refused. The number that each has to give stands here, apart from the reading's."""
-from tools.generators.file_case import MOST_BYTES, Read, Write, cycled, file_of, room, survey_of, written_file
+from tools.generators.file_case import MOST_BYTES, MOST_NUMBERS, Read, Write, cycled, file_of, room, survey_of, written_file
 from tools.generators.file_cases import CODES, LONGEST
 from tools.generators.refused import Refusals, changes, edited, shorts, too_short
 from tools.reading import edges
@@ -7,6 +7,7 @@ from tools.reading.survey_file import Lists, file_length, writer_tests
 
 BASE = file_of(1, 2, [1, 4, 2])
 NONE = Lists(0, 0, 0, 0, 0, 0)
+ALL = Lists(MOST_NUMBERS, MOST_NUMBERS, MOST_BYTES, MOST_NUMBERS, MOST_NUMBERS, MOST_NUMBERS)
 
 
 def in_trailer():
@@ -93,9 +94,9 @@ def short_areas():
 
 
 def refused_reads():
-    # room for whatever the trailer could mean, and none: 16 counts before 18
+    # all the room that there is, and none: 16 counts before 18
     for data in malformed_files():
-        yield Read(data, Lists(*[64] * 6), 16)
+        yield Read(data, ALL, 16)
         yield Read(data, NONE, 16)
     yield from short_areas()
 
