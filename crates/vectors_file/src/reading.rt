@@ -22,8 +22,8 @@ use vectors::areas::mark;
 use vectors::counts::compared;
 use vectors::counts::ended_by;
 
-// How many words there are for what a file says besides its lists.
-const HEADERS: usize = 9;
+// How many words there are for how a call ended.
+const ENDING: usize = 10;
 
 // How much of each area is lent.
 pub struct Lent {
@@ -61,50 +61,38 @@ fn model_number(model: VariogramModel) -> u64 {
     }
 }
 
-// One word of what a file says besides its lists, with the next that comes in.
-fn compare_word(here: u64, counts: &mut [u64]) {
-    compared(counts, HEADER, here == vectors::next_word().value);
-}
-
-// The options of a file that was read: model, nugget, sill, range and r come in.
-fn compare_options(options: UniversalKrigingOptions, counts: &mut [u64]) {
+// How a call ended that read a file, as words: the number 0, wells, nodes, codes, model, nugget, sill, range, r and t.
+fn header_words(header: Header) -> [u64; ENDING] {
+    let options: UniversalKrigingOptions = header.options;
     let v = options.variogram;
     let model = v.model;
-    compare_word(model_number(model), counts);
-    compare_word(patterns::pattern(v.nugget), counts);
-    compare_word(patterns::pattern(v.sill), counts);
-    compare_word(patterns::pattern(v.range), counts);
-    compare_word(patterns::pattern(options.regularization), counts);
+    [
+        0,
+        header.wells as u64,
+        header.nodes as u64,
+        header.bases as u64,
+        model_number(model),
+        patterns::pattern(v.nugget),
+        patterns::pattern(v.sill),
+        patterns::pattern(v.range),
+        patterns::pattern(options.regularization),
+        patterns::pattern(header.tolerance),
+    ]
 }
 
-// A file was read: wells, nodes and codes come in, the options and t.
-fn compare_header(header: Header, counts: &mut [u64]) {
-    compare_word(header.wells as u64, counts);
-    compare_word(header.nodes as u64, counts);
-    compare_word(header.bases as u64, counts);
-    compare_options(header.options, counts);
-    compare_word(patterns::pattern(header.tolerance), counts);
-}
-
-// No file was read: there is nothing that it says, and each of these words is 0.
-fn compare_no_header(counts: &mut [u64]) {
-    for _ in 0..HEADERS {
-        compare_word(0, counts);
+// How a call ended, as words: where it is refused, all past the number are 0.
+fn ending_words(answer: Read) -> [u64; ENDING] {
+    match answer {
+        Read::Done(header) => header_words(header),
+        Read::Refused(refusal) => [error::number(refusal) as u64, 0, 0, 0, 0, 0, 0, 0, 0, 0],
     }
 }
 
-// Compares how a call ended: the number comes in, and then what the file says besides its lists.
-fn compare_ending(answer: Read, counts: &mut [u64]) {
-    let wanted = vectors::next_word().value;
-    match answer {
-        Read::Done(header) => {
-            ended_by(counts, 0, wanted);
-            compare_header(header, counts);
-        }
-        Read::Refused(refusal) => {
-            ended_by(counts, error::number(refusal) as u64, wanted);
-            compare_no_header(counts);
-        }
+// Compares how a call ended: these words come in.
+fn compare_ending(ending: &[u64; ENDING], counts: &mut [u64]) {
+    ended_by(counts, ending[0], vectors::next_word().value);
+    for at in 1..ENDING {
+        compared(counts, HEADER, ending[at] == vectors::next_word().value);
     }
 }
 
@@ -142,6 +130,27 @@ fn mark_all(
     mark(node_external);
 }
 
+// The call on a file, and how it ended.
+fn answer(
+    bytes: &[u8],
+    values: &mut [f64],
+    coords: &mut [f64],
+    codes: &mut [u8],
+    external: &mut [f64],
+    nodes: &mut [f64],
+    node_external: &mut [f64],
+) -> [u64; ENDING] {
+    ending_words(survey_file_reader::read_survey(
+        bytes,
+        values,
+        coords,
+        codes,
+        external,
+        nodes,
+        node_external,
+    ))
+}
+
 // The call on a file, with areas that hold the marks, and what came of it.
 fn replay_lent(
     bytes: &[u8],
@@ -153,16 +162,8 @@ fn replay_lent(
     node_external: &mut [f64],
     counts: &mut [u64],
 ) {
-    let answer = survey_file_reader::read_survey(
-        bytes,
-        values,
-        coords,
-        codes,
-        external,
-        nodes,
-        node_external,
-    );
-    compare_ending(answer, counts);
+    let ending = answer(bytes, values, coords, codes, external, nodes, node_external);
+    compare_ending(&ending, counts);
     compare_wells(values, coords, codes, counts);
     compare_nodes(external, nodes, node_external, counts);
 }
