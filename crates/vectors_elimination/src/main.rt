@@ -1,14 +1,15 @@
 // Replays inverses of the original Rust, and then whole work areas by another reading of the paper: standard input has a record for each,
 // as tools/generators/elimination.py wrote them.
 // Writes a line for each record that comes out otherwise, and then how many were compared and how many differ.
-ghost use Prim.Native.Nat.{_≤_};
+ghost use Prim.Native.Nat.{_*_, _≤_};
+ghost use Rattle.survey.specs.Limits.{mostSize};
 use elimination::Elimination;
 use vectors::Tally;
 
-// The most rows that a record's matrix has, and the work area that they need: 2 * 60 * 60.
-const LARGEST: usize = 60;
+// The most rows that a record's matrix has, and the work area that they need.
+const LARGEST: usize = survey::MOST_SIZE;
 
-const AREA: usize = 7200;
+const AREA: usize = 2 * LARGEST * LARGEST;
 
 // The most rows of a record that has whole areas, and how many numbers such an area has past its matrix.
 const LARGEST_WHOLE: usize = 12;
@@ -102,8 +103,8 @@ fn goes_through(call: u64, work: &mut [f64], size: usize) -> bool {
 
 // The numbers of a matrix.
 fn entries(size: usize) -> u64
-    requires { ⌜ size ≤ 60 ⌝ }
-    ensures { λ r. ⌜ r ≤ 3600 ⌝ }
+    requires { ⌜ size ≤ mostSize ⌝ }
+    ensures { λ r. ⌜ r ≤ mostSize * mostSize ⌝ }
 {
     (size * size) as u64
 }

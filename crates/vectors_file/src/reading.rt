@@ -12,7 +12,6 @@ use crate::compare::mark_bytes;
 use crate::runs::BYTES;
 use crate::runs::NUMBERS;
 use crate::runs::load_bytes;
-use crate::runs::next_size;
 use survey::UniversalKrigingOptions;
 use survey_file_theory::Header;
 use survey_file_theory::Read;
@@ -21,6 +20,7 @@ use vectors::areas::least;
 use vectors::areas::mark;
 use vectors::counts::compared;
 use vectors::counts::ended_by;
+use vectors::next_size;
 
 // How many words there are for how a call ended.
 const ENDING: usize = 10;

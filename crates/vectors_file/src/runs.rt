@@ -2,15 +2,12 @@
 // places before it.
 use libc::STDIN_FILENO;
 use vectors::areas::least;
+use vectors::next_size;
 
 // The most numbers of a list, and the most bytes.
 pub const NUMBERS: usize = 8256;
 
 pub const BYTES: usize = 66_048;
-
-pub(crate) fn next_size() -> usize {
-    vectors::next_word().size()
-}
 
 // The next byte of standard input: past its end, 0.
 fn next_byte() -> u8 {

@@ -8,15 +8,15 @@ use crate::runs::NUMBERS;
 use crate::runs::floats;
 use crate::runs::load_bytes;
 use crate::runs::load_words;
-use crate::runs::next_size;
 use survey::UniversalKrigingOptions;
 use survey_file_theory::Written;
-use variogram::Variogram;
-use variogram::VariogramModel;
 use vectors::areas::least;
 use vectors::areas::part;
 use vectors::counts::compared;
 use vectors::counts::ended_by;
+use vectors::next_end;
+use vectors::next_float;
+use vectors::next_size;
 
 // Where each list ends among a record's numbers, one after another.
 pub struct Lists {
@@ -41,15 +41,6 @@ pub struct Came {
     pub count: u64,
 }
 
-fn next_float() -> f64 {
-    vectors::next_word().float()
-}
-
-// Where a list ends that begins at a place.
-fn next_end(start: usize) -> usize {
-    std::num::wrapping_add_usize(start, next_size())
-}
-
 fn next_lists() -> Lists {
     let values = next_size();
     let coords = next_end(values);
@@ -64,22 +55,8 @@ fn next_lists() -> Lists {
     }
 }
 
-// The model of a number: "model 1 to 4 in the enum's order".
-fn model(number: u64) -> VariogramModel {
-    match number {
-        1 => VariogramModel::Spherical,
-        2 => VariogramModel::Exponential,
-        3 => VariogramModel::Gaussian,
-        _ => VariogramModel::Linear,
-    }
-}
-
 fn next_options() -> UniversalKrigingOptions {
-    let model = model(vectors::next_word().value);
-    let nugget = next_float();
-    let sill = next_float();
-    let range = next_float();
-    let variogram = Variogram::new(model, nugget, sill, range);
+    let variogram = vectors::models::next_variogram();
     UniversalKrigingOptions {
         variogram,
         regularization: next_float(),

@@ -14,6 +14,10 @@ use kriging::Fit;
 use record::Head;
 use record::load_codes;
 use record::next_head;
+use survey::MOST_COLUMNS;
+use survey::MOST_NODES;
+use survey::MOST_SIZE;
+use survey::MOST_WELLS;
 use vectors::Tally;
 use vectors::areas::least;
 use vectors::areas::load;
@@ -28,13 +32,13 @@ const NUMBERS: usize = 3072;
 const CODES: usize = 64;
 
 // The most of each area that a record lends: what the largest fit needs, and some past that.
-const WORK: usize = 7208;
+const WORK: usize = 2 * MOST_SIZE * MOST_SIZE + 8;
 
-const NODES: usize = 108;
+const NODES: usize = MOST_NODES + 8;
 
-const WEIGHTS: usize = 4808;
+const WEIGHTS: usize = MOST_WELLS * MOST_NODES + 8;
 
-const COLUMNS: usize = 16;
+const COLUMNS: usize = MOST_COLUMNS + 4;
 
 // The fit, with the lists of a record and the areas that it lends.
 fn answer(

@@ -12,6 +12,8 @@ use compare::compare_all;
 use compare::write_parts;
 use record::Head;
 use record::next_head;
+use survey::MOST_NODES;
+use survey::MOST_WELLS;
 use vectors::Tally;
 use vectors::areas::least;
 use vectors::areas::load;
@@ -24,9 +26,9 @@ use vectors::counts::write_last;
 const NUMBERS: usize = 2048;
 
 // The most of each area that a record lends: what the largest call needs, and some past that.
-const WORK: usize = 5416;
+const WORK: usize = 2 * (MOST_WELLS + 4) * (MOST_WELLS + 4) + 8;
 
-const TARGETS: usize = 108;
+const TARGETS: usize = MOST_NODES + 8;
 
 // A record's call, with areas that hold the marks, and what came of it.
 fn replay_lent(

@@ -1,4 +1,4 @@
--- `vectors_elimination::entries` meets its contract: 60 times 60 is 3600.
+-- `vectors_elimination::entries` meets its contract.
 use native.Mathlib.Omega.{arith}
 use native.Mathlib.Nat.{mul-le-mul}
 use Rattle.vectors_elimination.proofs.entries.Statement.{statement}

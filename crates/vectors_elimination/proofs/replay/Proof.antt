@@ -1,13 +1,15 @@
 -- `vectors_elimination::replay` is safe and ends: the turns that are left fall.
+use Prim.Native.Nat.{_*_}
 use mathlib.Core.Path.{_≡_}
 use native.Mathlib.Omega.{arith}
 use borrow.Author.Needs.{needs}
 use lib.ListN.{length}
+use Rattle.survey.specs.Limits.{mostSize}
 use Rattle.vectors_elimination.proofs.replay.Statement.{statement}
 use Rattle.vectors_elimination.proofs.replay.Tie as tie
 
 abbrev Inv-loop : tie.InvT-loop
-Inv-loop work₀ t₀ turns₀ work t turns = length work ≡ 7200
+Inv-loop work₀ t₀ turns₀ work t turns = length work ≡ 2 * mostSize * mostSize
 
 abbrev μ-loop : tie.MeasureT-loop
 μ-loop work₀ t₀ turns₀ work t turns = turns
