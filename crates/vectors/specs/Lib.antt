@@ -1,3 +1,4 @@
 pub mod Counted
 pub mod Lent
 pub mod Tallied
+pub mod Words

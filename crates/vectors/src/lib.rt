@@ -8,6 +8,7 @@ ghost use mathlib.Core.Path.{_≡_};
 ghost use mathlib.Core.Bool.{true, false};
 ghost use lib.Ieee.{binary64, ofBits};
 ghost use Rattle.vectors.specs.Tallied.{tallyOf, withRecord};
+ghost use Rattle.vectors.specs.Words.{CameIn, SizeIn, FloatIn, EndIn};
 use libc::STDIN_FILENO;
 use libc::STDOUT_FILENO;
 
@@ -42,7 +43,7 @@ pub struct Tally {
 
 // The next 8 bytes of standard input. What they are no contract can say.
 pub fn next_word() -> Input
-    ensures { λ r. ⌜ (r .more ≡ false → r .value ≡ 0) ⌝ }
+    ensures { λ r. ⌜ CameIn r ⌝ }
 {
     let mut bytes = [0u8; 8];
     if io::read_full(STDIN_FILENO, &mut bytes) < 8 {
@@ -57,17 +58,23 @@ pub fn next_word() -> Input
     }
 }
 
-// The next word as a count, and as the f64 whose pattern it is. What they are no contract can say.
-pub fn next_size() -> usize {
+// The next word as a count, and as the f64 whose pattern it is.
+pub fn next_size() -> usize
+    ensures { λ r. ⌜ SizeIn r ⌝ }
+{
     next_word().size()
 }
 
-pub fn next_float() -> f64 {
+pub fn next_float() -> f64
+    ensures { λ r. ⌜ FloatIn r ⌝ }
+{
     next_word().float()
 }
 
 // Where a list ends that begins at a place: its length comes in.
-pub fn next_end(start: usize) -> usize {
+pub fn next_end(start: usize) -> usize
+    ensures { λ r. ⌜ EndIn start r ⌝ }
+{
     std::num::wrapping_add_usize(start, next_size())
 }
 

@@ -1,9 +1,13 @@
 // A variogram that comes in.
 use variogram::Variogram;
 use variogram::VariogramModel;
+ghost use mathlib.Core.Path.{_≡_};
+ghost use Rattle.vectors.specs.Words.{modelIn, VariogramIn};
 
 // The model of a number: "model 1 to 4 in the enum's order". No record has another number.
-fn model(number: u64) -> VariogramModel {
+fn model(number: u64) -> VariogramModel
+    ensures { λ r. ⌜ r ≡ modelIn number ⌝ }
+{
     match number {
         1 => VariogramModel::Spherical,
         2 => VariogramModel::Exponential,
@@ -12,8 +16,10 @@ fn model(number: u64) -> VariogramModel {
     }
 }
 
-// The model's number, and then nugget, sill and range. What they are no contract can say.
-pub fn next_variogram() -> Variogram {
+// The model's number, and then nugget, sill and range.
+pub fn next_variogram() -> Variogram
+    ensures { λ r. ⌜ VariogramIn r ⌝ }
+{
     let model = model(crate::next_word().value);
     let nugget = crate::next_float();
     let sill = crate::next_float();
