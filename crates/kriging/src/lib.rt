@@ -81,7 +81,8 @@ pub fn universal_kriging_fit(
         let accepted : Type 0 = (e .number ≡ 0) ↔ (NoneApplies (rules base s a) × Through true (size s) (size s) matrix) in
         -- past the named lengths every area is as it was, however the call ends
         let kept : Type 0 = Untouched s a (e .areas) in
-        -- the areas of an accepted fit hold the unknowns of the kriging system: weights, figures, variances, multipliers; and the trend, from the same inverse
+        -- the matrix of an accepted fit is the kriging system's, and its areas hold the unknowns: weights, figures, variances, multipliers; and the trend,
+        -- from the same inverse
         let kriged : Type 0 = e .number ≡ 0 → Kriged s a (e .areas) in
         -- demand 3: in an accepted fit each node has exactly the verdict of its own weights and figure, and one that passed keeps the trend bound
         let bounded : Type 0 = TrendKept s e in
