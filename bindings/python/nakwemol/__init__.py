@@ -1,6 +1,7 @@
 """Universal kriging with an audit, the interpolator, the semivariogram and the survey file: the proved calls of the crate nakwemol.
 
-Lists are sequences of numbers, sequences of rows, or what has `tolist`, as numpy's arrays do. docs/REFERENCE.md has the formulas.
+Lists are sequences of numbers, sequences of rows, or what has `tolist`, as numpy's arrays do; anything else is a TypeError or a ValueError.
+docs/REFERENCE.md has the formulas.
 """
 from nakwemol.fit import External, DriftBasis, UniversalKrigingOptions, UniversalKrigingResult, universal_kriging_fit
 from nakwemol.older_calls import KrigingInterpolator, KrigingResult, KrigingType, Semivariogram, SemivariogramCalculator

@@ -1,9 +1,10 @@
 """Universal kriging with external drift."""
+import operator
 from enum import IntEnum
 from typing import NamedTuple, Sequence
 
 from nakwemol import calls
-from nakwemol.lists import flat, table
+from nakwemol.lists import flat, is_text, number
 from nakwemol.refused import unless_0
 from nakwemol.variogram import Variogram, VariogramModel
 
@@ -50,12 +51,24 @@ class UniversalKrigingResult(NamedTuple):
 
 
 def code_of(basis):
-    return EXTERNAL_CODE if isinstance(basis, External) else int(basis)
+    if isinstance(basis, External):
+        return EXTERNAL_CODE
+    try:
+        return operator.index(basis)
+    except TypeError:
+        raise TypeError(f"drift_bases has {basis!r:.40} in it, which is neither a DriftBasis nor an External") from None
+
+
+def listed(bases):
+    """The bases as a list; one that stands alone is none."""
+    if is_text(bases) or isinstance(bases, External) or not hasattr(bases, "__iter__"):
+        raise TypeError(f"drift_bases is {bases!r:.40}, and no list of bases; give one of them as [DriftBasis.LINEAR]")
+    return list(bases)
 
 
 def external_list(bases, wells):
     """The external columns one after another. One that has not a number for each well makes the list's length wrong, whatever the others have."""
-    columns = [table(basis.values)[0] for basis in bases if isinstance(basis, External)]
+    columns = [flat(basis.values, 1, "External") for basis in bases if isinstance(basis, External)]
     if all(len(column) == wells for column in columns):
         return [x for column in columns for x in column]
     return [0.0] * (len(columns) * wells + 1)
@@ -67,9 +80,9 @@ def universal_kriging_fit(coords, values, options, query_points, query_external_
     `query_external_drift` has for each node a number for each external basis, and is not looked at where there is none. `tolerance` is that of the
     audit, which the original does not have. Raises Refused.
     """
-    values, coords, nodes = table(values)[0], flat(coords, 2, "coords"), flat(query_points, 2, "query_points")
-    codes = [code_of(basis) for basis in options.drift_bases]
-    external = external_list(options.drift_bases, len(values))
+    values, coords, nodes = flat(values, 1, "values"), flat(coords, 2, "coords"), flat(query_points, 2, "query_points")
+    bases = listed(options.drift_bases)
+    codes, external = [code_of(basis) for basis in bases], external_list(bases, len(values))
     k = codes.count(EXTERNAL_CODE)
     node_external = flat(query_external_drift, k, "query_external_drift") if k and query_external_drift is not None else []
     n, p, m = min(len(values), WELLS), min(sum(COLUMNS_OF.get(code, 0) for code in codes), COLUMNS), min(len(nodes) // 2, NODES)
@@ -81,9 +94,9 @@ def universal_kriging_fit(coords, values, options, query_points, query_external_
         calls.codes(codes),
         calls.numbers(external),
         *options.variogram.handed(),
-        options.regularization,
+        number(options.regularization, "regularization"),
         *map(calls.numbers, (nodes, node_external)),
-        tolerance,
+        number(tolerance, "tolerance"),
         work,
         predicted,
         variance,

@@ -35,7 +35,7 @@ class Semivariogram(NamedTuple):
 
 def points_of(points, dimension):
     """The points one after another, and how many numbers each has: `dimension`, or the length of the rows."""
-    numbers, width = table(points)
+    numbers, width = table(points, "points")
     if dimension is None and width is None:
         raise ValueError("points without rows need a dimension")
     if None not in (dimension, width) and dimension != width:
@@ -50,7 +50,7 @@ class KrigingInterpolator(NamedTuple):
     def interpolate(self, points, values, targets, dimension=None):
         """The values at targets, from those at points. A list without rows needs the dimension. Raises Refused."""
         points, d = points_of(points, dimension)
-        values, targets = table(values)[0], flat(targets, d, "targets")
+        values, targets = flat(values, 1, "values"), flat(targets, d, "targets")
         m = min(len(targets) // d, TARGETS) if d > 0 else 0
         work, figures, variances = map(calls.area, (2 * (min(len(values), POINTS) + MOST_TERMS) ** 2, m, m))
         unless_0(calls.call(
@@ -75,7 +75,7 @@ class SemivariogramCalculator:
         distances, semivariances, counts, kept = calls.area(bins), calls.area(bins), (ctypes.c_size_t * bins)(), ctypes.c_size_t()
         unless_0(calls.call(
             "nakwemol_semivariogram",
-            *map(calls.numbers, (points, table(values)[0])),
+            *map(calls.numbers, (points, flat(values, 1, "values"))),
             calls.count(d),
             calls.count(n_bins),
             distances,

@@ -38,9 +38,12 @@ class Refused(Exception):
     """A refusal: its number (docs/REFERENCE.md, section 8), the original's kind, and what to do, in a sentence."""
 
     def __init__(self, number):
+        super().__init__(number)  # alone, since a copy and a pickle are made of what stands here
         self.number = number
         self.kind, self.message = TOLD[number]
-        super().__init__(f"refused by {number} ({self.kind}): {self.message}")
+
+    def __str__(self):
+        return f"refused by {self.number} ({self.kind}): {self.message}"
 
 
 def unless_0(number):

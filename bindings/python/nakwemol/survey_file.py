@@ -3,7 +3,8 @@ import ctypes
 from typing import NamedTuple
 
 from nakwemol import calls
-from nakwemol.fit import EXTERNAL_CODE
+from nakwemol.fit import EXTERNAL_CODE, code_of, listed
+from nakwemol.lists import flat, number
 from nakwemol.refused import unless_0
 from nakwemol.variogram import Variogram, VariogramModel
 
@@ -54,15 +55,18 @@ def read_survey(data):
 def write_survey(survey):
     """The bytes of a survey's file, with no note. Raises Refused."""
     file, length = calls.codes([0] * LONGEST), ctypes.c_size_t()
+    codes = [code_of(basis) for basis in listed(survey.bases)]
     unless_0(calls.call(
         "nakwemol_write",
-        *map(calls.numbers, (survey.values, survey.coords)),
-        calls.codes(survey.bases),
-        calls.numbers(survey.external),
+        calls.numbers(flat(survey.values, 1, "values")),
+        calls.numbers(flat(survey.coords, 2, "coords")),
+        calls.codes(codes),
+        calls.numbers(flat(survey.external, 1, "external")),
         *survey.variogram.handed(),
-        survey.regularization,
-        *map(calls.numbers, (survey.nodes, survey.node_external)),
-        survey.tolerance,
+        number(survey.regularization, "regularization"),
+        calls.numbers(flat(survey.nodes, 2, "nodes")),
+        calls.numbers(flat(survey.node_external, codes.count(EXTERNAL_CODE), "node_external")),
+        number(survey.tolerance, "tolerance"),
         file,
         ctypes.byref(length),
     ))

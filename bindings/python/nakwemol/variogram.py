@@ -3,6 +3,7 @@ from enum import IntEnum
 from typing import NamedTuple
 
 from nakwemol import calls
+from nakwemol.lists import number
 
 
 class VariogramModel(IntEnum):
@@ -22,4 +23,4 @@ class Variogram(NamedTuple):
 
     def handed(self):
         """As a call takes it."""
-        return calls.code(self.model), self.nugget, self.sill, self.range
+        return calls.code(self.model), number(self.nugget, "nugget"), number(self.sill, "sill"), number(self.range, "range")
