@@ -2,20 +2,21 @@
 import sys
 from pathlib import Path
 
-from mapper.collect import collected
-from mapper.files import table, write_all
-from mapper.make import Made
-from mapper.mend import drawn_map
+from mapper.doubts.far_nodes import far_node_doubts
+from mapper.doubts.judgements import both_words, doubt_lines
+from mapper.doubts.levels import node_doubts
+from mapper.errors import Stop
+from mapper.making import Made
 from mapper.options import options
-from mapper.page import page
-from mapper.sheet_folder import write_sheets
-from mapper.sheets import Sheets
-from mapper.slope import trend_sentence
-from mapper.stop import Stop
-
-
-def tell(sentence):
-    print(sentence, flush=True)
+from mapper.output_files import table, write_all
+from mapper.page.page import page
+from mapper.place_answers import answers
+from mapper.runs.collecting import collected
+from mapper.runs.lost_digits import drawn_map
+from mapper.runs.sheet_folder import write_sheets
+from mapper.runs.sheets import Sheets
+from mapper.runs.trend_words import trend_sentence
+from mapper.telling import tell, write
 
 
 def main(arguments=None):
@@ -23,17 +24,21 @@ def main(arguments=None):
     found = options(arguments)
     try:
         if found.collect is not None:
-            m = collected(found.collect, found.progress)
+            m = collected(found.collect, found.progress, found.jobs, tell)
             finish(m, *named(found.out or found.collect, m.title))
         elif found.sheets is not None:
-            write_sheets(Made(found, tell), found.sheets)
+            made = Made(found, tell)
+            write_sheets(made, found.sheets)
+            tell_all(doubt_lines(made.doubts))
+        elif found.at:
+            at_places(found)
         else:
             direct(found)
     except Stop as stop:
         print(f'map: {stop}', file=sys.stderr)
         return 1
-    except KeyboardInterrupt:
-        print('map: stopped; nothing was written', file=sys.stderr)
+    except KeyboardInterrupt as stopped:
+        print(f'map: {str(stopped) or "stopped; nothing was written"}', file=sys.stderr)
         return 130
     return 0
 
@@ -46,9 +51,28 @@ def direct(found):
         raise Stop(f'{wells} would be written over by the map. Give the list another ending, such as .csv, or name a folder by --out.')
     made = Made(found, tell)
     m, listings = drawn_map(made)
-    for listing in listings:
-        sys.stdout.write(listing.decode())
+    tell_listings(listings)
     finish(m, *files, kept_surveys(found, made, m))
+
+
+def at_places(found):
+    """Answers at the places that were asked for; no file is written."""
+    made = Made(found, tell)
+    m, listings = drawn_map(made)
+    tell_listings(listings)
+    m.doubts += far_node_doubts(m) + node_doubts(m)
+    ground_known = made.external is None or made.external == made.ground
+    tell_all([*answers(m, found.at, ground_known), *doubt_lines(m.doubts), both_words(m, 'above') + '.'])
+
+
+def tell_all(sentences):
+    for sentence in sentences:
+        tell(sentence)
+
+
+def tell_listings(listings):
+    for listing in listings:
+        write(listing.decode())
 
 
 def named(folder, title):
@@ -70,9 +94,8 @@ def kept_surveys(found, made, m):
 
 
 def finish(m, html, lines, more=()):
-    """Writes the page and the table; says what the trend is, and in the last line what was written."""
+    """Writes the page and the table; says what the trend is and what is doubtful, and in the last line both judgements and what was written."""
+    m.doubts += far_node_doubts(m) + node_doubts(m)
     write_all([*more, (html, [page(m).encode()]), (lines, table(m))])
-    run, trend = m.runs[m.drawn], trend_sentence(m)
-    if trend:
-        tell(trend)
-    tell(f'{run.passed:,} of {len(m.nodes):,} nodes passed, {run.failed:,} did not: {html} and {lines}')
+    trend = trend_sentence(m)
+    tell_all([*([trend] if trend else []), *doubt_lines(m.doubts), f'{both_words(m, "above and on the page")}: {html} and {lines}'])

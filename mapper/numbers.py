@@ -1,4 +1,7 @@
 """Numbers as they are shown."""
+import math
+
+ROUNDING = 1e-9  # square metres: a variance that is so little below zero is none
 
 
 def shown(x):
@@ -15,3 +18,8 @@ def significant(x, figures):
 def counted(count, one, many=None):
     """'1 node', '2 nodes'."""
     return f'{count:,} {one if count == 1 else many or one + "s"}'
+
+
+def deviation(variance):
+    """The standard deviation, the root of a variance; None where that is below zero by more than rounding, or not finite."""
+    return math.sqrt(max(variance, 0.0)) if -ROUNDING <= variance < math.inf else None

@@ -2,12 +2,25 @@
 import argparse
 import os
 import re
+import sys
 
-from mapper.nodes import MOST
-from mapper.survey_file import CODES, MODELS
+from mapper.lists.grid import MOST
+from mapper.runs.survey_file import CODES, MODELS
 
+ROLES = {
+    'name': "the wells' column with names, where its header is another word",
+    'x': 'the column with eastings, in metres on a flat grid',
+    'y': 'the column with northings',
+    'level': 'the column with water levels, in metres above one datum',
+    'depth': 'the column with depths to the water below the ground; needs a ground column',
+    'ground': "the column with the ground's height at the wells",
+    'date': 'the column with the day of each reading',
+}
+READINGS = ('newest', 'first', 'last', 'average')
 BESIDE_COLLECT = ('collect', 'out', 'jobs', 'progress')
+NOT_BESIDE_AT = ('nodes', 'grid', 'sheets', 'survey', 'out')
 USE = '''map wells.csv [options]
+       map wells.csv --at X,Y[,GROUND] [options]
        map wells.csv --sheets DIR [options]
        map --collect DIR'''
 ABOUT = '''Makes a water-table map, wells.html and wells.map.csv, from a list of wells: name, x, y, level and any further column, with a header, separated by
@@ -38,6 +51,26 @@ def above(least, what):
     return number
 
 
+def numbers(text, counts, example):
+    """So many numbers with commas between them."""
+    try:
+        found = tuple(float(part) for part in text.split(','))
+    except ValueError:
+        found = ()
+    if len(found) not in counts or not all(abs(each) <= 1e15 for each in found):
+        raise argparse.ArgumentTypeError(f'{text} is no place; say {example}')
+    return found
+
+
+def place(text):
+    return numbers(text, (2,), 'x and y with a comma between them, such as 4512345,5403210')
+
+
+def spot(text):
+    return numbers(text, (2, 3), 'x and y with a comma between them, such as 4512345,5403210, and after another comma the height of the ground, '
+                   'where it is known')
+
+
 def count(text):
     if not re.fullmatch('[1-9][0-9]{0,3}', text):
         raise argparse.ArgumentTypeError(f'{text} is not a number of processes; say 1 or more')
@@ -48,6 +81,13 @@ def parser():
     found = argparse.ArgumentParser(prog='map', usage=USE, description=ABOUT, allow_abbrev=False)
     add = found.add_argument
     add('wells', nargs='?', metavar='wells.csv', help='the list of wells')
+    for role in ROLES:
+        add('--' + role, metavar='COLUMN', help=ROLES[role])
+    add('--skip-unreadable', action='store_true', help='leaves out the lines that have no level, place or number that can be read, and lists them')
+    add('--readings', choices=READINGS, help='which of several readings of one well is taken (the newest by a date column)')
+    add('--near', type=place, metavar='X,Y', help='takes the 48 wells nearest to a place, where the list has more')
+    add('--at', type=spot, action='append', metavar='X,Y[,GROUND]', help='answers at this place in the terminal and makes no map; may be given again')
+    add('--anyway', action='store_true', help='draws what cannot be a water table all the same, with the doubt on the page')
     add('--nodes', metavar='nodes.csv', help='a list of nodes, in place of a grid over the wells')
     add('--grid', type=size, metavar='40x30', help='how many columns and rows the grid has')
     add('--trend', choices=list(CODES), default='constant', help='the trend of the water table (constant)')
@@ -70,19 +110,51 @@ def parser():
     return found
 
 
-def options(arguments):
+def with_places(arguments):
+    """The words of the command, a place that begins with a minus joined to its option: it would be taken for an option itself."""
+    words = []
+    for word in arguments:
+        if words and words[-1] in ('--at', '--near') and re.match(r'-[0-9.]', word):
+            words[-1] += '=' + word
+        else:
+            words.append(word)
+    return words
+
+
+def named(names):
+    return ', '.join('the list of wells' if name == 'wells' else '--' + name.replace('_', '-') for name in names)
+
+
+def options(arguments=None):
     """The options; a wrong use ends with status 2 and a sentence."""
     use = parser()
-    found = use.parse_args(arguments)
-    if found.collect is not None:
-        others = [name for name, value in vars(found).items() if name not in BESIDE_COLLECT and value != use.get_default(name)]
-        if others:
-            left = ', '.join('the list of wells' if name == 'wells' else '--' + name for name in others)
-            use.error(f'--collect DIR takes all of the map from DIR; leave out {left}')
-    elif found.wells is None:
-        use.error('name the list of wells, such as samples/valley.csv')
-    if found.nodes is not None and found.grid is not None:
-        use.error('--nodes and --grid both say where the nodes are; leave one out')
-    if found.sheets is not None and (found.survey is not None or found.listing or found.out is not None):
-        use.error('--sheets DIR keeps every survey file and runs none; leave out --survey, --listing and --out')
+    found = use.parse_args(with_places(sys.argv[1:] if arguments is None else arguments))
+    wrong = wrong_use(found, [name for name, value in vars(found).items() if value != use.get_default(name)])
+    if wrong:
+        use.error(wrong)
     return found
+
+
+def wrong_use(found, given):
+    """What is wrong with options beside each other; None where nothing is."""
+    if found.collect is not None:
+        others = [name for name in given if name not in BESIDE_COLLECT]
+        return f'--collect DIR takes all of the map from DIR; leave out {named(others)}' if others else None
+    if found.wells is None:
+        return 'name the list of wells, such as samples/valley.csv'
+    if found.at:
+        return wrong_places(found, [name for name in given if name in NOT_BESIDE_AT])
+    if found.nodes is not None and found.grid is not None:
+        return '--nodes and --grid both say where the nodes are; leave one out'
+    if found.sheets is not None and (found.survey is not None or found.listing or found.out is not None):
+        return '--sheets DIR keeps every survey file and runs none; leave out --survey, --listing and --out'
+    return None
+
+
+def wrong_places(found, others):
+    """What is wrong with the options beside --at."""
+    if others:
+        return f'--at X,Y answers at that place and makes no map; leave out {named(others)}'
+    if found.external is not None and any(len(each) < 3 for each in found.at):
+        return f'--external {found.external} has to be known at the place, too: --at X,Y,VALUE'
+    return None

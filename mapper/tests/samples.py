@@ -1,6 +1,6 @@
 """Made-up maps for the tests and for looking at the page: a plane with waves, wells scattered over it, some nodes failed.
 
-    python3 -m mapper.tests.samples FOLDER && mapper/look FOLDER/*.html --to FOLDER
+    python3 -m mapper.tests.samples FOLDER && mapper/developers/look FOLDER/*.html --to FOLDER
 """
 import math
 import os
@@ -8,11 +8,15 @@ import random
 import sys
 from array import array
 
-from mapper.model import Bin, Grid, Map, Nodes, Run, Variogram, Well
-from mapper.words import refusal
+from mapper.records import Bin, Doubt, Grid, LeftOut, Map, Nodes, Run, Source, Variogram, Well
+from mapper.runs.refusals import refusal
 
 EAST, NORTH = 3425000.0, 5812000.0
 SLOPES = 0.0019, -0.0011  # of the plane: the level falls to the north-west
+SOURCE = Source('lower meadows.csv', '0123456789abcdef' * 4, 'fedcba9876543210' * 4, '2026-11-17')
+DOUBT = Doubt('Look at W-07 (line 8) first: its neighbours say 47.12 m, the list says 53.1 m. Correct the list, or take the well out.')
+GRAVE = Doubt('W-03 (line 4) has the level \u22129999, which stands for a level that is missing. Leave the line out by --skip-unreadable, or enter '
+              'the level.', True)
 
 
 def level_at(x, y):
@@ -30,12 +34,20 @@ def made_wells(count, width=2000.0, height=1500.0, seed=7):
     wells = []
     for k in range(count):
         x, y = round(EAST + rng.random() * width, 1), round(NORTH + rng.random() * height, 1)
-        wells.append(Well('W-%02d' % (k + 1), x, y, round(level_at(x, y), 2)))
+        wells.append(Well('W-%02d' % (k + 1), x, y, round(level_at(x, y), 2), line=k + 2))
     return wells
 
 
+def told_by_others(wells):
+    """What the others might say of each well: a little above and below its level by turns; none where there are too few."""
+    if len(wells) < 5:
+        return []
+    others = lambda k: wells[:k] + wells[k + 1:]
+    return [LeftOut(w.level + 0.3 * math.sin(5 * k), variance_at(w.x, w.y, others(k)) ** 0.5) for k, w in enumerate(wells)]
+
+
 def variance_at(x, y, wells):
-    return 0.02 + 0.4 * (1 - math.exp(-min(math.hypot(x - w.x, y - w.y) for w in wells) / 400))
+    return 0.02 + 1.2 * (1 - math.exp(-min(math.hypot(x - w.x, y - w.y) for w in wells) / 400))
 
 
 def made_bins(wells, count=12):
@@ -62,9 +74,9 @@ def made_map(xs, ys, grid, wells, failed, names=None, **more):
     bins = made_bins(wells)
     made = dict(
         title='Lower meadows', wells=wells, nodes=Nodes(array('d', xs), array('d', ys), level, variance, verdict, names), grid=grid,
-        variogram=Variogram('spherical', 0.02, 1.9, 1450.0, True), bins=bins, trend='linear', external=None,
+        variogram=Variogram('spherical', 0.02, 1.9, 1450.0, 'fitted'), bins=bins, trend='linear', external=None,
         regularization=1e-10, tolerance=1e-6, columns=['1', 'x', 'y'], runs=[Run((0.0, 0.0), counts(verdict), estimate=plane())], drawn=0,
-        notes=[])
+        notes=[], left_out=told_by_others(wells), source=SOURCE)
     made.update(more)
     return Map(**made)
 
@@ -131,7 +143,8 @@ def crowded(**more):
     for k, name in ((3, 'Brunnen <Süd> & "Nord" am alten Wasserwerk'), (9, '深井十二号'), (20, "O'Neill's")):
         wells[k].name = name
     m = grid_map(60, 50, failed=some_failed, **more)
-    m.wells, m.title, m.external, m.columns = wells, 'Röst & Co <Lower meadows> 2024', 'surface "DEM"', ['1', 'x', 'y', 'surface "DEM"']
+    m.wells, m.left_out, m.title = wells, told_by_others(wells), 'Röst & Co <Lower meadows> 2024'
+    m.external, m.columns = 'surface "DEM"', ['1', 'x', 'y', 'surface "DEM"']
     m.notes = two_runs().notes
     m.runs[0].estimate = plane((0.0, 0.0), 0.42)
     m.runs.append(m.runs[0])
@@ -144,13 +157,38 @@ def tall_map(**more):
     return grid_map(8, 40, wells=3, width=300.0, height=1500.0, **more)
 
 
+def with_doubts(m, *more):
+    """A map with a level that the other wells do not bear out, and further doubts."""
+    m.doubts = [DOUBT, *more]
+    m.wells[6].level, m.left_out[6] = 53.1, LeftOut(47.12, 0.31)
+    m.left_out[4] = LeftOut(None)
+    return m
+
+
+def doubted(**more):
+    return with_doubts(grid_map(**more), Doubt('W-12 (line 13) stands 3 km from all others. Look at its coordinates.'))
+
+
+def grave(**more):
+    """A list that cannot be one of a water table, drawn all the same."""
+    m = with_doubts(grid_map(**more), GRAVE)
+    m.wells[2].level, m.left_out[2] = -9999.0, LeftOut(199.6, 0.4)
+    away = lambda x, y: math.dist((x, y), (m.wells[2].x, m.wells[2].y)) / 300
+    m.nodes.level = array('d', (v - 6000 * math.exp(-away(x, y)) for x, y, v in zip(m.nodes.x, m.nodes.y, m.nodes.level)))
+    return m
+
+
+def failed_and_doubted(**more):
+    return with_doubts(two_runs(**more))
+
+
 SAMPLES = {'crowded': crowded, 'tall': tall_map, 'plain': grid_map, 'two_runs': two_runs, 'turned_away': turned_away, 'list': list_map,
-           'none': none_passed, 'large': large_map}
+           'none': none_passed, 'large': large_map, 'doubted': doubted, 'grave': grave, 'failed_and_doubted': failed_and_doubted}
 
 
 def write_pages(folder):
     """The page of every sample, in a folder."""
-    from mapper.page import page
+    from mapper.page.page import page
     for name, make in SAMPLES.items():
         with open(os.path.join(folder, name + '.html'), 'w', encoding='utf-8') as file:
             file.write(page(make()))

@@ -1,5 +1,6 @@
 """What the tests share: a folder of their own, lists in it, the command, and programs that are none."""
 import contextlib
+import csv
 import io
 import os
 import struct
@@ -52,13 +53,13 @@ class Folder(unittest.TestCase):
         return str(path)
 
     def program(self, script):
-        """Has this script run in place of the proved program."""
+        """Has this script run in place of the proved program; no well is left out then, as its listings are of other nodes."""
         path = self.folder / 'program'
         path.write_text('#!/bin/sh\n' + script + '\n')
         path.chmod(0o755)
-        patch = mock.patch.dict(os.environ, {'NAKWEMOL_WELLMAP': str(path)})
-        patch.start()
-        self.addCleanup(patch.stop)
+        for patch in (mock.patch.dict(os.environ, {'NAKWEMOL_WELLMAP': str(path)}), mock.patch('mapper.making.Others.left_out', lambda *_: [])):
+            patch.start()
+            self.addCleanup(patch.stop)
 
     def command(self, *arguments):
         """The status of `map` with these words, and what it wrote to standard output and standard error."""
@@ -86,6 +87,10 @@ class Folder(unittest.TestCase):
 
     def rows(self, name='wells.map.csv'):
         """The map's table: a list of fields for each node."""
-        lines = (self.folder / name).read_text().splitlines()
-        self.assertEqual(lines[0], 'node,x,y,level,variance,verdict,says')
-        return [line.split(',', 6) for line in lines[1:]]
+        lines = [line for line in (self.folder / name).read_text().splitlines() if not line.startswith('# ')]
+        self.assertEqual(lines[0], 'node,x,y,level,variance,verdict,says,deviation,where')
+        return list(csv.reader(lines[1:]))
+
+    def judgements(self, name='wells.map.csv'):
+        """The comment lines of the map's table, without their signs."""
+        return [line[2:] for line in (self.folder / name).read_text().splitlines() if line.startswith('# ')]

@@ -1,18 +1,18 @@
 """Lists of wells and nodes as spreadsheets write them, and each wrong line with its sentence."""
 import codecs
 
-from mapper.model import Well
-from mapper.nodes import read_nodes
-from mapper.stop import Stop
+from mapper.errors import Stop
+from mapper.lists.nodes import read_nodes
+from mapper.lists.wells import ListOptions, read_wells
+from mapper.records import Well
 from mapper.tests.support import Folder
-from mapper.wells import read_wells, shared_spots
 
 TWO = [Well('A', 4512300.5, 5403200.0, 31.25), Well('B', 4512400.0, 5403300.0, 30.0)]
 
 
 class Lists(Folder):
     def wells(self, text, external=None):
-        return read_wells(self.file(text), external)[0]
+        return read_wells(self.file(text), ListOptions(external)).wells
 
     def test_separators(self):
         for separator in ',;\t':
@@ -22,7 +22,7 @@ class Lists(Folder):
     def test_marks_and_line_ends(self):
         text = 'name,x,y,level\r\nA,4512300.5,5403200,31.25\r\nB,4512400,5403300,30'
         self.assertEqual(self.wells(codecs.BOM_UTF8 + text.encode()), TWO)
-        self.assertEqual(read_wells(self.file(codecs.BOM_UTF8 + b'ground,x,y,level\n1,2,3,4\n'), 'ground')[1], 'ground')
+        self.assertEqual(read_wells(self.file(codecs.BOM_UTF8 + b'ground,x,y,level\n1,2,3,4\n'), ListOptions('ground')).external, 'ground')
         self.assertEqual(self.wells(codecs.BOM_UTF16_LE + text.encode('utf-16-le')), TWO)
         self.assertEqual(self.wells(text.replace('\r\n', '\r')), TWO)
 
@@ -47,7 +47,7 @@ class Lists(Folder):
     def test_further_columns(self):
         text = 'name,x,y,level,Ground height,casing\nA,1,2,3,207.5,PVC\nB,4,5,6,208,12\n'
         self.assertEqual([well.more for well in self.wells(text)], [{'Ground height': 207.5}, {'Ground height': 208.0, 'casing': 12.0}])
-        self.assertEqual(read_wells(self.file(text), 'ground_height')[1], 'Ground height')
+        self.assertEqual(read_wells(self.file(text), ListOptions('ground_height')).external, 'Ground height')
 
     def test_nodes(self):
         nodes, outside = read_nodes(self.file('ground,x,y\n7,1,2\n8,3,4\n'), 'Ground')
@@ -55,15 +55,11 @@ class Lists(Folder):
         nodes, outside = read_nodes(self.file('name,x,y\nN1,1,2\n'))
         self.assertEqual((nodes.names, len(outside), list(nodes.verdict)), (['N1'], 0, [0]))
 
-    def test_shared_spots(self):
-        wells = self.wells('name,x,y,level\nA,1,2,3\nB,1,3,3\nC,1,2,4\nD,9,9,9\n')
-        self.assertEqual(shared_spots(wells), [['A', 'C']])
-
 
 class WrongLists(Folder):
     def says(self, text, *words, external=None, read=read_wells):
         with self.assertRaises(Stop) as stopped:
-            read(self.file(text), external)
+            read(self.file(text), ListOptions(external) if read is read_wells else external)
         for word in words:
             self.assertIn(word, str(stopped.exception))
 
@@ -71,10 +67,6 @@ class WrongLists(Folder):
         self.says('name,x,y,level\nA,1,2,3\n\nB,4,five,6\n', 'wells.csv, line 4:', 'y is not a number: five', '\n    B,4,five,6')
         for cell in ('nan', 'inf', '0x10', '1_000', '--', '1 2'):
             self.says(f'name;x;y;level\nA;1;2;{cell}\n', 'line 2', f'level is not a number: {cell}')
-
-    def test_decimal_comma(self):
-        self.says('name;x;y;level\nA;4512300,5;2;3\n', 'line 2', 'decimal comma', '4512300.5')
-        self.says('name,x,y,level\nA,4512300,5,2,3\n', 'line 2', '5 fields, where the header has 4', 'decimal comma')
 
     def test_missing_and_too_large(self):
         self.says('name,x,y,level\nA,1,2,\n', 'line 2', 'level is missing')

@@ -5,11 +5,10 @@ import sys
 import unittest
 from unittest import mock
 
-from mapper import bar
-from mapper.built import program
+from mapper import progress as bar
 from mapper.options import parser
+from mapper.runs.building import program
 from mapper.tests.support import ENDING, FOUR, NUMBERS, ROOT, Folder, guide, nakwemol
-from mapper.verdicts import verdict_words
 from tools.reading.wellmap import printed
 
 SIX = FOUR + 'E,40,130,12.2\nF,130,60,11.1\n'
@@ -70,7 +69,8 @@ class Options(Folder):
         """The scope's case B: 4 with variance 1.5 between 2 and 6."""
         wells, nodes = self.file('name,x,y,level\nA,0,0,2\nB,2,0,6\n'), self.file('name,x,y\n"here, there",1,0\n', 'nodes.csv')
         self.made(wells, '--nodes', nodes, '--nugget', '0', '--sill', '1', '--range', '1', '--regularization', '0', '--tolerance', '0')
-        self.assertEqual((self.folder / 'wells.map.csv').read_text().splitlines()[1], f'"here, there",1,0,4,1.5,0,{verdict_words(0, [])}')
+        line = (self.folder / 'wells.map.csv').read_text().splitlines()[-1]
+        self.assertEqual(line, f'"here, there",1,0,4,1.5,0,the arithmetic held,{1.5 ** 0.5!r},among the wells')
 
     def test_grid(self):
         """Four wells from (0, 0) to (100, 100): 5 by 4 nodes with a cell around them are 50 and 100 apart."""
@@ -142,14 +142,16 @@ class Options(Folder):
 
     def test_last_line(self):
         said = self.made(self.file(FOUR), *NUMBERS, '--grid', '3x3').splitlines()
-        self.assertEqual(said[1:], [f'9 of 9 nodes passed, 0 did not: {self.folder}/wells.html and {self.folder}/wells.map.csv'])
+        self.assertEqual(said[1:], [f'The arithmetic held at 9 of 9 nodes; nothing doubtful was found in the list: {self.folder}/wells.html and '
+                                    f'{self.folder}/wells.map.csv'])
         self.assertTrue(said[0].startswith('The trend is a level of '), said[0])
 
     def test_launcher_from_any_folder(self):
         self.file(FOUR)
         words = [str(ROOT / 'map'), 'wells.csv', *NUMBERS, '--grid', '3x3']
         ended = subprocess.run(words, cwd=self.folder, stdout=subprocess.PIPE, env={**os.environ, 'PYTHONDONTWRITEBYTECODE': '1'})
-        self.assertEqual((ended.returncode, ended.stdout.splitlines()[-1]), (0, b'9 of 9 nodes passed, 0 did not: wells.html and wells.map.csv'))
+        self.assertEqual((ended.returncode, ended.stdout.splitlines()[-1]),
+                         (0, b'The arithmetic held at 9 of 9 nodes; nothing doubtful was found in the list: wells.html and wells.map.csv'))
 
 
 class Told(unittest.TestCase):
@@ -186,5 +188,6 @@ class WrongUse(Folder):
             ((wells, '--collect', 'a'), 'leave out the list of wells'),
             (('--collect', 'a', '--grid', '2x2'), 'leave out --grid'),
             (('--collect', 'a', '--trend', 'linear', '--sill', '2', '--listing'), 'leave out --trend, --sill, --listing'),
+            (('--collect', 'a', '--skip-unreadable', '--anyway'), 'leave out --skip-unreadable, --anyway'),
         ):
             self.assertIn(said, self.refused(*words, status=2), words)

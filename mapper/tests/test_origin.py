@@ -2,9 +2,9 @@
 import sys
 import unittest
 
-from mapper.model import Well
 from mapper.numbers import shown
-from mapper.origin import corner
+from mapper.records import Well
+from mapper.runs.origin import corner
 from mapper.tests.support import ENDING, SAMPLES, Folder, bits, nakwemol
 from tools.reading.survey import Survey
 from tools.reading.survey_file import body, trailer
@@ -42,7 +42,7 @@ class SevenFigures(Folder):
         said = self.made(self.wells, *MODEL, '--grid', '10x10')
         self.assertIn('With coordinates as entered 0 of 100 nodes pass; with the origin moved to (4512300, 5403100) 100 do; '
                       'the map is drawn with the origin moved.\n', said)
-        self.assertIn('100 of 100 nodes passed, 0 did not: ', said.splitlines()[-1])
+        self.assertIn('The arithmetic held at 100 of 100 nodes; ', said.splitlines()[-1])
         self.assertEqual({row[5] for row in self.rows()}, {'0'})
 
     def test_places_are_shown_as_entered(self):
@@ -53,7 +53,7 @@ class SevenFigures(Folder):
         said = self.made(self.wells, *MODEL, '--grid', '10x10', '--origin', 'as-entered')
         self.assertNotIn('with the origin moved', said)
         self.assertIn('100 nodes did not pass, with coordinates as entered (without --origin', said)
-        self.assertIn('0 of 100 nodes passed, 100 did not', said)
+        self.assertIn('The arithmetic held at 0 of 100 nodes', said)
         for row in self.rows():
             self.assertEqual((row[3], row[4], row[5]), ('', '', '1'))
 
@@ -128,4 +128,4 @@ class WhichIsDrawn(Folder):
         status, out, _ = self.drawn((1, 1), (None, 19))
         self.assertEqual(status, 0)
         self.assertIn('With the origin moved to (1000, 1000) the map is turned away. Refused (19)', out)
-        self.assertIn('0 of 2 nodes passed, 2 did not', out)
+        self.assertIn('The arithmetic held at 0 of 2 nodes', out)

@@ -6,10 +6,9 @@ from functools import lru_cache
 from html import unescape
 from html.parser import HTMLParser
 
-from mapper.model import Run
-from mapper.page import page
+from mapper.drawing.thinning import MOST_NODES
+from mapper.page.page import page
 from mapper.tests import samples
-from mapper.thinning import MOST_NODES
 
 LEAST_LARGE = 160, 100  # over MOST_NODES, so a picture and thinned hovering, and no larger than that needs
 SVG = '{http://www.w3.org/2000/svg}'
@@ -142,13 +141,20 @@ class Content(unittest.TestCase):
     def test_as_entered_is_written_on_the_map(self):
         self.assertIn('>Drawn: coordinates as entered<', page(samples.grid_map(4, 4)))
 
-    def test_headline(self):
-        self.assertIn('43 of 1,200\u00a0nodes did not pass the audit and have no level.', sample_page('two_runs'))
-        self.assertIn('All 1,200\u00a0nodes passed the audit.', sample_page('plain'))
-        m = samples.grid_map(3, 3)
-        m.nodes.verdict[4] = 255
-        m.runs = [Run((0.0, 0.0), {0: 8, 255: 1})]
-        self.assertIn('1 of 9\u00a0nodes did not pass the audit and has no level.', page(m))
+    def test_units_in_the_legends(self):
+        text = sample_page('plain')
+        self.assertIn('<h2>Level, m</h2>', text)
+        self.assertIn('<h2>Standard deviation, m</h2>', text)
+        self.assertIn('contour line, every 0.5 m', text)
+
+    def test_foot(self):
+        """The day, the list and the program, each by the first 16 digits of its checksum; all digits where the pointer is."""
+        text = sample_page('plain')
+        self.assertIn('Made on 2026-11-17 from lower meadows.csv (SHA-256 0123456789abcdef ) by wellmap (SHA-256 fedcba9876543210 ).',
+                      ' '.join(words(text).split()))
+        for digits in ('0123456789abcdef', 'fedcba9876543210'):
+            self.assertIn('title="%s"' % (digits * 4), text)
+        self.assertNotIn('<footer', page(samples.grid_map(3, 3, source=None)))
 
     def test_notes_and_refusals(self):
         m = samples.crowded()

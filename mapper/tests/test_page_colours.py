@@ -2,9 +2,9 @@
 import re
 import unittest
 
-from mapper.classes import classes
-from mapper.colours import DEVIATIONS, LEVELS, class_colours, lightness, line_colour, linear
-from mapper.page import beside
+from mapper.drawing.classes import classes
+from mapper.drawing.colours import DEVIATIONS, LEVELS, class_colours, lightness, line_colour, linear
+from mapper.page.page import beside
 
 # What is seen instead of light (red, green, blue): Machado, Oliveira and Fernandes 2009, whole loss of one kind of cones.
 SEEN = {

@@ -1,8 +1,8 @@
 """Contour lines and areas, against places worked out by hand."""
 import unittest
 
-from mapper.contours import Field, areas, lines
-from mapper.thinning import block_verdicts, kept, passed_nodes, thinned, whole_squares
+from mapper.drawing.contours import Field, areas, lines
+from mapper.drawing.thinning import block_verdicts, kept, passed_nodes, thinned, whole_squares
 
 
 def field(rows, failed=()):

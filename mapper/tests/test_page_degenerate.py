@@ -3,8 +3,8 @@ import math
 import unittest
 from array import array
 
-from mapper.model import Grid, Nodes, Run, Variogram, Well
-from mapper.page import page
+from mapper.page.page import page
+from mapper.records import Run, Variogram
 from mapper.tests import samples
 from mapper.tests.test_page import Balance, drawings, words
 
@@ -30,7 +30,7 @@ class Degenerate(unittest.TestCase):
 
     def test_one_node(self):
         m = samples.grid_map(1, 1, wells=3)
-        self.assertIn('The node passed the audit.', self.sound(m))
+        self.assertIn('The arithmetic held at 1 of 1 node.', self.sound(m))
         m.grid.dx = m.grid.dy = 0.0
         self.sound(m)
 
@@ -80,7 +80,7 @@ class Degenerate(unittest.TestCase):
         for at in range(len(m.nodes)):
             m.nodes.level[at] = (math.nan, math.inf, -math.inf)[at % 3]
             m.nodes.variance[at] = math.nan
-        self.assertIn('1,200 of 1,200\u00a0nodes did not pass', self.sound(m))
+        self.assertIn('The arithmetic held at 0 of 1,200 nodes.</strong> 1,200 did not pass the audit and have no level.', self.sound(m))
 
     def test_numbers_that_are_none_at_failed_nodes(self):
         m = samples.two_runs()
@@ -126,10 +126,10 @@ class Degenerate(unittest.TestCase):
         self.sound(m)
 
     def test_models_without_a_curve(self):
-        for variogram in (Variogram('linear', 0.0, 1.0, 0.0, False), Variogram('spherical', 0.0, 0.0, 0.0, False),
-                          Variogram('spherical', 2.0, 1.0, -5.0, False), Variogram('linear', 0.0, 1e308, 1e-300, False),
-                          Variogram('exponential', 0.0, 1.0, 0.0, False), Variogram('exponential', 0.0, 1.0, -5.0, False),
-                          Variogram('gaussian', 0.0, 1.0, 0.0, False), Variogram('gaussian', 0.0, 1.0, 1e200, False)):
+        for variogram in (Variogram('linear', 0.0, 1.0, 0.0), Variogram('spherical', 0.0, 0.0, 0.0),
+                          Variogram('spherical', 2.0, 1.0, -5.0), Variogram('linear', 0.0, 1e308, 1e-300),
+                          Variogram('exponential', 0.0, 1.0, 0.0), Variogram('exponential', 0.0, 1.0, -5.0),
+                          Variogram('gaussian', 0.0, 1.0, 0.0), Variogram('gaussian', 0.0, 1.0, 1e200)):
             for bins in ([], samples.made_bins(samples.made_wells(5))):
                 m = samples.grid_map(3, 3, wells=4)
                 m.variogram, m.bins = variogram, bins

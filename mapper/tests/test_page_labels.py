@@ -1,13 +1,13 @@
-"""Labels: none covers another, a well or the frame; numbers of the frame do not run into each other."""
+"""Labels: none covers another, a well or the frame."""
 import random
 import re
 import unittest
 
-from mapper.drawing import SIZES, Sheet, drawing, tick_step
-from mapper.frame import ground
-from mapper.labels import Box, line_labels, short_name, square, text_width, turned_boxes, well_labels
-from mapper.scales import decimals, fixed
-from mapper.scene import scene
+from mapper.drawing.frame import ground
+from mapper.drawing.labels import Box, line_labels, short_name, square, text_width, turned_boxes, well_labels
+from mapper.drawing.map_drawing import drawing
+from mapper.drawing.sheet import SIZES
+from mapper.drawing.scene import scene
 from mapper.tests import samples
 
 FRAME = Box(0, 0, 400, 300)
@@ -91,17 +91,6 @@ class Lines(unittest.TestCase):
 
 
 class Frames(unittest.TestCase):
-    def test_numbers_of_the_frame_are_apart(self):
-        for make in (samples.grid_map, samples.tall_map):
-            g = ground(make())
-            for size in SIZES:
-                sheet = Sheet(g, size)
-                for low, high, length in ((g.x0, g.x1, sheet.width), (g.y0, g.y1, sheet.height)):
-                    step, found = tick_step(low, high, length)
-                    self.assertGreaterEqual(len(found), 1)
-                    broad = max(text_width(fixed(t, decimals(step)), 12) for t in found)
-                    self.assertGreater(length * step / (high - low), broad if len(found) > 1 else 0)
-
     def test_one_scale_on_both_axes_and_north_up(self):
         g = ground(samples.grid_map(40, 30))
         self.assertAlmostEqual(g.x(g.x0 + 100) / g.y(g.y1 - 100), 1.0)

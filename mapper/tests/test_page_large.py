@@ -6,11 +6,10 @@ import struct
 import unittest
 import zlib
 
-from mapper.colours import LEVELS
-from mapper.classes import classes
-from mapper.model import Grid
-from mapper.page import page
-from mapper.raster import block_point, class_bytes, grid_rows, png
+from mapper.drawing.classes import classes
+from mapper.drawing.colours import LEVELS
+from mapper.drawing.raster import block_point, class_bytes, grid_rows, png
+from mapper.page.page import page
 from mapper.tests import samples
 
 

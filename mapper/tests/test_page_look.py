@@ -7,7 +7,10 @@ import sys
 import tempfile
 import unittest
 
-LOOK = os.path.join(os.path.dirname(os.path.dirname(os.path.abspath(__file__))), 'look')
+from mapper.page.page import page
+from mapper.tests import samples
+
+LOOK = os.path.join(os.path.dirname(os.path.dirname(os.path.abspath(__file__))), 'developers', 'look')
 
 
 def script():
@@ -37,6 +40,23 @@ class Look(unittest.TestCase):
             with open(name, 'wb') as file:
                 file.write(b'<</Type /Pages /Count 2>> <</Type /Page >> <</Type/Page/Parent 1 0 R>>')
             self.assertEqual(script().sheets(name), 2)
+
+    def test_two_sheets_at_most_and_the_map_on_the_first(self):
+        rule = script().paper_faults
+        self.assertEqual([rule(1, 1), rule(2, 1)], [[], []])
+        self.assertEqual(rule(3, 1), ['more than 2 sheets'])
+        self.assertEqual(rule(2, 2), ['the map is not on the first sheet'])
+        self.assertEqual(rule(0, 0), ['the map is not on the first sheet'])  # Chromium printed nothing
+
+    def test_the_upper_part_is_cut_after_the_map(self):
+        """What is hidden there comes after the figure in the page."""
+        text = page(samples.grid_map(4, 4, wells=3))
+        self.assertEqual(text.count('</body>'), 1)
+        self.assertEqual(text.count('<figure'), 1)
+        before, after = text.split('</figure>')
+        for part in ('class="side', 'class="refused"', 'class="wells-part"', '<footer>'):
+            self.assertNotIn(part, before.split('</style>')[1])
+            self.assertIn(part, after)
 
 
 if __name__ == '__main__':

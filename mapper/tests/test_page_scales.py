@@ -2,12 +2,12 @@
 import math
 import unittest
 
-from mapper.chart import axis, bin_words, chart, curve_points, model_words
-from mapper.classes import classes
-from mapper.colours import LEVELS
-from mapper.model import Run, Variogram
-from mapper.scales import alike, counted, decimals, fixed, length_words, plain, round_step, ticks
-from mapper.tables import area_words, level_range, node_words, origin_words
+from mapper.drawing.classes import classes
+from mapper.drawing.colours import LEVELS
+from mapper.drawing.scales import alike, counted, decimals, fixed, length_words, plain, round_step, ticks
+from mapper.drawing.semivariogram_chart import axis, bin_words, chart, curve_points, model_words, tick_words
+from mapper.page.tables import area_words, level_range, node_words, origin_words
+from mapper.records import Bin, Run, Variogram
 from mapper.tests import samples
 
 
@@ -66,9 +66,12 @@ class Numbers(unittest.TestCase):
 
 class Tables(unittest.TestCase):
     def test_ranges(self):
-        self.assertEqual(level_range([45.1, 49.25, 47.0]), '45.10 to 49.25')
-        self.assertEqual(level_range([45.1, 45.1]), '45.1')
+        self.assertEqual(level_range([45.1, 49.25, 47.0]), '45.10 to 49.25 m')
+        self.assertEqual(level_range([45.1, 45.1]), '45.1 m')
         self.assertEqual(level_range([]), '–')
+        self.assertEqual(level_range([-5544.8173, -6.1579]), '\u22125544.82 to \u22126.16 m')
+        self.assertEqual(level_range([0.0159971, 0.0414042]), '0.0160 to 0.0414 m')
+        self.assertEqual(level_range([205.113, 205.12]), '205.11 to 205.12 m')
 
     def test_origins(self):
         self.assertEqual(origin_words(Run((0.0, 0.0), {})), 'coordinates as entered')
@@ -102,28 +105,51 @@ class Chart(unittest.TestCase):
         self.assertEqual(axis(2.0, 5)[1][-1], 2.0)
 
     def test_the_curve_starts_at_the_nugget_and_ends_at_the_sill(self):
-        points = curve_points(Variogram('spherical', 0.2, 1.9, 500.0, True), 1000.0)
+        points = curve_points(Variogram('spherical', 0.2, 1.9, 500.0), 1000.0)
         self.assertAlmostEqual(points[0][1], 0.2, places=2)
         self.assertEqual(points[-1], (1000.0, 1.9))
 
     def test_the_curves_of_models_that_only_come_near_the_sill(self):
         for model, at_range in (('exponential', math.exp(-1)), ('gaussian', math.exp(-1))):
-            points = curve_points(Variogram(model, 0.2, 1.9, 500.0, True), 1200.0)
+            points = curve_points(Variogram(model, 0.2, 1.9, 500.0), 1200.0)
             self.assertEqual(points[0], (0.0, 0.2))
             self.assertEqual(points[50], (500.0, 0.2 + (1.9 - 0.2) * (1 - at_range)))
         self.assertEqual(points[25], (250.0, 0.2 + (1.9 - 0.2) * (1 - math.exp(-0.25))))
 
     def test_the_model_in_words(self):
-        self.assertEqual(model_words(Variogram('exponential', 0.5, 1.5, 500.0, True)),
+        self.assertEqual(model_words(Variogram('exponential', 0.5, 1.5, 500.0, 'fitted')),
                          'Exponential model, fitted to the bins: nugget 0.5, sill 1.5, range 500 m (95 % of the rise at 1500 m).')
-        self.assertIn('(95 % of the rise at 866 m)', model_words(Variogram('gaussian', 0.5, 1.5, 500.0, False)))
-        self.assertTrue(model_words(Variogram('linear', 0.5, 1.5, 500.0, False)).endswith('range 500 m.'))
+        self.assertIn('(95 % of the rise at 866 m)', model_words(Variogram('gaussian', 0.5, 1.5, 500.0)))
+        self.assertEqual(model_words(Variogram('linear', 0.5, 1.5, 500.0)), 'Linear model, as given: nugget 0.5, sill 1.5, range 500 m.')
+
+    def test_where_the_model_comes_from(self):
+        """A plain model is not said to be fitted, and a number that was given is not either."""
+        for how, given, words in (('plain', [], 'a plain one, since there was nothing to fit'),
+                                  ('fitted', ['sill'], 'sill as given and else fitted to the bins'),
+                                  ('plain', ['nugget', 'range'], 'nugget and range as given and else a plain one, since there was nothing to fit')):
+            self.assertIn(f'Spherical model, {words}: nugget 0,', model_words(Variogram('spherical', 0.0, 1.0, 50.0, how, given)))
 
     def test_a_dot_for_every_bin(self):
         m = samples.grid_map(3, 3)
         self.assertEqual(chart(m).count('class="bin"'), len(m.bins))
         self.assertIn('class="curve"', chart(m))
         self.assertNotIn('hollow', bin_words(m))
+
+    def test_one_bin_one_pair_and_none(self):
+        m = samples.grid_map(3, 3, wells=2)
+        m.bins = [Bin(300.0, 0.5, 1)]
+        self.assertEqual(bin_words(m), 'The dot: the average over 1\u00a0pair of wells.')
+        self.assertIn('<title>1\u00a0pair around 300 m: 0.5</title>', chart(m))
+        m.bins = [Bin(300.0, 0.5, 3)]
+        self.assertEqual(bin_words(m), 'The dot: the average over 3\u00a0pairs of wells.')
+        m.bins = []
+        self.assertEqual(bin_words(m), '')
+
+    def test_numbers_too_broad_for_their_room(self):
+        """A semivariance of millions, as a level of -9999 makes it."""
+        self.assertEqual(tick_words(50000000.0, 1e7, 48), '5e7')
+        self.assertEqual(tick_words(1500000.0, 5e5, 48), '1.5e6')
+        self.assertEqual(tick_words(0.25, 0.05, 48), '0.25')
 
     def test_bins_that_were_not_fitted_are_hollow(self):
         m = samples.grid_map(3, 3)

@@ -1,8 +1,8 @@
 """What ends without a map: a sentence that says what to do, status 1, and no file."""
 from unittest import mock
 
+from mapper.runs.refusals import REFUSALS
 from mapper.tests.support import ENDING, FOUR, NUMBERS, SAMPLES, Folder
-from mapper.words import REFUSALS
 
 
 def many(count):
@@ -20,7 +20,7 @@ class ByTheProgram(Folder):
         said = self.refused(wells, '--nodes', self.file('x,y\n1,1\n', 'nodes.csv'), '--nugget', '0', '--sill', '1', '--range', '1', '--regularization', '0')
         self.assertEqual((SAMPLES / 'singular.listing').read_text(), 'refused 19\n')
         self.assertIn('Refused (19)', said)
-        self.assertIn('These wells share a spot: Upper and Lower.', said)
+        self.assertIn('These wells share a spot: Upper (line 2) and Lower (line 3).', said)
 
     def test_19_without_a_shared_spot(self):
         wells = self.file('name,x,y,level\nA,0,0,5\nB,1,0,5.5\nC,2,0,7\nD,3,0,7.5\n')
@@ -65,8 +65,10 @@ class BeforeIt(Folder):
         self.assertIn('nodes.csv has no column ground', self.refused(wells, '--external', 'ground', '--nodes', nodes))
 
     def test_bad_lists(self):
-        self.assertIn("wells.csv, line 3: level is not a number: dry.\n    B,3,4,dry", self.refused(self.file('name,x,y,level\nA,1,2,3\nB,3,4,dry\n')))
-        self.assertIn('decimal comma', self.refused(self.file('name;x;y;level\nA;1;2;3,5\n')))
+        said = self.refused(self.file('name,x,y,level\nA,1,2,3\nB,3,4,dry\n'))
+        for words in ('wells.csv, line 3: level is not a number: dry;', '--skip-unreadable', '\n    B,3,4,dry'):
+            self.assertIn(words, said)
+        self.assertIn('decimal comma', self.refused(self.file('name,x,y,level\nA,1,2,"3,5"\n')))
         self.assertIn('line 2: x is missing', self.refused(self.file(FOUR), '--nodes', self.file('x,y\n,1\n', 'nodes.csv')))
         self.assertIn('cannot be read', self.refused(self.folder / 'none.csv'))
 

@@ -5,7 +5,7 @@ import re
 import subprocess
 from unittest import mock
 
-from mapper.built import program
+from mapper.runs.building import program
 from mapper.tests.support import FOUR, NUMBERS, SAMPLES, Folder, guide, nakwemol
 
 GRID = (*NUMBERS, '--grid', '15x15')
@@ -57,7 +57,7 @@ class SheetFolder(Folder):
         folder, _ = self.sheets(*GRID)
         line = line.replace('target/bin/wellmap', program(print)).replace('DIR', str(folder))
         subprocess.run(['sh', '-eu', '-c', line], env={**os.environ, 'PATH': f'{self.folder}:{os.environ["PATH"]}'}, check=True)
-        self.assertIn('225 of 225 nodes passed', self.made('--collect', folder))
+        self.assertIn('The arithmetic held at 225 of 225 nodes', self.made('--collect', folder))
 
     def test_what_is_in_the_folder(self):
         folder, said = self.sheets(*GRID)
@@ -78,8 +78,8 @@ class SheetFolder(Folder):
         _, said = self.sheets(*GRID, wells=self.file(FAR))
         self.assertIn('75 of 75 nodes spread over the map pass as entered. On the sheets: as entered.', said)
 
-    def test_no_program_is_asked_where_the_origin_is_named(self):
-        with mock.patch('mapper.make.program', side_effect=AssertionError):
+    def test_no_node_is_tried_where_the_origin_is_named(self):
+        with mock.patch('mapper.making.run', side_effect=AssertionError):
             self.sheets(*GRID, '--origin', 'moved')
 
     def test_missing_listings_are_named(self):
@@ -104,7 +104,8 @@ class SheetFolder(Folder):
         folder, _ = self.sheets(*GRID)
         self.run_all(folder)
         (folder / '000003.listing').write_bytes((folder / '000001.listing').read_bytes())
-        self.assertIn('000003.listing is not whole: it does not have 25 nodes', self.refused('--collect', folder))
+        said = self.refused('--collect', folder)
+        self.assertIn('000003.listing is not whole: it does not have 25 nodes; it is the same byte for byte as 000001.listing. Run its sheet again.', said)
 
     def test_listing_with_another_trend(self):
         folder, _ = self.sheets(*GRID)
@@ -135,7 +136,7 @@ class SheetFolder(Folder):
         folder, _ = self.sheets(*GRID)
         self.run_all(folder)
         kept = json.loads((folder / 'map.json').read_text())
-        for wrong in ({**kept, 'version': 2}, {**kept, 'grid': {}}, {**kept, 'wells': 7}, [kept]):
+        for wrong in ({**kept, 'version': 1}, {**kept, 'version': 3}, {**kept, 'grid': {}}, {**kept, 'wells': 7}, [kept]):
             (folder / 'map.json').write_text(json.dumps(wrong))
             self.assertIn('not as --sheets writes it', self.refused('--collect', folder))
 

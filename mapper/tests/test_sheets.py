@@ -3,15 +3,15 @@ import math
 from array import array
 from unittest import mock
 
-from mapper.built import program
-from mapper.listing import Damaged, parsed
-from mapper.model import Variogram, Well
-from mapper.nodes import unanswered
-from mapper.runs import answer, fill, run, tally
-from mapper.sheets import Sheets
-from mapper.stop import Refused
-from mapper.survey import Survey
-from mapper.survey_file import MODELS
+from mapper.errors import Refused
+from mapper.lists.nodes import unanswered
+from mapper.records import Variogram, Well
+from mapper.runs.building import program
+from mapper.runs.listing import Damaged, parsed
+from mapper.runs.running import answer, fill, run, tally
+from mapper.runs.sheets import Sheets
+from mapper.runs.survey import Survey
+from mapper.runs.survey_file import MODELS
 from mapper.tests.support import SAMPLES, Folder, bits, nakwemol
 
 TRENDS = {1: 'constant', 2: 'linear', 3: 'quadratic'}
@@ -24,7 +24,7 @@ def read(name):
     more = [{column: value} if column else {} for value in (s.external or s.values)]
     wells = [Well(str(i), *s.coords[2 * i:2 * i + 2], level, more[i]) for i, level in enumerate(s.values)]
     model = {code: word for word, code in MODELS.items()}[s.variogram.model]
-    survey = Survey(wells, TRENDS[s.bases[0]], column, Variogram(model, *s.variogram[1:], False), s.regularization, s.tolerance)
+    survey = Survey(wells, TRENDS[s.bases[0]], column, Variogram(model, *s.variogram[1:]), s.regularization, s.tolerance)
     return s, survey, unanswered(array('d', s.nodes[::2]), array('d', s.nodes[1::2])), array('d', s.node_external)
 
 
@@ -73,7 +73,7 @@ class Bounded(Folder):
                 return b''
         nodes_of = b''.join(b'%d 4010000000000000 3ff8000000000000 0\n' % (i + 1) for i in range(100))
         listing = b'nodes 100\n' + nodes_of + 3 * b'coef 3fe0000000000000\n' + 3 * b'trend 3fe0000000000000\n'
-        with mock.patch('mapper.runs.answer', lambda program, survey: listing):
+        with mock.patch('mapper.runs.running.answer', lambda program, survey: listing):
             found = run('none', Counted(read('plain')[1], nodes, array('d'), (0.0, 0.0)), 2, taken.append)
         self.assertEqual((found.verdicts, len(made), sum(taken)), ({0: 30000}, 300, 30000))
         self.assertLessEqual(max(most), 8)
@@ -140,7 +140,7 @@ class OneTrend(Folder):
     """Sheets of one node each, of two wells with a constant trend."""
 
     def sheets(self):
-        two = Survey([Well('A', 0, 0, 2), Well('B', 2, 0, 6)], 'constant', None, Variogram('spherical', 0, 1, 1, False), 0.0, 0.0)
+        two = Survey([Well('A', 0, 0, 2), Well('B', 2, 0, 6)], 'constant', None, Variogram('spherical', 0, 1, 1), 0.0, 0.0)
         sheets = Sheets(two, unanswered(array('d', [1, 1]), array('d', [0, 0])), array('d'), (0.0, 0.0))
         sheets.span = lambda sheet: (sheet, sheet + 1)
         return sheets

@@ -4,13 +4,13 @@ import io
 import unittest
 from unittest import mock
 
-from mapper import samples
-from mapper.bar import Bar
-from mapper.files import write_all
-from mapper.numbers import counted, shown, significant
-from mapper.stop import Stop
+from mapper.developers import sample_lists as samples
+from mapper.errors import Stop
+from mapper.lists.wells import ListOptions, read_wells
+from mapper.numbers import counted, deviation, shown, significant
+from mapper.output_files import write_all
+from mapper.progress import Bar
 from mapper.tests.support import SAMPLES, Folder
-from mapper.wells import read_wells
 
 
 class Terminal(io.StringIO):
@@ -66,6 +66,9 @@ class Numbers(unittest.TestCase):
     def test_significant(self):
         self.assertEqual([significant(x, 4) for x in (1234.5678, 0.000123456, 0.0, 99999)], [1235, 0.0001235, 0, 100000])
 
+    def test_deviation(self):
+        self.assertEqual([deviation(x) for x in (6.25, 0.0, -1e-12, -0.01, float('inf'), float('nan'))], [2.5, 0, 0, None, None, None])
+
     def test_counted(self):
         self.assertEqual([counted(n, 'node') for n in (0, 1, 2000)], ['0 nodes', '1 node', '2,000 nodes'])
 
@@ -81,7 +84,7 @@ class Samples(Folder):
             self.assertEqual(samples.main(['--check']), 1)
 
     def test_what_they_are(self):
-        plain, valley = (read_wells(SAMPLES / f'{name}.csv', column)[0] for name, column in (('plain', None), ('valley', 'ground')))
+        plain, valley = (read_wells(SAMPLES / f'{name}.csv', ListOptions(column)).wells for name, column in (('plain', None), ('valley', 'ground')))
         self.assertEqual((len(plain), len(valley)), (30, 24))
         for wells, reach in ((plain, 3000), (valley, 600)):
             self.assertTrue(all(1e6 <= z < 1e7 for well in wells for z in (well.x, well.y)))

@@ -2,12 +2,12 @@
 import unittest
 from unittest import mock
 
-from mapper.bins import bin_count, bins_of
-from mapper.fit import Given
-from mapper.model import Well
-from mapper.stop import Refused
-from mapper.trend import residuals
-from mapper.variogram import variogram_of
+from mapper.errors import Refused
+from mapper.model.fitting import Given
+from mapper.model.residuals import residuals
+from mapper.model.semivariogram import bin_count, bins_of
+from mapper.model.variogram import variogram_of
+from mapper.records import Well
 
 
 def wells(*rows, **more):
@@ -81,6 +81,8 @@ class Taken(unittest.TestCase):
         found, _, said = self.taken(wells(*((10 * i, i * i, 7.5) for i in range(9))))
         self.assertEqual((found.nugget, found.sill), (0, 1))
         self.assertIn('leave nothing to fit', said)
+        self.assertEqual(found.how, 'plain')
+        self.assertNotIn('were fitted', said)
 
     def test_trend_through_all(self):
         found, _, said = self.taken(wells(*((10 * i, i * i, 200 + i) for i in range(9))), trend='linear')
@@ -89,12 +91,22 @@ class Taken(unittest.TestCase):
 
     def test_two_wells(self):
         found, bins, said = self.taken(wells((0, 0, 2), (2, 0, 6)))
-        self.assertEqual((found.nugget, found.sill, found.range, len(bins)), (0, 8, 1, 1))
-        self.assertIn('too few bins', said)
+        self.assertEqual((found.nugget, found.sill, found.range, len(bins), found.how), (0, 8, 1, 1, 'plain'))
+        self.assertIn("too few bins to fit a model to, so a plain one was taken: the bins' average as the sill, half the greatest distance as the range.", said)
+        self.assertIn('The semivariogram has 1 bin of 2 wells.', said)
 
     def test_wells_at_one_spot(self):
-        found, _, _ = self.taken(wells((5, 5, 2), (5, 5, 6)))
+        found, _, said = self.taken(wells((5, 5, 2), (5, 5, 6)))
         self.assertEqual((found.sill, found.range), (8, 1))
+        self.assertIn('a range of one metre, since all wells share a spot.', said)
+
+    def test_plain_model_with_numbers_given(self):
+        """What is given is not said to come from the bins."""
+        for given, words in (({'sill': 5.0}, 'half the greatest distance as the range'), ({'range': 7.0}, "the bins' average as the sill"),
+                             ({'sill': 5.0, 'range': 7.0}, 'no nugget'), ({'nugget': 9.0, 'range': 7.0}, 'twice the nugget as the sill')):
+            found, _, said = self.taken(wells((0, 0, 2), (2, 0, 6)), **given)
+            self.assertIn(f'so a plain one was taken: {words}. Taken: ', said)
+            self.assertEqual((found.how, found.given), ('plain', list(given)))
 
     def test_some_numbers_given(self):
         row = wells(*((37 * i % 100, 53 * i % 100, i % 5) for i in range(20)))
@@ -102,8 +114,9 @@ class Taken(unittest.TestCase):
         self.assertEqual(found.nugget, 0.5)
         self.assertIn('--nugget 0.5', said)
         self.assertIn('(nugget as given)', said)
+        self.assertEqual((found.how, found.given), ('fitted', ['nugget']))
         found, _, said = self.taken(row, sill=3.0, range=40.0, model='linear')
-        self.assertEqual((found.sill, found.range, found.fitted), (3, 40, True))
+        self.assertEqual((found.sill, found.range, found.how, found.given), (3, 40, 'fitted', ['sill', 'range']))
         self.assertIn('(sill and range as given)', said)
 
     def test_sill_of_the_linear_model_may_be_below_the_nugget(self):
@@ -139,9 +152,9 @@ class Taken(unittest.TestCase):
 
     def test_all_given(self):
         found, bins, said = self.taken(wells((0, 0, 2), (2, 0, 6)), nugget=0.0, sill=1.0, range=5.0)
-        self.assertEqual((found.fitted, len(bins), said), (False, 1, ''))
+        self.assertEqual((found.how, found.fitted, len(bins), said), ('given', False, 1, ''))
 
     def test_all_given_and_no_call_built(self):
-        with mock.patch('mapper.variogram.library_there', return_value=False):
+        with mock.patch('mapper.model.variogram.library_there', return_value=False):
             found, bins, said = self.taken(wells((0, 0, 2), (2, 0, 6)), nugget=0.0, sill=1.0, range=5.0)
-        self.assertEqual((found.fitted, bins, said), (False, [], ''))
+        self.assertEqual((found.how, bins, said), ('given', [], ''))

@@ -1,16 +1,17 @@
 """The verdicts' words, which stand here once; and that page, hovering and table say these and no others."""
+import csv
 import json
 import re
 import unittest
 from html import unescape
 
-from mapper.files import table
-from mapper.page import page
-from mapper.survey_file import columns
-from mapper.tables import sentence
+from mapper.output_files import table
+from mapper.page.page import page
+from mapper.page.tables import sentence
+from mapper.runs.survey_file import columns
+from mapper.runs.verdicts import verdict_advice, verdict_words
 from mapper.tests import samples
 from mapper.tests.support import section
-from mapper.verdicts import verdict_advice, verdict_words
 
 ROWS = columns('quadratic', 'ground')
 FAILED = (*range(1, 9), 9, 255)
@@ -66,11 +67,11 @@ class Shown(unittest.TestCase):
         return verdict_words(verdict, self.map.columns)
 
     def test_table(self):
-        lines = [line.decode().rstrip('\n').split(',', 6) for line in table(self.map)][1:]
-        for verdict, line in zip((0, *FAILED), lines):
-            said = self.words(verdict) + ('; do not use the figure' if verdict else '')
-            self.assertEqual(line[5:], [str(verdict), '"%s"' % said.replace('"', '""') if verdict else said])
-            self.assertEqual([bool(figure) for figure in line[3:5]], [not verdict] * 2)
+        lines = list(csv.reader(line.decode() for line in table(self.map)))
+        for verdict, line in zip((0, *FAILED), lines[-11:]):
+            said = self.words(verdict) + '; do not use the figure' if verdict else 'the arithmetic held'
+            self.assertEqual(line[5:7], [str(verdict), said])
+            self.assertEqual([bool(line[i]) for i in (3, 4, 7)], [not verdict] * 3)
 
     def test_page(self):
         seen = unescape(page(self.map))

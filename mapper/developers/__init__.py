@@ -1,0 +1,1 @@
+"""What only developers run: pictures of a page, and the sample lists."""

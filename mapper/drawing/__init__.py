@@ -1,0 +1,1 @@
+"""The map as SVG, and the charts."""

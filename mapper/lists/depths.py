@@ -1,0 +1,39 @@
+"""Levels that are worked out from depths below the ground, and levels that look like such depths."""
+from dataclasses import replace
+
+from mapper.records import Doubt
+
+DEEP = 50.0    # metres below the ground at every well, and
+SHALLOW = 0.25  # levels that are less than this part of it: they look like depths
+NAMED = 5
+
+
+def worked_out(wells, depth, ground):
+    """The wells with level = ground - depth, and doubts about signs. `depth` and `ground` are headers; until then a well's level is its depth."""
+    turned = all(well.level <= 0 for well in wells) and any(well.level < 0 for well in wells)
+    found = [replace(well, level=round(well.more[ground] - (abs(well.level) if turned else well.level), 9)) for well in wells]
+    return found, signs(wells, depth, turned)
+
+
+def signs(wells, depth, turned):
+    """What is doubtful about depths below zero."""
+    if turned:
+        return [Doubt(f'All numbers of {depth} are below zero. They are taken as metres below the ground with a minus sign; '
+                      'if the water stands above the ground everywhere, enter levels.')]
+    above = [f'{well.name} (line {well.line})' for well in wells if well.level < 0]
+    if not above:
+        return []
+    more = f' and {len(above) - NAMED} more' if len(above) > NAMED else ''
+    return [Doubt(f'{depth} is below zero at {", ".join(above[:NAMED])}{more}, and not elsewhere: the water would stand above the ground there. '
+                  'Correct the sign, unless these wells flow.')]
+
+
+def depth_like_levels(wells, level, ground):
+    """A doubt where every level is a small number far below the ground's height, as depths are."""
+    known = [(well.level, well.more[ground] - well.level) for well in wells if ground in well.more]
+    if not known or not all(below > DEEP and abs(number) < SHALLOW * below for number, below in known):
+        return []
+    least, most = min(below for _, below in known), max(below for _, below in known)
+    span = f'{least:.0f}' if f'{least:.0f}' == f'{most:.0f}' else f'{least:.0f} to {most:.0f}'
+    return [Doubt(f'The numbers of {level} lie {span} m below those of {ground} at every well, and look like depths below the ground. '
+                  f'If they are, name the column by --depth: level = ground - depth is worked out then.')]

@@ -1,0 +1,120 @@
+"""From the options to the map."""
+from array import array
+from pathlib import Path
+
+from mapper.doubts.degrees import degree_doubts
+from mapper.doubts.judgements import in_order, stop_where_grave
+from mapper.doubts.leave_one_out import Others
+from mapper.doubts.levels import slope_doubts
+from mapper.doubts.places import place_doubts
+from mapper.doubts.settings import setting_doubts
+from mapper.doubts.spots import spot_doubts
+from mapper.doubts.standing_out import standing_out_doubts
+from mapper.errors import Refused, Stop
+from mapper.lists.grid import default_grid, grid_nodes, grid_of
+from mapper.lists.nodes import read_nodes, unanswered
+from mapper.lists.wells import ListOptions, read_wells
+from mapper.model.fitting import Given
+from mapper.model.variogram import variogram_of
+from mapper.nearest_wells import near_note, nearest_wells
+from mapper.options import ROLES
+from mapper.progress import Bar
+from mapper.records import Map
+from mapper.runs.building import program
+from mapper.runs.refusals import refusal
+from mapper.runs.running import run
+from mapper.runs.sheets import Sheets
+from mapper.runs.survey import Survey
+from mapper.runs.survey_file import DRIFT, WELLS, columns
+from mapper.source import source_of
+
+
+class Made:
+    """A map on its way: the survey, its nodes, the doubts, and the sentences said on the way."""
+
+    def __init__(self, options, tell):
+        self.options, self.tell, self.notes, self.turned_away = options, tell, [], []
+        self.left_out, self.source = [], None
+        self.read(options)
+        self.judge(options)
+        self.grid, self.nodes, self.outside = self.places(options)
+        given = Given(options.nugget, options.sill, options.range)
+        variogram, self.bins, said = self.refusable(variogram_of, self.wells, options.trend, self.external, options.model, given, tell, options.progress)
+        if said:
+            self.say(said)
+        self.survey = Survey(self.wells, options.trend, self.external, variogram, options.regularization, options.tolerance)
+        self.doubts += spot_doubts(self.survey) + setting_doubts(self.survey)
+
+    def read(self, options):
+        """Reads the list, and ends the run where what is in it cannot be a water table."""
+        named = {role: getattr(options, role) for role in ROLES if getattr(options, role) is not None}
+        found = read_wells(options.wells, ListOptions(options.external, named, options.skip_unreadable, options.readings))
+        self.wells, self.external, self.ground = found.wells, found.external, found.ground
+        for note in found.notes:
+            self.say(note)
+        if options.near is not None:
+            self.wells, left = nearest_wells(self.wells, options.near)
+            self.say(near_note(self.wells, left, options.near))
+        # Of a list that is too long only what ends the run is of use: it is refused below.
+        few = len(self.wells) <= WELLS
+        self.doubts = found.doubts + (place_doubts(self.wells) + slope_doubts(self.wells) if few else degree_doubts(self.wells))
+        if not options.anyway:
+            stop_where_grave(self.doubts)
+
+    def say(self, sentence):
+        """Tells a sentence, and keeps it for the page."""
+        self.tell(sentence)
+        self.notes.append(sentence)
+
+    def refused(self, number):
+        asked = self.options.at[0][:2] if self.options.at else None
+        return Stop(refusal(number, self.wells, self.options.trend, self.external, asked))
+
+    def refusable(self, call, *arguments):
+        """A call's answer; a refusal becomes its words."""
+        try:
+            return call(*arguments)
+        except Refused as refused:
+            raise self.refused(refused.number)
+
+    def judge(self, options):
+        """Turns away at once what the program would turn away after the bins are made and fitted."""
+        rows = len(columns(options.trend, self.external))
+        if len(self.wells) < rows:
+            raise self.refused(7)
+        if len(self.wells) > WELLS or rows > DRIFT:
+            raise self.refused(9)
+
+    def places(self, options):
+        """The grid or None, the nodes, and their external numbers."""
+        if options.at:
+            asked = unanswered(*(array('d', (place[i] for place in options.at)) for i in (0, 1)))
+            return None, asked, array('d', (place[2] for place in options.at) if self.external is not None else ())
+        if options.nodes is not None:
+            return (None, *read_nodes(options.nodes, self.external))
+        if self.external is not None:
+            raise Stop(f'{self.external} is known at the wells and not at the nodes of a grid. Name a list of nodes that has the column: --nodes nodes.csv.')
+        grid = grid_of(self.wells, *options.grid) if options.grid else default_grid(self.wells)
+        return grid, grid_nodes(grid), array('d')
+
+    def sheets(self, origin, nodes=None, outside=None):
+        return Sheets(self.survey, self.nodes if nodes is None else nodes, self.outside if outside is None else outside, origin)
+
+    def through(self, sheets, what, keep=None):
+        """All of some sheets, with a bar. Raises Refused."""
+        path = program(self.tell, self.options.progress)
+        with Bar(what, len(sheets.nodes), self.options.progress) as bar:
+            return run(path, sheets, self.options.jobs, bar.step, keep)
+
+    def leave_out(self, origin):
+        """Holds each well to the others, by the program that is run and from the origin that is drawn."""
+        path = program(self.tell)
+        self.source, others = source_of(self.options.wells, path), Others(path, self.survey, origin, self.options.jobs)
+        self.left_out = others.left_out(self.wells)
+        self.doubts = in_order(standing_out_doubts(self.wells, self.left_out, others) + self.doubts)
+
+    def map(self, nodes, runs, drawn):
+        survey = self.survey
+        return Map(Path(self.options.wells).stem, self.wells, nodes, self.grid, survey.variogram, self.bins, survey.trend, self.external,
+                   survey.regularization, survey.tolerance, columns(survey.trend, self.external), runs, drawn, self.notes, self.turned_away,
+                   self.doubts, self.left_out, self.source)
