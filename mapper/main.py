@@ -2,7 +2,7 @@
 import sys
 from pathlib import Path
 
-from mapper.doubts.far_nodes import far_node_doubts
+from mapper.doubts.far_places import far_node_doubts
 from mapper.doubts.judgements import both_words, doubt_lines
 from mapper.doubts.levels import node_doubts
 from mapper.errors import Stop

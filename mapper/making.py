@@ -3,6 +3,7 @@ from array import array
 from pathlib import Path
 
 from mapper.doubts.degrees import degree_doubts
+from mapper.doubts.far_places import far_near_doubts
 from mapper.doubts.judgements import in_order, stop_where_grave
 from mapper.doubts.leave_one_out import Others
 from mapper.doubts.levels import slope_doubts
@@ -52,12 +53,14 @@ class Made:
         self.wells, self.external, self.ground = found.wells, found.external, found.ground
         for note in found.notes:
             self.say(note)
+        self.doubts = list(found.doubts)
         if options.near is not None:
+            self.doubts += far_near_doubts(self.wells, options.near)
             self.wells, left = nearest_wells(self.wells, options.near)
             self.say(near_note(self.wells, left, options.near))
         # Of a list that is too long only what ends the run is of use: it is refused below.
         few = len(self.wells) <= WELLS
-        self.doubts = found.doubts + (place_doubts(self.wells) + slope_doubts(self.wells) if few else degree_doubts(self.wells))
+        self.doubts += place_doubts(self.wells) + slope_doubts(self.wells) if few else degree_doubts(self.wells)
         if not options.anyway:
             stop_where_grave(self.doubts)
 
@@ -108,7 +111,7 @@ class Made:
 
     def leave_out(self, origin):
         """Holds each well to the others, by the program that is run and from the origin that is drawn."""
-        path = program(self.tell)
+        path = program(self.tell, self.options.progress)
         self.source, others = source_of(self.options.wells, path), Others(path, self.survey, origin, self.options.jobs)
         self.left_out = others.left_out(self.wells)
         self.doubts = in_order(standing_out_doubts(self.wells, self.left_out, others) + self.doubts)

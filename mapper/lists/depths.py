@@ -1,10 +1,11 @@
-"""Levels that are worked out from depths below the ground, and levels that look like such depths."""
+"""Levels and the ground: worked out from depths below it, looking like such depths, or above it."""
 from dataclasses import replace
 
 from mapper.records import Doubt
 
 DEEP = 50.0    # metres below the ground at every well, and
 SHALLOW = 0.25  # levels that are less than this part of it: they look like depths
+ABOVE = 0.5    # metres of water above the ground: less may be how either was measured
 NAMED = 5
 
 
@@ -20,12 +21,17 @@ def signs(wells, depth, turned):
     if turned:
         return [Doubt(f'All numbers of {depth} are below zero. They are taken as metres below the ground with a minus sign; '
                       'if the water stands above the ground everywhere, enter levels.')]
-    above = [f'{well.name} (line {well.line})' for well in wells if well.level < 0]
+    above = [well for well in wells if well.level < 0]
     if not above:
         return []
-    more = f' and {len(above) - NAMED} more' if len(above) > NAMED else ''
-    return [Doubt(f'{depth} is below zero at {", ".join(above[:NAMED])}{more}, and not elsewhere: the water would stand above the ground there. '
+    return [Doubt(f'{depth} is below zero at {named(above)}, and not elsewhere: the water would stand above the ground there. '
                   'Correct the sign, unless these wells flow.')]
+
+
+def named(wells):
+    """Some wells by name and line."""
+    more = f' and {len(wells) - NAMED} more' if len(wells) > NAMED else ''
+    return ', '.join(f'{well.name} (line {well.line})' for well in wells[:NAMED]) + more
 
 
 def depth_like_levels(wells, level, ground):
@@ -37,3 +43,14 @@ def depth_like_levels(wells, level, ground):
     span = f'{least:.0f}' if f'{least:.0f}' == f'{most:.0f}' else f'{least:.0f} to {most:.0f}'
     return [Doubt(f'The numbers of {level} lie {span} m below those of {ground} at every well, and look like depths below the ground. '
                   f'If they are, name the column by --depth: level = ground - depth is worked out then.')]
+
+
+def levels_above(wells, level, ground):
+    """A doubt where the water stands above the ground."""
+    above = [well for well in wells if ground in well.more and well.level - well.more[ground] > ABOVE]
+    if not above:
+        return []
+    most = max(well.level - well.more[ground] for well in above)
+    where = 'every well' if len(above) == len(wells) > 1 else named(above)
+    return [Doubt(f'{level} is above {ground} at {where}, by {most:.2f} m at most: the water would stand above the ground there. '
+                  'Look at both columns, and whether they are counted from one height; unless these wells flow.')]

@@ -4,7 +4,7 @@ from typing import Dict, List as Many, Optional
 
 from mapper.errors import Stop
 from mapper.lists.columns import List
-from mapper.lists.depths import depth_like_levels, worked_out
+from mapper.lists.depths import depth_like_levels, levels_above, worked_out
 from mapper.lists.level_column import level_column
 from mapper.lists.readings import Readings
 from mapper.lists.rival_columns import rival_doubts, rival_places
@@ -119,7 +119,7 @@ class Reader:
             wells, doubts = worked_out(wells, level, ground)
             self.notes.append(f'Levels are worked out from depths: level = {ground} - {level}.')
         else:
-            doubts = [] if any(doubt.grave for doubt in self.level.doubts) else depth_like_levels(wells, level, ground)
+            doubts = [] if any(doubt.grave for doubt in self.level.doubts) else depth_like_levels(wells, level, ground) + levels_above(wells, level, ground)
         self.doubts += doubts
         return wells
 

@@ -5,7 +5,7 @@ from pathlib import Path
 
 from mapper.progress import Line, some_time
 
-# A crate a line, with the seconds that it takes alone on one core. Made anew, in a clone with no target/, by
+# A crate a line, with the seconds of one core that it takes, about. Made anew, in a clone with no target/, by
 #     RT_JOBS=1 rt check nakwemol wellmap | sed -n 's/^rt: \(.*\) proved (\([0-9]*\) s)$/\1 \2/p' > mapper/runs/crate_seconds.txt
 SECONDS = Path(__file__).with_name('crate_seconds.txt')
 UNKNOWN = 10.0  # seconds of a crate that is not in the table

@@ -91,3 +91,17 @@ class Signs(ListFolder):
         self.assertEqual(len(self.numbers('name,x,y,level,ground\nA,1,2,3.4,8.6\nB,3,4,5.1,9\n')), 2)
         self.assertEqual(len(self.numbers('name,x,y,level,ground\nA,1,2,140,205\nB,3,4,141,206\n')), 2)
         self.assertEqual(len(self.numbers('name,x,y,level,ground\nA,1,2,3.4,208.6\nB,3,4,205,209\n')), 2)
+
+
+class AboveTheGround(ListFolder):
+    def test_every_well(self):
+        text = 'name,x,y,level,ground\nA,100,200,31.5,30\nB,300,250,32.25,30\n'
+        self.doubt(text, 'level is above ground at every well, by 2.25 m at most', 'counted from one height')
+
+    def test_some_wells(self):
+        text = 'name,x,y,level,ground\nA,100,200,29,30\nB,300,250,30.51,30\nC,200,250,30.5,30\nD,210,200,40,\n'
+        self.doubt(text, 'level is above ground at B (line 3), by 0.51 m at most')
+
+    def test_none(self):
+        found = self.list('name,x,y,level,ground\nA,100,200,30.5,30\nB,300,250,29,30\n')
+        self.assertEqual(found.doubts, [])

@@ -9,7 +9,9 @@ from mapper import progress as bar
 from mapper.options import parser
 from mapper.runs.building import program
 from mapper.tests.support import ENDING, FOUR, NUMBERS, ROOT, Folder, guide, nakwemol
-from tools.reading.wellmap import printed
+
+if sys.version_info >= (3, 10):  # which tools/reading asks for
+    from tools.reading.wellmap import printed
 
 SIX = FOUR + 'E,40,130,12.2\nF,130,60,11.1\n'
 GROUND = 'name,x,y,level,Ground\nA,0,0,10,20\nB,100,0,11,22\nC,0,100,12.5,21\nD,90,80,12,25\n'

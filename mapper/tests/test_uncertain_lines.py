@@ -15,14 +15,14 @@ class Limit(unittest.TestCase):
     def test_half_the_root_of_the_top(self):
         """Tops of 4 and, for the linear model, of 1 + 8."""
         for model, top, most in (('spherical', 4.0, 1.0), ('exponential', 4.0, 1.0), ('gaussian', 4.0, 1.0)):
-            variogram = Variogram(model, 1.0, 4.0, 500.0, False)
+            variogram = Variogram(model, 1.0, 4.0, 500.0)
             self.assertEqual((variogram.top, uncertain_above(variogram)), (top, most))
-        linear = Variogram('linear', 1.0, 8.0, 500.0, False)
+        linear = Variogram('linear', 1.0, 8.0, 500.0)
         self.assertEqual((linear.top, uncertain_above(linear)), (9.0, 1.5))
 
     def test_a_model_without_a_top_has_no_limit(self):
         for sill in (0.0, -1.0, math.inf, math.nan):
-            self.assertEqual(uncertain_above(Variogram('spherical', 0.0, sill, 1.0, False)), math.inf)
+            self.assertEqual(uncertain_above(Variogram('spherical', 0.0, sill, 1.0)), math.inf)
 
 
 class Between(unittest.TestCase):
@@ -64,7 +64,7 @@ class OnThePage(unittest.TestCase):
     def lines(self, variance, make=lambda: samples.grid_map(6, 5, wells=6), top=4.0):
         """The page of a map whose nodes have this variance, with a model that rises to the top."""
         m = make()
-        m.variogram = Variogram('spherical', 0.0, top, 800.0, False)
+        m.variogram = Variogram('spherical', 0.0, top, 800.0)
         m.nodes.variance = array('d', (variance(x) for x in m.nodes.x))
         text = page(m)
         paths = re.search(r'<g id="ground-lines" class="lines">(.*?)</g>', text).group(1)

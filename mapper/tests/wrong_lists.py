@@ -116,6 +116,7 @@ HEADERS = {
     'Flurabstand': Case(listed(header='Brunnen,Rechtswert,Hochwert,Flurabstand [m]'), REFUSED, ('Flurabstand', 'level = ground')),
     'depth with the ground': Case(turned(lambda n, x, y, z: (n, f'{x}', f'{y}', f'{200 - z:.2f}', '200'), HEADER.replace('level', 'depth,ground')),
                                   GOOD, ('ground', 'depth')),
+    'water above the ground': Case(turned(lambda n, x, y, z: (n, f'{x}', f'{y}', f'{z}', f'{z - 5:.2f}'), HEADER + ',ground'), DOUBTED, ('above ground',)),
     'psi': Case(listed(header='name,x,y,level [psi]'), REFUSED, ('psi', 'metres')),
     'degrees in brackets': Case(listed(header='name,x (deg),y (deg),level'), REFUSED, ('deg',)),
     'feet': Case(turned(lambda n, x, y, z: (n, f'{x}', f'{y}', f'{z / 0.3048:.4f}'), 'name,x [m],y [m],level [ft]'), GOOD, ('0.3048',)),

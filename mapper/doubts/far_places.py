@@ -1,4 +1,4 @@
-"""What is doubtful about where asked-for nodes stand: so far from all wells that a figure in their place is likely wrong."""
+"""What is doubtful about places that are asked for: so far from all wells that a figure in them is likely wrong."""
 import math
 
 from mapper.doubts.places import reach
@@ -23,6 +23,15 @@ def far_node_doubts(m):
     worst = max(range(len(away)), key=away.__getitem__)
     others = '' if count == 1 else f', and {counted(count - 1, "other node")} more than {length(limit)}'
     return [Doubt(f'{called(m.nodes, worst)} stands {length(away[worst])} from the wells{others}, which reach {length(reach(m.wells))}. '
+                  'Look for a wrong figure in its x or y, or for x and y exchanged.')]
+
+
+def far_near_doubts(wells, asked):
+    """The doubt about a place that the nearest wells were asked for, far outside all of them."""
+    away = beside(*asked, *bounds(wells))
+    if not away > FAR * reach(wells) > 0:
+        return []
+    return [Doubt(f'The place {place(*asked)} of --near stands {length(away)} from the wells, which reach {length(reach(wells))}. '
                   'Look for a wrong figure in its x or y, or for x and y exchanged.')]
 
 

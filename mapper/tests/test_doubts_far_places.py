@@ -1,4 +1,4 @@
-"""Nodes of a list that have nothing to do with the wells."""
+"""Places that are asked for and have nothing to do with the wells."""
 from mapper.tests.support import FOUR, NUMBERS, Folder
 
 
@@ -30,3 +30,8 @@ class FarNodes(Folder):
     def test_a_grid_has_none(self):
         said = self.made(self.file(FOUR), *NUMBERS, '--grid', '3x3')
         self.assertNotIn('Doubtful', said)
+
+    def test_the_nearest_to_a_far_place(self):
+        said = self.made(self.file(FOUR), *NUMBERS, '--grid', '3x3', '--near', '9,600')
+        self.assertIn('Doubtful: The place (9, 600) of --near stands 500 m from the wells, which reach 141 m.', said)
+        self.assertNotIn('Doubtful', self.made(self.file(FOUR), *NUMBERS, '--grid', '3x3', '--near', '9,500'))
