@@ -15,7 +15,9 @@ RUN = '''import signal, sys
 from pathlib import Path
 from mapper.main import main
 from mapper.runs import building
-signal.signal(signal.SIGINT, signal.default_int_handler)  # whoever runs the tests in the background has it ignored
+signal.signal(signal.SIGINT, signal.default_int_handler)  # whoever runs the tests in the background, or by nohup, has them ignored
+signal.signal(signal.SIGHUP, signal.SIG_DFL)
+signal.signal(signal.SIGTERM, signal.SIG_DFL)
 building.ROOT = Path(sys.argv[1])
 sys.exit(main(sys.argv[2:]))'''
 
