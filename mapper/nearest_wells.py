@@ -1,7 +1,8 @@
 """The wells nearest to a place, where a list has more than the program takes."""
 import math
 
-from mapper.doubts.well_words import length, several
+from mapper.doubts.well_words import length
+from mapper.naming import several
 from mapper.numbers import counted, shown
 from mapper.runs.survey_file import WELLS
 

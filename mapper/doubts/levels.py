@@ -2,7 +2,8 @@
 import math
 
 from mapper.doubts.places import NARROW, sides
-from mapper.doubts.well_words import called, length, level, percent, place
+from mapper.doubts.well_words import length, level, percent, place
+from mapper.naming import called
 from mapper.numbers import significant
 from mapper.records import Doubt
 

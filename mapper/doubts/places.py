@@ -4,7 +4,8 @@ from dataclasses import replace
 from statistics import median
 
 from mapper.doubts.degrees import degree_doubts
-from mapper.doubts.well_words import called, length, several
+from mapper.doubts.well_words import length
+from mapper.naming import called, several
 from mapper.records import Doubt
 
 # Times as far from the middle as half of the wells are; and times as far from the nearest other as all the others reach. A well for comparison that is

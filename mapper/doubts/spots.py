@@ -7,7 +7,8 @@ with 1e-6 and all with 1e-5. None of these is more than a thousandth of the sill
 """
 import math
 
-from mapper.doubts.well_words import called, level, several
+from mapper.doubts.well_words import level
+from mapper.naming import called, several
 from mapper.records import Doubt
 
 ENOUGH = {'constant': 1e-6, 'linear': 1e-5, 'quadratic': 1e-4}  # of the model's top

@@ -8,7 +8,8 @@ docs/DECISIONS.md, "The map", has how often that is right.
 import math
 
 from mapper.doubts.spots import spots_of
-from mapper.doubts.well_words import called, level, listed
+from mapper.doubts.well_words import level, listed
+from mapper.naming import called
 from mapper.records import Doubt
 
 SUSPECTS = 3          # wells that are taken out at most: two wrong ones may hide each other

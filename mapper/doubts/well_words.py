@@ -1,23 +1,9 @@
-"""Wells, lengths and levels as a doubt tells them."""
+"""Lengths, levels and places as a doubt tells them."""
 from mapper.drawing.scales import MINUS
 from mapper.numbers import shown, significant
 
-NAMED = 4       # wells that are named; of more the others are counted
 FIGURES = 10    # of a coordinate: seven before the point, three after it
 CENTIMETRE = 2  # figures after the point: nobody measures a water table closer
-
-
-def called(well):
-    """A well by its name and the line that it stands in: 'BH-99 (line 32)'."""
-    return f'{well.name} (line {well.line})' if well.line else well.name
-
-
-def several(words, most=NAMED):
-    """'A and B', 'A, B and C', and 'A, B, C, D and 7 more' where there are more than are named."""
-    words = list(words)
-    if len(words) > most:
-        return f'{", ".join(words[:most])} and {len(words) - most:,} more'
-    return ' and '.join(filter(None, (', '.join(words[:-1]), words[-1])))
 
 
 def length(metres):

@@ -1,12 +1,12 @@
 """Levels and the ground: worked out from depths below it, looking like such depths, or above it."""
 from dataclasses import replace
 
+from mapper.naming import called, several
 from mapper.records import Doubt
 
 DEEP = 50.0    # metres below the ground at every well, and
 SHALLOW = 0.25  # levels that are less than this part of it: they look like depths
 ABOVE = 0.5    # metres of water above the ground: less may be how either was measured
-NAMED = 5
 
 
 def worked_out(wells, depth, ground):
@@ -24,14 +24,8 @@ def signs(wells, depth, turned):
     above = [well for well in wells if well.level < 0]
     if not above:
         return []
-    return [Doubt(f'{depth} is below zero at {named(above)}, and not elsewhere: the water would stand above the ground there. '
+    return [Doubt(f'{depth} is below zero at {several(map(called, above))}, and not elsewhere: the water would stand above the ground there. '
                   'Correct the sign, unless these wells flow.')]
-
-
-def named(wells):
-    """Some wells by name and line."""
-    more = f' and {len(wells) - NAMED} more' if len(wells) > NAMED else ''
-    return ', '.join(f'{well.name} (line {well.line})' for well in wells[:NAMED]) + more
 
 
 def depth_like_levels(wells, level, ground):
@@ -51,6 +45,6 @@ def levels_above(wells, level, ground):
     if not above:
         return []
     most = max(well.level - well.more[ground] for well in above)
-    where = 'every well' if len(above) == len(wells) > 1 else named(above)
+    where = 'every well' if len(above) == len(wells) > 1 else several(map(called, above))
     return [Doubt(f'{level} is above {ground} at {where}, by {most:.2f} m at most: the water would stand above the ground there. '
                   'Look at both columns, and whether they are counted from one height; unless these wells flow.')]

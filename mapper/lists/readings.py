@@ -3,10 +3,10 @@ from dataclasses import replace
 
 from mapper.errors import Stop
 from mapper.lists.dates import has_slashes, moment, orders
+from mapper.naming import several
 from mapper.numbers import counted
 
 CHOICES = '--readings first, last or average'
-SHOWN = 5  # names of wells that were read several times
 
 
 def groups(wells):
@@ -105,9 +105,8 @@ class Readings:
         return f'{self.named()} in the list with {counted(count, "reading")}; {which}{" of each" if len(self.groups) > 1 else ""} is taken{when}.'
 
     def named(self):
-        """'BH-01 stands', '7 wells (A, B, C, D, E and 2 more) stand'."""
+        """'BH-01 stands', '7 wells (A, B, C, D and 3 more) stand'."""
         names = [self.wells[group[0]].name for group in self.groups]
         if len(names) == 1:
             return f'{names[0]} stands'
-        more = f' and {len(names) - SHOWN} more' if len(names) > SHOWN else ''
-        return f'{counted(len(names), "well")} ({", ".join(names[:SHOWN])}{more}) stand'
+        return f'{counted(len(names), "well")} ({several(names)}) stand'

@@ -1,6 +1,7 @@
 """Numbers that stand for none, such as -9999, which many programs write: which of them cannot be true."""
 import re
 
+from mapper.naming import called, several
 from mapper.numbers import shown
 from mapper.records import Doubt
 
@@ -8,7 +9,6 @@ NINES = re.compile(r'(-?9{3,}|-99)(\.9+)?')  # 999, -9999, -999.9, -99
 OTHERS = {-32768.0, 32767.0, -2147483648.0, 2147483647.0, -999.25}
 HIGHEST = 9000.0  # metres: above the top of any ground
 LOWEST = -500.0   # metres: below any water table
-NAMED = 5         # wells that are named
 
 
 def like_none(number):
@@ -40,8 +40,7 @@ def sentinel_doubts(header, found):
     """One grave doubt for each number that stands for none. `found` are pairs: a well, and the number."""
     doubts = []
     for number in dict.fromkeys(number for _, number in found):
-        wells = [f'{well.name} (line {well.line})' for well, each in found if each == number]
-        more = f' and {len(wells) - NAMED} more' if len(wells) > NAMED else ''
-        doubts.append(Doubt(f'{", ".join(wells[:NAMED])}{more}: {header} is {shown(number)}, which stands for a missing value and cannot be true. '
+        wells = several(called(well) for well, each in found if each == number)
+        doubts.append(Doubt(f'{wells}: {header} is {shown(number)}, which stands for a missing value and cannot be true. '
                             'Fill it in or take the line out; --skip-unreadable leaves such lines out and lists them.', True))
     return doubts

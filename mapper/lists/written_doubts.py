@@ -2,6 +2,7 @@
 from mapper.lists.number_marks import written
 from mapper.lists.sentinels import HIGHEST
 from mapper.lists.unit_words import listed
+from mapper.naming import called
 from mapper.numbers import counted
 from mapper.records import Doubt
 
@@ -44,7 +45,7 @@ def rounded_places(table, rows):
     row, role, by = found[0]
     place = table.at[role]
     more = f', and {counted(len(found) - 1, "other place")} too' if len(found) > 1 else ''
-    return [Doubt(f'{table.header[place]} of {row.well.name} (line {row.well.line}) is written {row.fields[place]}, rounded to {by:,.0f} m{more}. '
+    return [Doubt(f'{table.header[place]} of {called(row.well)} is written {row.fields[place]}, rounded to {by:,.0f} m{more}. '
                   'Show the column with all its figures in the spreadsheet, and save the list again.')]
 
 

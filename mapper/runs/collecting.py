@@ -4,6 +4,7 @@ import os
 from pathlib import Path
 
 from mapper.errors import Refused, Stop
+from mapper.naming import several
 from mapper.numbers import counted
 from mapper.progress import Bar
 from mapper.runs.building import program
@@ -14,7 +15,6 @@ from mapper.runs.reruns import held_to_the_program
 from mapper.runs.running import fill, tally
 from mapper.runs.sheet_folder import name
 
-SHOWN = 5  # missing listings that are named
 
 
 def collected(folder, progress=False, jobs=os.cpu_count() or 1, tell=print):
@@ -37,8 +37,7 @@ def there(folder, sheets):
     """Ends the run where listings are missing, and names them."""
     missing = [name(sheet, 'listing') for sheet in range(sheets) if not (folder / name(sheet, 'listing')).is_file()]
     if missing:
-        more = f' and {len(missing) - SHOWN:,} more' if len(missing) > SHOWN else ''
-        raise Stop(f'{counted(len(missing), "listing")} missing in {folder}: {", ".join(missing[:SHOWN])}{more}. Run their sheets, then collect again.')
+        raise Stop(f'{counted(len(missing), "listing")} missing in {folder}: {several(missing)}. Run their sheets, then collect again.')
 
 
 def take(path, sheets, sheet, sums):

@@ -1,6 +1,6 @@
 """Words for every refusal, for the driller: what is wrong, and what to do. Numbers are those of docs/REFERENCE.md, section 8."""
 from mapper.doubts.spots import spots_of
-from mapper.doubts.well_words import called, several
+from mapper.naming import called, several
 from mapper.nearest_wells import near_advice
 from mapper.numbers import counted
 from mapper.runs.survey_file import DRIFT, NODES, WELLS, columns

@@ -8,6 +8,7 @@ from collections import defaultdict
 from concurrent.futures import ThreadPoolExecutor
 
 from mapper.errors import Stop
+from mapper.naming import several
 from mapper.numbers import counted
 from mapper.progress import Bar
 from mapper.runs.running import answer
@@ -15,7 +16,7 @@ from mapper.runs.sheet_folder import name
 
 LEAST = 3     # sheets that are run again, where there are as many
 ONE_IN = 50
-SHOWN = 5     # listings that are named
+SHOWN = 5     # sets of listings that are named
 
 
 def spread(sheets):
@@ -87,9 +88,7 @@ def copies(wrong, sums):
 
 def listings(sheets):
     """Some listings by name."""
-    names = [name(sheet, 'listing') for sheet in sheets[:SHOWN]]
-    more = len(sheets) - len(names)
-    return f'{", ".join(names)} and {more:,} more' if more else ' and '.join(filter(None, (', '.join(names[:-1]), names[-1])))
+    return several(name(sheet, 'listing') for sheet in sheets)
 
 
 def survey_changed(path, survey):

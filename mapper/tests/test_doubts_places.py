@@ -3,8 +3,9 @@ import random
 import unittest
 
 from mapper.doubts.places import far_wells, is_far, place_doubts, sides
-from mapper.doubts.well_words import called, length, several
+from mapper.doubts.well_words import length
 from mapper.lists.wells import read_wells
+from mapper.naming import called, several
 from mapper.records import Well
 from mapper.tests.support import FOUR, NUMBERS, SAMPLES, Folder
 

@@ -79,7 +79,7 @@ class Signs(ListFolder):
         found = self.doubt('name,x,y,depth,ground\nA,1,2,-3,208\nB,3,4,2,207\n', 'depth is below zero at A (line 2)', 'above the ground')
         self.assertEqual([well.level for well in found.wells], [211, 205])
         lines = ''.join(f'W{i},{i},{i},-1,208\n' for i in range(1, 8))
-        said = 'at W1 (line 3), W2 (line 4), W3 (line 5), W4 (line 6), W5 (line 7) and 2 more, and not elsewhere'
+        said = 'at W1 (line 3), W2 (line 4), W3 (line 5), W4 (line 6) and 3 more, and not elsewhere'
         self.doubt(f'name,x,y,depth,ground\nA,1,2,3,208\n{lines}', said)
 
     def test_levels_that_look_like_depths(self):

@@ -68,7 +68,7 @@ class Sentinels(ListFolder):
 
     def test_several_wells_in_one_sentence(self):
         lines = ''.join(f'W{i},{i},{i},-9999\n' for i in range(1, 8))
-        said = 'W1 (line 4), W2 (line 5), W3 (line 6), W4 (line 7), W5 (line 8) and 2 more: level is -9999'
+        said = 'W1 (line 4), W2 (line 5), W3 (line 6), W4 (line 7) and 3 more: level is -9999'
         self.doubt(f'name,x,y,level\n{TWO_LINES}{lines}', said, grave=True)
 
     def test_a_true_level_of_999(self):

@@ -31,7 +31,7 @@ class Readings(ListFolder):
 
     def test_several_wells(self):
         found = self.list('name,x,y,level,date\nA,1,2,30,2023-01-05\nA,1,2,31,2022-01-05\nB,3,4,5,2024-05-31\nB,3,4,6,2021-01-01\n')
-        self.assertEqual(found.notes, ['2 wells (A, B) stand in the list with 4 readings; the newest of each is taken (2023-01-05 to 2024-05-31).'])
+        self.assertEqual(found.notes, ['2 wells (A and B) stand in the list with 4 readings; the newest of each is taken (2023-01-05 to 2024-05-31).'])
         self.assertEqual([well.level for well in found.wells], [30, 5])
 
     def test_days_that_can_be_read_in_two_ways(self):

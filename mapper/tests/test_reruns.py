@@ -92,7 +92,7 @@ class Reruns(Folder):
         self.run_all(*DEAD, '--nodes', self.file('x,y\n' + ''.join(f'{50 + i},90\n' for i in range(500)), 'nodes.csv'), wells=SAME)
         said = self.made('--collect', self.sheets)
         self.assertIn('again: 5 of 5 listings, and it prints the same.', said)
-        note = '000001.listing, 000002.listing, 000003.listing, 000004.listing and 000005.listing are the same byte for byte; their sheets were run again, '
+        note = '000001.listing, 000002.listing, 000003.listing, 000004.listing and 1 more are the same byte for byte; their sheets were run again, '
         self.assertIn(note + 'and it is right.', said)
         self.assertIn(note, (self.sheets / 'wells.html').read_text(encoding='utf-8'))
 

@@ -92,7 +92,7 @@ class SheetFolder(Folder):
     def test_many_missing(self):
         folder, _ = self.sheets(*NUMBERS, '--grid', '30x30')
         self.assertIn('9 listings missing', said := self.refused('--collect', folder))
-        self.assertIn('000005.listing and 4 more.', said)
+        self.assertIn('000004.listing and 5 more.', said)
 
     def test_listing_cut_short(self):
         folder, _ = self.sheets(*GRID)

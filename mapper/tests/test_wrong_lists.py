@@ -1,4 +1,7 @@
 """Every list of wrong_lists.py becomes what it has to become: no wrong list leaves a map that nothing is doubted about."""
+import html
+import re
+
 from mapper.doubts.judgements import NO_DOUBT
 from mapper.tests.support import Folder
 from mapper.tests.wrong_lists import ALL, DOUBTED, EAST, GOOD, NORTH, REFUSED, listed
@@ -28,29 +31,31 @@ class WrongLists(Folder):
         self.told(case.words, super().refused(*words))
 
     def drawn(self, words):
-        """What a run said, and what stands before the header of its table; the page has what the table has."""
+        """What a run said; what stands before the header of its table; and the page's judgement of the list, with its kinds."""
         self.clear()
         said = self.made(*words)
-        table = (self.folder / 'wells.map.csv').read_text()
-        return said, ''.join(line + '\n' for line in table.splitlines() if line.startswith('# '))
+        table, page = ((self.folder / name).read_text() for name in ('wells.map.csv', 'wells.html'))
+        (_, arithmetic, _), (_, kind, judgement) = re.findall(r'<div class="judgement (arithmetic|list|list grave) (\w+)">(.*?)</div></div>', page, re.S)
+        before = ''.join(line + '\n' for line in table.splitlines() if line.startswith('# '))
+        return (said, before, html.unescape(re.sub('<[^>]*>', '', judgement))), {arithmetic, kind}
 
     def doubted(self, case, words):
-        said, before = self.drawn(words)
-        for text in (said, before):
+        texts, kinds = self.drawn(words)
+        for text in texts:
             self.assertNotIn(NO_DOUBT, text.lower())
             self.told(case.words, text)
-
-    def good(self, case, words):
-        said, before = self.drawn(words)
-        self.told(case.words, said)
-        for text in (said, before):
-            self.told((NO_DOUBT,), text)
-        self.assertEqual(self.levels(), self.plain_levels(words))
+        self.assertNotIn('sound', kinds)
 
     def noted(self, case, words):
-        said, before = self.drawn(words)
-        self.told((*case.words, NO_DOUBT), said)
-        self.told((NO_DOUBT,), before)
+        texts, kinds = self.drawn(words)
+        self.told(case.words, texts[0])
+        for text in texts:
+            self.told((NO_DOUBT,), text)
+        self.assertEqual(kinds, {'sound'})
+
+    def good(self, case, words):
+        self.noted(case, words)
+        self.assertEqual(self.levels(), self.plain_levels(words))
 
     def plain_levels(self, words):
         """The levels of the plain list with the same trend, worked out once."""

@@ -71,6 +71,16 @@ def pointed(value):
     return spaced(value, '.')[:-2] + comma(value, 1)[-2:]
 
 
+def degrees(name, x, y, level):
+    """A well in degrees, somewhere in the south of Germany."""
+    return name, f'{9 + (x - EAST) / 73000:.5f}', f'{48.7 + (y - NORTH) / 111000:.5f}', f'{level}'
+
+
+def other_way_round(name, x, y, level):
+    return name, y, x, level
+
+
+STEEP = ('a water table hardly falls more than 5 %',)
 LEVELS = {
     'no data as -9999': Case(changed(9, level='-9999'), REFUSED, ('BH-09 (line 10)', '-9999', '--anyway')),
     'no data as -999': Case(changed(9, level='-999'), REFUSED, ('BH-09 (line 10)', '-999')),
@@ -88,20 +98,19 @@ LEVELS = {
     'digits exchanged': Case(changed(9, level=WELLS[8][3] + 9), DOUBTED, ('look at BH-09 (line 10) first',)),
     'one in feet': Case(changed(9, level=WELLS[8][3] / 0.3048), DOUBTED, ('look at BH-09 (line 10) first',)),
     'zero for no reading': Case(changed(9, level='0'), DOUBTED, ('look at BH-09 (line 10) first',)),
-    'a hundred times as steep': Case(turned(lambda n, x, y, z: (n, f'{x}', f'{y}', f'{(z - 146) * 100:.2f}')), DOUBTED, ('%',)),
+    'a hundred times as steep': Case(turned(lambda n, x, y, z: (n, f'{x}', f'{y}', f'{(z - 146) * 100:.2f}')), DOUBTED, STEEP),
 }
 
 PLACES = {
-    'degrees': Case(turned(lambda n, x, y, z: (n, f'{9 + (x - EAST) / 73000:.5f}', f'{48.7 + (y - NORTH) / 111000:.5f}', f'{z}')), REFUSED, ('degrees', '--anyway')),
-    'degrees, the other way round': Case(turned(lambda n, x, y, z: (n, f'{48.7 + (y - NORTH) / 111000:.5f}', f'{9 + (x - EAST) / 73000:.5f}', f'{z}')),
-                                         REFUSED, ('degrees',)),
-    'degrees, drawn all the same': Case(turned(lambda n, x, y, z: (n, f'{9 + (x - EAST) / 73000:.5f}', f'{48.7 + (y - NORTH) / 111000:.5f}', f'{z}')),
-                                        DOUBTED, ('degrees',), ('--anyway',)),
+    'degrees': Case(turned(degrees), REFUSED, ('degrees', '--anyway')),
+    'degrees, the other way round': Case(turned(lambda *well: other_way_round(*degrees(*well))), REFUSED, ('degrees',)),
+    'degrees, drawn all the same': Case(turned(degrees), DOUBTED, ('degrees',), ('--anyway',)),
     'a digit too few': Case(changed(9, x=451230.0), DOUBTED, ('BH-09 (line 10)', 'km')),
     '4,000 km away': Case(changed(9, x=EAST - 4000000), DOUBTED, ('BH-09 (line 10)', 'km')),
     'x and y exchanged in a line': Case(changed(9, x=WELLS[8][2], y=WELLS[8][1]), DOUBTED, ('BH-09 (line 10)', 'x and y look exchanged')),
-    'kilometres without a word': Case(turned(lambda n, x, y, z: (n, f'{x / 1000:.4f}', f'{y / 1000:.4f}', f'{z}')), DOUBTED, ('%',)),
-    'on one line': Case(turned(lambda n, x, y, z: (n, f'{x:.1f}', f'{NORTH + (x - EAST) / 2:.1f}', f'{148 - 0.001 * (x - EAST):.3f}')), DOUBTED, ('line',)),
+    'kilometres without a word': Case(turned(lambda n, x, y, z: (n, f'{x / 1000:.4f}', f'{y / 1000:.4f}', f'{z}')), DOUBTED, STEEP),
+    'on one line': Case(turned(lambda n, x, y, z: (n, f'{x:.1f}', f'{NORTH + (x - EAST) / 2:.1f}', f'{148 - 0.001 * (x - EAST):.3f}')), DOUBTED,
+                        ('stand on one line',)),
     'a line twice': Case(added(line(WELLS[0])), DOUBTED, ('line 32 repeats line 2', 'take one out')),
     'two wells at a spot': Case(added(('BH-99', *WELLS[0][1:3], WELLS[0][3] + 0.1)), DOUBTED, ('BH-01 (line 2)', 'BH-99 (line 32)')),
     'a name twice': Case(changed(9, name='BH-05'), DOUBTED, ('BH-05', 'lines 6 and 10')),
@@ -115,7 +124,7 @@ HEADERS = {
     'depth to water': Case(listed(header='name,x,y,Depth to water [m]'), REFUSED, ('Depth to water', 'level = ground')),
     'Flurabstand': Case(listed(header='Brunnen,Rechtswert,Hochwert,Flurabstand [m]'), REFUSED, ('Flurabstand', 'level = ground')),
     'depth with the ground': Case(turned(lambda n, x, y, z: (n, f'{x}', f'{y}', f'{200 - z:.2f}', '200'), HEADER.replace('level', 'depth,ground')),
-                                  GOOD, ('ground', 'depth')),
+                                  GOOD, ('level = ground - depth',)),
     'water above the ground': Case(turned(lambda n, x, y, z: (n, f'{x}', f'{y}', f'{z}', f'{z - 5:.2f}'), HEADER + ',ground'), DOUBTED, ('above ground',)),
     'psi': Case(listed(header='name,x,y,level [psi]'), REFUSED, ('psi', 'metres')),
     'degrees in brackets': Case(listed(header='name,x (deg),y (deg),level'), REFUSED, ('deg',)),
@@ -124,7 +133,7 @@ HEADERS = {
     'kilometres': Case(turned(lambda n, x, y, z: (n, f'{x / 1000:.4f}', f'{y / 1000:.4f}', f'{z}'), 'name,x [km],y [km],level'), GOOD, ('km',)),
     'centimetres': Case(turned(lambda n, x, y, z: (n, f'{x}', f'{y}', f'{z * 100:.0f}'), 'name,x,y,level (cm)'), GOOD, ('cm',)),
     'level beside head': Case(turned(lambda n, x, y, z: (n, f'{x}', f'{y}', f'{z}', f'{z - 3:.2f}'), HEADER + ',head'), DOUBTED, ('level', 'head', '--level')),
-    'only an elevation': Case(listed(header='name,x,y,Elevation'), DOUBTED, ('Elevation',)),
+    'only an elevation': Case(listed(header='name,x,y,Elevation'), DOUBTED, ('Elevation is taken as the water level',)),
     'numbers alone': Case(listed()[len(HEADER) + 1:], REFUSED, ('has to name the columns',)),
     'one field': Case(listed().replace(',', ' '), REFUSED, ('comma', 'semicolon', 'tab')),
     'latitude': Case(listed(header='name,lon,lat,level'), REFUSED, ('degrees',)),
@@ -144,7 +153,8 @@ WAYS = {
                              REFUSED, ('line 2',)),
     'metres in the cells': Case(turned(lambda n, x, y, z: (n, f'{x} m', f'{y} m', f'{z} m')), GOOD, ()),
     'feet in the cells': Case(turned(lambda n, x, y, z: (n, f'{x}', f'{y}', f'{z / 0.3048:.2f} ft')), REFUSED, ('line 2', 'ft', 'header')),
-    'ambiguous': Case('name;x;y;level\nA;4,512;5,403;1,200\nB;4,513;5,404;1,300\nC;4,514;5,403;1,400\nD;4,512;5,404;1,250\n', REFUSED, ('4,514', '4514', '4.514')),
+    'ambiguous': Case('name;x;y;level\nA;4,512;5,403;1,200\nB;4,513;5,404;1,300\nC;4,514;5,403;1,400\nD;4,512;5,404;1,250\n', REFUSED,
+                      ('4,514', '4514', '4.514')),
     'remarks before the header': Case('# Survey of May\n\n// by hand\n' + listed(), GOOD, ()),
     'a title before the header': Case('Survey of May 2024\n\n' + listed(), GOOD, ()),
     'German': Case(listed(header='Messstelle,Rechtswert,Hochwert,Grundwasserstand [m NHN]'), GOOD, ()),
@@ -171,9 +181,10 @@ READINGS = {
 }
 
 SETTINGS = {
-    'tolerance': Case(listed(), DOUBTED, ('tolerance', '0.01'), ('--tolerance', '0.01')),
-    'regularization': Case(listed(), DOUBTED, ('regularization',), ('--nugget', '0', '--sill', '1', '--range', '2000', '--regularization', '0.1')),
-    'nugget': Case(listed(), DOUBTED, ('nugget', 'sill'), ('--nugget', '2', '--sill', '1', '--range', '2000')),
+    'tolerance': Case(listed(), DOUBTED, ('allow 0.01', '--tolerance'), ('--tolerance', '0.01')),
+    'regularization': Case(listed(), DOUBTED, ('more than a hundredth of what the model rises to',),
+                           ('--nugget', '0', '--sill', '1', '--range', '2000', '--regularization', '0.1')),
+    'nugget': Case(listed(), DOUBTED, ('nugget, 2, is above the sill',), ('--nugget', '2', '--sill', '1', '--range', '2000')),
     'beyond the wells': Case(listed(), DOUBTED, ('below the lowest well',), ('--trend', 'linear', '--nodes', 'FAR')),
     'plain': Case(listed(), GOOD, ()),
     'linear trend': Case(listed(), GOOD, (), ('--trend', 'linear')),
