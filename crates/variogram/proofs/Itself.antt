@@ -1,4 +1,4 @@
--- A point with finite coordinates is at distance +0 from itself, and so its variogram with itself is +0.
+-- A point with finite coordinates is at distance +0 from itself, and so its variogram with itself is +0, where the same-spot distance is above zero.
 use Prim.Native.Nat.{ℕ, zero, suc, _*_, _<_}
 use native.Mathlib.Omega.{arith}
 use mathlib.Core.Path.{_≡_, refl, ap, _∙_}
@@ -11,7 +11,7 @@ use Rattle.ieee.specs.Sums.{addEach}
 use Rattle.ieee.specs.Root.{sqrtOf}
 use Rattle.ieee.proofs.Zero.{sub-self}
 use Rattle.variogram.specs.declared.Variogram.{Variogram}
-use Rattle.ieee.specs.Floats.{zeroFloat, epsilon}
+use Rattle.ieee.specs.Floats.{zeroFloat}
 use Rattle.variogram.specs.Model.{semivariance}
 use Rattle.variogram.specs.Distance.{square, squaredDistance2d, distance2d, squares, axisFrom, offered, distance}
 use Rattle.variogram.proofs.Model.{same-spot}
@@ -43,10 +43,6 @@ squares-itself a (suc d) f =
 pub distance-itself : (xs : List Float) (i d : ℕ) → offered d ≡ true → ((k : ℕ) → k < d → T (finite (axisFrom xs (i * d) k))) → distance xs i xs i d ≡ zeroFloat
 distance-itself xs i d o f = distance-offered xs i xs i d o ∙ ap sqrtOf (squares-itself (axisFrom xs (i * d)) d f) ∙ root-zero
 
--- +0 is below 2^-52
-zero-near : lt zeroFloat epsilon ≡ true
-unfolding lt ofBits
-zero-near = refl
-
-pub variogram-itself : (v : Variogram) → semivariance v zeroFloat ≡ zeroFloat
-variogram-itself v = same-spot v zeroFloat zero-near
+-- +0 is below every same-spot distance above it
+pub variogram-itself : (v : Variogram) → lt zeroFloat (v .«same_spot») ≡ true → semivariance v zeroFloat ≡ zeroFloat
+variogram-itself v near = same-spot v zeroFloat near

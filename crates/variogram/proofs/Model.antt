@@ -1,4 +1,4 @@
--- Laws of the variogram: what it is below 2^-52, past it by its model, and sounding F.
+-- Laws of the variogram: what it is below the same-spot distance, past it by its model, and sounding F.
 use Prim.Native.Nat.{ℕ, zero, suc, _*_, _≤_, _<_}
 use native.Mathlib.Nat.{mul-pos, zero-lt-suc, zero-mul}
 use native.Mathlib.Omega.{arith}
@@ -22,27 +22,27 @@ use Rattle.variogram.specs.Model.{variogram, spheric, spherical, linear,
 use Rattle.variogram.specs.Model.{wrongModel}
 use Rattle.variogram.specs.Model.{NotAboveZero, a-zero, negative, not-a-number, WrongModel}
 
--- the variogram of a distance below 2^-52 is +0, whatever the model and its numbers
-pub with-same-spot : (exp : Float → Float) (v : Variogram) (h : Float) → lt h epsilon ≡ true → semivarianceWith exp v h ≡ zeroFloat
+-- the variogram of a distance below the same-spot distance is +0, whatever the model and its numbers
+pub with-same-spot : (exp : Float → Float) (v : Variogram) (h : Float) → lt h (v .«same_spot») ≡ true → semivarianceWith exp v h ≡ zeroFloat
 unfolding semivarianceWith
 with-same-spot exp v h near = rw near
 
-pub same-spot : (v : Variogram) (h : Float) → lt h epsilon ≡ true → semivariance v h ≡ zeroFloat
+pub same-spot : (v : Variogram) (h : Float) → lt h (v .«same_spot») ≡ true → semivariance v h ≡ zeroFloat
 unfolding semivariance
 same-spot = with-same-spot expNeg
 
 -- any other distance, a NaN too, is the model's
-pub by-model : (exp : Float → Float) (v : Variogram) (h : Float) (m : VariogramModel) → lt h epsilon ≡ false → v .model ≡ m
+pub by-model : (exp : Float → Float) (v : Variogram) (h : Float) (m : VariogramModel) → lt h (v .«same_spot») ≡ false → v .model ≡ m
     → semivarianceWith exp v h ≡ ofModel exp m (v .nugget) (v .sill) (v .range) h
 unfolding semivarianceWith
 by-model exp v h m far is = rw (far, is)
 
 -- the same by a table that is lent
-pub lent-same-spot : (lent : List ℕ) (v : Variogram) (h : Float) → lt h epsilon ≡ true → semivarianceBy lent v h ≡ zeroFloat
+pub lent-same-spot : (lent : List ℕ) (v : Variogram) (h : Float) → lt h (v .«same_spot») ≡ true → semivarianceBy lent v h ≡ zeroFloat
 unfolding semivarianceBy
 lent-same-spot lent = with-same-spot (expNegBy lent)
 
-pub lent-model : (lent : List ℕ) (v : Variogram) (h : Float) (m : VariogramModel) → lt h epsilon ≡ false → v .model ≡ m
+pub lent-model : (lent : List ℕ) (v : Variogram) (h : Float) (m : VariogramModel) → lt h (v .«same_spot») ≡ false → v .model ≡ m
     → semivarianceBy lent v h ≡ ofModel (expNegBy lent) m (v .nugget) (v .sill) (v .range) h
 unfolding semivarianceBy
 lent-model lent = by-model (expNegBy lent)

@@ -1,21 +1,29 @@
--- The variogram at a distance: paper 01, "Variogram", and paper 02, "Exponential and Gaussian wells". Each operation is rounded once, in the order
--- in which it stands there.
+-- The variogram at a distance: paper 01, "Variogram", and paper 02, "Exponential and Gaussian wells" and "Two wells in one yard". Each operation is
+-- rounded once, in the order in which it stands there.
 use Prim.Native.Nat.{ℕ}
 use mathlib.Core.Path.{_≡_}
-use mathlib.Core.Bool.{Bool, true, false, not, cond}
+use mathlib.Core.Logic.{_⊎_}
+use mathlib.Core.Bool.{Bool, true, false, not, _||_, cond}
 use mathlib.Core.List.{List}
 use lib.IntN.{ℤ}
 use lib.Ieee.{Float, nan, fin, binary64, add, sub, mul, div, lt, le, ofBits}
+use lib.Ieee.Scale.{finite}
 use Rattle.ieee.specs.Floats.{zeroFloat, oneFloat, epsilon}
+use Rattle.ieee.specs.Finite.{NotFinite}
 use Rattle.ieee.specs.Values.{Signed}
 use Rattle.exponential.specs.Exponential.{expNeg, expNegBy}
 use Rattle.variogram.specs.declared.Variogram.{Variogram}
 use Rattle.variogram.specs.declared.VariogramModel.{VariogramModel}
 use Rattle.variogram.specs.declared.VariogramModel.the-variants.{Spherical, Exponential, Gaussian, Linear}
 
--- a variogram of a model, "nugget, sill, range": the one way in which one is made
+-- a variogram of a model, "nugget, sill, range", with the same-spot distance that "`new` sets .. to 2^-52"
 abbrev pub variogram : VariogramModel → Float → Float → Float → Variogram
-variogram m nugget sill range = record { nugget = nugget; sill = sill; range = range; model = m }
+variogram m nugget sill range = record { nugget = nugget; sill = sill; range = range; «same_spot» = epsilon; model = m }
+
+-- the same with another same-spot distance
+abbrev pub withSameSpot : Variogram → Float → Variogram
+withSameSpot v distance =
+    record { nugget = v .nugget; sill = v .sill; range = v .range; «same_spot» = distance; model = v .model }
 
 -- "`powi(3)` as a·(a·a)"
 abbrev pub cube : Float → Float
@@ -57,10 +65,10 @@ ofModel exp Exponential = exponentialModel exp
 ofModel exp Gaussian = gaussian exp
 ofModel exp Linear = linear
 
--- "0 if h < 2^-52", of every model, for an e^−u
+-- "the variogram is 0 below it instead of below 2^-52", and "A distance equal to the field is not the same spot": of every model, for an e^−u
 unfoldable pub semivarianceWith : (Float → Float) → Variogram → Float → Float
 unfolding spherical exponentialModel gaussian linear
-semivarianceWith exp v h = cond (lt h epsilon) zeroFloat (ofModel exp (v .model) (v .nugget) (v .sill) (v .range) h)
+semivarianceWith exp v h = cond (lt h (v .«same_spot»)) zeroFloat (ofModel exp (v .model) (v .nugget) (v .sill) (v .range) h)
 
 -- the variogram, with e^−u itself
 unfoldable pub semivariance : Variogram → Float → Float
@@ -71,6 +79,14 @@ semivariance v h = semivarianceWith expNeg v h
 unfoldable pub semivarianceBy : List ℕ → Variogram → Float → Float
 unfolding semivarianceWith expNegBy
 semivarianceBy lent v h = semivarianceWith (expNegBy lent) v h
+
+-- 22: "same-spot distance not finite or below 2^-52": as a test
+abbrev pub wrongSpot : Variogram → Bool
+wrongSpot v = not (finite (v .«same_spot»)) || lt (v .«same_spot») epsilon
+
+-- and as the paper says it
+abbrev pub WrongSpot : Variogram → Type 0
+WrongSpot v = NotFinite (v .«same_spot») ⊎ (lt (v .«same_spot») epsilon ≡ true)
 
 -- "12 now means an Exponential survey whose range is not above zero, and nothing else": as a test
 abbrev pub wrongRange : VariogramModel → Float → Bool

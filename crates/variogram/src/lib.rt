@@ -4,7 +4,7 @@ ghost use Prim.Native.Nat.{_+_, _≤_, _<_};
 ghost use lib.ListN.{length};
 ghost use lib.Dec.{ltb};
 ghost use lib.Ieee.{nan};
-ghost use Rattle.variogram.specs.Model.{variogram, semivariance, semivarianceBy};
+ghost use Rattle.variogram.specs.Model.{variogram, withSameSpot, semivariance, semivarianceBy};
 ghost use Rattle.variogram.specs.Distance.{squaredDistance2d, distance2d, squares, axisFrom, hasPoint, distance};
 
 // Variogram models, in the Rust's order.
@@ -15,11 +15,13 @@ pub enum VariogramModel {
     Linear,
 }
 
-// Variogram parameters, made by `new` alone.
+// Variogram parameters, made by `new`, and by `with_same_spot` for another same-spot distance.
 pub struct Variogram {
     pub nugget: f64,
     pub sill: f64,
     pub range: f64,
+    // Distances below it are the same spot; one equal to it is not.
+    pub same_spot: f64,
     pub model: VariogramModel,
 }
 
@@ -31,7 +33,7 @@ fn not_a_number() -> f64
 }
 
 impl Variogram {
-    // 2^-52: distances below it are the same spot.
+    // 2^-52: the same-spot distance of `new`, and the least that a call takes.
     pub const EPSILON: f64 = 2.220446049250313e-16;
 
     pub fn new(model: VariogramModel, nugget: f64, sill: f64, range: f64) -> Self
@@ -41,6 +43,21 @@ impl Variogram {
             nugget,
             sill,
             range,
+            same_spot: Self::EPSILON,
+            model,
+        }
+    }
+
+    // The same with another same-spot distance.
+    pub fn with_same_spot(self, distance: f64) -> Self
+        ensures { λ r. ⌜ r ≡ withSameSpot self distance ⌝ }
+    {
+        let model = self.model;
+        Self {
+            nugget: self.nugget,
+            sill: self.sill,
+            range: self.range,
+            same_spot: distance,
             model,
         }
     }
@@ -57,7 +74,7 @@ impl Variogram {
     pub fn evaluate_by(self, lent: &[u64; 512], h: f64) -> f64
         ensures { λ r. ⌜ r ≡ semivarianceBy (now (lent .entry)) self h ⌝ }
     {
-        if h < Self::EPSILON {
+        if h < self.same_spot {
             return 0.0;
         }
         let partial_sill = self.sill - self.nugget;
