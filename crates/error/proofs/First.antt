@@ -12,7 +12,7 @@ use Rattle.error.specs.declared.Judgement.the-variants.{Accepted, Refuse
 use Rattle.error.specs.declared.Refusal.{Refusal}
 use Rattle.error.specs.declared.Refusal.the-variants.{CoordinatesLength, NodesLength, NoBasis, BasisCode, Regularization, ExternalLength}
 use Rattle.error.specs.declared.Refusal.the-variants.{TooFewWells, NodeExternalLength, TooMany, Tolerance, NotFinite, Model}
-use Rattle.error.specs.declared.Refusal.the-variants.{Dimension, TooFewSamples, Bins, SurveyFile, WorkArea, AnswerArea, Singular}
+use Rattle.error.specs.declared.Refusal.the-variants.{Dimension, TooFewSamples, Bins, SurveyFile, WorkArea, AnswerArea, Singular, SameSpot}
 use Rattle.error.specs.Numbers.{numberOf, judged}
 use Rattle.error.specs.Tests.{Test, test, firstOf}
 
@@ -98,6 +98,7 @@ numbers SurveyFile h = omega arith
 numbers WorkArea h = omega arith
 numbers AnswerArea h = omega arith
 numbers Singular h = omega arith
+numbers SameSpot h = omega arith
 
 -- the refusal of a part is that of the whole
 pub refused : (j : Judgement) (r : Refusal) (ts us : List Test) → j ≡ Refused r → judged j ≡ firstOf ts → judged j ≡ firstOf (ts ++ us)

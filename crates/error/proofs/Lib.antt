@@ -1,4 +1,5 @@
 pub mod Tells
 pub mod Rules
+pub mod Lowest
 pub mod Short
 pub mod First

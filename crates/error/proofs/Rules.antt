@@ -1,17 +1,16 @@
 -- The one theorem about refusals: a list of tests, each of which tells the condition of the rule at its place, gives the number that the rules give.
--- Whatever the order of the numbers; where they rise, the lowest number whose condition holds is given.
-use Prim.Native.Nat.{ℕ, _<_}
-use native.Mathlib.Decide.{decLt}
+-- Whatever the order of the numbers.
+use Prim.Native.Nat.{ℕ}
 use native.Mathlib.Omega.{arith}
 use mathlib.Core.Path.{_≡_, refl, sym, subst, _∙_}
 use mathlib.Core.Logic.{_≢_, inl, inr, _↔_}
 use mathlib.Core.Bool.{Bool, true, false, not, cond}
 use mathlib.Core.List.{List, [], _∷_, _++_}
-use lib.Dec.{T, T-not, eqb, ltb, eqb→eq, ltb→lt, lt→ltb}
-use lib.Ieee.Fits.{and-i, and-l, and-r, eq→eqb}
+use lib.Dec.{T, T-not, eqb, ltb, eqb→eq, ltb→lt}
+use lib.Ieee.Fits.{and-l, and-r, eq→eqb}
 use Rattle.error.specs.Tests.{Test, firstOf, Tells}
-use Rattle.error.specs.Rules.{Told, no-more, tells, Rule, rule, Ruled, NoneApplies, Condition, Lowest, First}
-use Rattle.error.specs.Rules.{rulesBefore, positive, lacks, distinct, rising}
+use Rattle.error.specs.Rules.{Told, no-more, tells, Rule, rule, Ruled, NoneApplies, Condition, First}
+use Rattle.error.specs.Rules.{rulesBefore, positive, lacks, distinct}
 
 pub joined : {ts us : List Test} {rs ps : List Rule} → Told ts rs → Told us ps → Told (ts ++ us) (rs ++ ps)
 joined no-more h = h
@@ -56,25 +55,25 @@ pub none-exactly : {ts : List Test} {rs : List Rule} → Told ts rs → T (posit
 none-exactly {rs = rs} h p = (λ e. ruled-none rs p (ruled-exactly h 0 .0 e), λ n. ruled-exactly h 0 .1 (none-ruled rs n))
 
 -- a rule's condition, or that of a later rule with the number
-data Which (r : Rule) (rs : List Rule) (k : ℕ) : Type 0 where
+pub data Which (r : Rule) (rs : List Rule) (k : ℕ) : Type 0 where
   own : r .number ≡ k → r .applies → Which r rs k
   later : r .number ≢ k → Condition rs k → Which r rs k
 
-which : (r : Rule) (rs : List Rule) (k : ℕ) → Condition (r ∷ rs) k → Which r rs k
+pub which : (r : Rule) (rs : List Rule) (k : ℕ) → Condition (r ∷ rs) k → Which r rs k
 which r rs k c = go (eqb (r .number) k) refl c
   where
     go : (b : Bool) → eqb (r .number) k ≡ b → cond b (r .applies) (Condition rs k) → Which r rs k
     go true e x = own (eqb→eq (r .number) k (rw e tt)) x
     go false e x = later (λ f. subst T e (eq→eqb f)) x
 
-own-condition : (r : Rule) (rs : List Rule) (k : ℕ) → r .number ≡ k → r .applies → Condition (r ∷ rs) k
+pub own-condition : (r : Rule) (rs : List Rule) (k : ℕ) → r .number ≡ k → r .applies → Condition (r ∷ rs) k
 own-condition r rs k e x = go (eqb (r .number) k) (eq→eqb e)
   where
     go : (b : Bool) → T b → cond b (r .applies) (Condition rs k)
     go true t = x
     go false t = absurd t
 
-later-condition : (r : Rule) (rs : List Rule) (k : ℕ) → r .number ≢ k → Condition rs k → Condition (r ∷ rs) k
+pub later-condition : (r : Rule) (rs : List Rule) (k : ℕ) → r .number ≢ k → Condition rs k → Condition (r ∷ rs) k
 later-condition r rs k n x = go (eqb (r .number) k) (eqb→eq (r .number) k)
   where
     go : (b : Bool) → (T b → r .number ≡ k) → cond b (r .applies) (Condition rs k)
@@ -105,7 +104,7 @@ none-before (r ∷ rs) k (inr x) = go (eqb (r .number) k) (none-before rs k (x .
     go false n = (x .0, n)
 
 -- a condition's number is among the numbers, so it is none that they lack, and it is not 0
-held-number : (rs : List Rule) (j k : ℕ) → T (lacks j rs) → Condition rs k → j ≢ k
+pub held-number : (rs : List Rule) (j k : ℕ) → T (lacks j rs) → Condition rs k → j ≢ k
 held-number [] j k l c = absurd c
 held-number (r ∷ rs) j k l c = go (which r rs k c) (λ x. held-number rs j k (and-r (not (eqb (r .number) j)) (lacks j rs) l) x)
   where
@@ -150,63 +149,3 @@ pub never-given : (rs : List Rule) (k : ℕ) → T (lacks k rs) → k ≢ 0 → 
 never-given [] k l n r = n r
 never-given (r ∷ rs) k l n (inl x) = T-not (eqb (r .number) k) (and-l (not (eqb (r .number) k)) (lacks k rs) l) (eq→eqb (sym (x .1)))
 never-given (r ∷ rs) k l n (inr x) = never-given rs k (and-r (not (eqb (r .number) k)) (lacks k rs) l) n (x .1)
-
--- ---- where the numbers rise
-next-rises : (n : ℕ) (r : Rule) (rs : List Rule) → T (rising n (r ∷ rs)) → (n < r .number) × T (rising (r .number) rs)
-next-rises n r rs p =
-    (ltb→lt n (r .number) (and-l (ltb n (r .number)) (rising (r .number) rs) p), and-r (ltb n (r .number)) (rising (r .number) rs) p)
-
-rising-positive : (n : ℕ) (rs : List Rule) → T (rising n rs) → T (positive rs)
-rising-positive n [] p = tt
-rising-positive n (r ∷ rs) p =
-    let q = next-rises n r rs p in
-    let l = q .0 in
-    and-i (ltb 0 (r .number)) (positive rs) (lt→ltb 0 (r .number) (omega arith)) (rising-positive (r .number) rs (q .1))
-
--- what holds has a number above those before
-above : (n : ℕ) (rs : List Rule) → T (rising n rs) → (k : ℕ) → Condition rs k → n < k
-above n [] p k c = absurd c
-above n (r ∷ rs) p k c = let q = next-rises n r rs p in go (which r rs k c) (q .0) (λ x. above (r .number) rs (q .1) k x)
-  where
-    go : Which r rs k → n < r .number → (Condition rs k → r .number < k) → n < k
-    go (own e x) l f = omega arith
-    go (later m x) l f = let g = f x in omega arith
-
--- the condition of the number given holds, and of those below none
-ruled-lowest : (n : ℕ) (rs : List Rule) → T (rising n rs) → (k : ℕ) → k ≢ 0 → Ruled rs k → Lowest rs k
-ruled-lowest n [] p k z r = absurd (z r)
-ruled-lowest n (r ∷ rs) p k z (inl x) =
-    record { applies = own-condition r rs k (sym (x .1)) (x .0); none-below = λ j l c. go j l (which r rs j c) }
-  where
-    go : (j : ℕ) → j < k → Which r rs j → ⊥
-    go j l (own e y) = let f = x .1 in omega arith
-    go j l (later m y) = let f = x .1 in let g = above (r .number) rs (next-rises n r rs p .1) j y in omega arith
-ruled-lowest n (r ∷ rs) p k z (inr x) = go (ruled-lowest (r .number) rs (next-rises n r rs p .1) k z (x .1))
-  where
-    below : Lowest rs k → (j : ℕ) → j < k → Which r rs j → ⊥
-    below l j b (own e y) = x .0 y
-    below l j b (later m y) = l .none-below j b y
-
-    go : Lowest rs k → Lowest (r ∷ rs) k
-    go l =
-        let g = above (r .number) rs (next-rises n r rs p .1) k (l .applies) in
-        record { applies = later-condition r rs k (omega arith) (l .applies); none-below = λ j b c. below l j b (which r rs j c) }
-
--- "The lowest applying number wins"
-pub lowest-wins : {ts : List Test} {rs : List Rule} → Told ts rs → T (rising 0 rs) → (k : ℕ) → ((firstOf ts ≡ k) × (k ≢ 0)) ↔ Lowest rs k
-lowest-wins {ts} {rs} h p k = (λ x. ruled-lowest 0 rs p k (x .1) (ruled-exactly h k .0 (x .0)), from)
-  where
-    same : Lowest rs k → Lowest rs (firstOf ts) → (firstOf ts ≡ k) × (k ≢ 0)
-    same l m =
-        let g = above 0 rs p k (l .applies) in
-        elim (decLt (firstOf ts) k) [
-          | yes q ↦ absurd (l .none-below (firstOf ts) q (m .applies))
-          | no q ↦ elim (decLt k (firstOf ts)) [ yes w ↦ absurd (m .none-below k w (l .applies)) | no w ↦ (omega arith, omega arith) ]
-        ]
-
-    from : Lowest rs k → (firstOf ts ≡ k) × (k ≢ 0)
-    from l =
-        elim (decLt 0 (firstOf ts)) [
-          | yes q ↦ same l (ruled-lowest 0 rs p (firstOf ts) (omega arith) (ruled h))
-          | no q ↦ absurd (no-condition rs (none-exactly h (rising-positive 0 rs p) .0 (omega arith)) k (l .applies))
-        ]

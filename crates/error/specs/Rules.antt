@@ -75,3 +75,8 @@ distinct (r ∷ rs) = lacks (r .number) rs && distinct rs
 abbrev pub rising : ℕ → List Rule → Bool
 rising n [] = true
 rising n (r ∷ rs) = ltb n (r .number) && rising (r .number) rs
+
+-- the rules without that of the number j
+abbrev pub without : ℕ → List Rule → List Rule
+without j [] = []
+without j (r ∷ rs) = cond (eqb (r .number) j) rs (r ∷ without j rs)

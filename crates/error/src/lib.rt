@@ -43,6 +43,8 @@ pub enum Refusal {
     AnswerArea,
     // 19: a pivot below 2^-52
     Singular,
+    // 22: same-spot distance not finite or below 2^-52; for the file's writer anything but 2^-52
+    SameSpot,
 }
 
 // What the tests of a call come to: no refusal, or the first one that applies.
@@ -85,6 +87,7 @@ pub fn number(refusal: Refusal) -> u8
         Refusal::WorkArea => 17,
         Refusal::AnswerArea => 18,
         Refusal::Singular => 19,
+        Refusal::SameSpot => 22,
     }
 }
 
@@ -112,5 +115,6 @@ pub fn kind(refusal: Refusal) -> ErrorKind
         Refusal::WorkArea => ErrorKind::Added,
         Refusal::AnswerArea => ErrorKind::Added,
         Refusal::Singular => ErrorKind::MatrixError,
+        Refusal::SameSpot => ErrorKind::Added,
     }
 }

@@ -1,6 +1,8 @@
 -- A finite f64 by its bit fields: the multiple of 2^-1074 that it is, its sign, and that these two tell it from every other f64.
-use Prim.Native.Nat.{ℕ, zero, suc, _+_, _*_, _/_, _%_, _^_}
+use Prim.Native.Nat.{ℕ, zero, suc, _+_, _*_, _/_, _%_, _^_, _<_}
 use native.Mathlib.Nat.{mul-div-cancel, mul-one}
+use native.Mathlib.Omega.{arith}
+use borrow.Author.Tests.{ne-eqb}
 use mathlib.Core.Path.{_≡_, refl, ap, sym, _∙_, subst}
 use mathlib.Core.Bool.{Bool, true, false, cond, false≢true}
 use lib.IntN.{ℤ}
@@ -39,6 +41,14 @@ fields-value s (suc e) t h = go (eqb (suc e) 2047) (eqb t 0) h
     go true true k = absurd k
     go true false k = absurd k
     go false b k = odd-sign 53 s (2 ^ 52 + t) e 1074
+
+-- without a sign, and below infinity's exponent
+pub field-finite : (e t : ℕ) → e < 2047 → T (finite (ofFields binary64 false e t))
+unfolding ofFields
+field-finite zero t h = value-finite (odd 53 false t 0 1074) false (t * 2 ^ 0) (2 ^ 1074) (odd-sign 53 false t 0 1074)
+field-finite (suc e) t h =
+    rw (ne-eqb (suc e) 2047 (λ (x : suc e ≡ 2047). omega arith))
+    (value-finite (odd 53 false (2 ^ 52 + t) e 1074) false ((2 ^ 52 + t) * 2 ^ e) (2 ^ 1074) (odd-sign 53 false (2 ^ 52 + t) e 1074))
 
 -- the fields of the pattern of a finite f64
 pub bits-value : (x : Float) → T (fits binary64 x) → T (finite x)

@@ -1,5 +1,6 @@
 pub mod Zero
 pub mod Fields
+pub mod Steps
 pub mod WholeRoot
 pub mod RootDigits
 pub mod Products

@@ -4,42 +4,28 @@ use native.Mathlib.Nat.{le-trans, lt-of-le-of-lt, lt-of-lt-of-le, lt-of-not-le, 
 use native.Mathlib.Nat.{mul-le-mul, mul-le-mul-right, mul-lt-mul-of-pos-right, mul-mul-mul-comm, pow-suc}
 use native.Mathlib.Omega.{arith}
 use mathlib.Core.Path.{_≡_, refl, ap, sym, _∙_, subst}
-use mathlib.Core.Bool.{Bool, false}
-use lib.Dec.{T, leb}
+use mathlib.Core.Bool.{false}
 use lib.Pow.{pow-add, pow-pos, pow-mono}
-use borrow.Author.Tests.{lt-leb, ne-eqb}
-use lib.Ieee.{Float, binary64, round, ofBits, ofFields, odd}
+use lib.Ieee.{binary64, round, ofBits}
 use lib.Ieee.Fits.{round-fits}
 use lib.Ieee.Bits.{ofBits-fits}
-use lib.Ieee.Exact.{HasValue, odd-sign}
-use lib.Ieee.Scale.{finite}
+use lib.Ieee.Exact.{HasValue}
 use Rattle.ieee.specs.Root.{wholeRoot, rootOf}
-use Rattle.ieee.proofs.Fields.{value-multiple, value-sign, value-finite, fields-value, same-value}
+use Rattle.ieee.specs.Values.{fieldsMultiple}
+use Rattle.ieee.proofs.Fields.{value-multiple, value-sign, value-finite, same-value}
+use Rattle.ieee.proofs.Steps.{bits-multiple}
 use Rattle.ieee.proofs.WholeRoot.{square-even, root-lt, whole-root-le, whole-root-lt}
 use Rattle.ieee.proofs.RootRound.{root-value}
 
 -- ---- a normal number above zero by its pattern
-field-finite : (e t : ℕ) → suc e < 2047 → T (finite (ofFields binary64 false (suc e) t))
-unfolding ofFields
-field-finite e t h =
-    rw (ne-eqb (suc e) 2047 (λ (x : suc e ≡ 2047). let y : suc e < 2047 = h in omega arith))
-    (value-finite (odd 53 false (2 ^ 52 + t) e 1074) false ((2 ^ 52 + t) * 2 ^ e) (2 ^ 1074) (odd-sign 53 false (2 ^ 52 + t) e 1074))
-
 pub pattern-value : (e r : ℕ) → suc e < 2047 → 2 ^ 52 ≤ r → r < 2 ^ 53 → HasValue (ofBits binary64 (e * 2 ^ 52 + r)) false (r * 2 ^ e) (2 ^ 1074)
-unfolding ofBits
 pattern-value e r small lo hi =
-    let t = r - 2 ^ 52 in
     let b = e * 2 ^ 52 + r in
-    let sign : leb (2 ^ 63) b ≡ false = lt-leb (2 ^ 63) b (omega arith) in
-    let field : b % 2 ^ 63 / 2 ^ 52 ≡ suc e = omega arith in
-    let fraction : b % 2 ^ 52 ≡ t = omega arith in
-    let whole : 2 ^ 52 + t ≡ r = omega arith in
-    let is : ofFields binary64 (leb (2 ^ 63) b) (b % 2 ^ 63 / 2 ^ 52) (b % 2 ^ 52) ≡ ofFields binary64 false (suc e) t =
-    ap (λ (s : Bool). ofFields binary64 s (b % 2 ^ 63 / 2 ^ 52) (b % 2 ^ 52)) sign
-    ∙ ap (λ (n : ℕ). ofFields binary64 false n (b % 2 ^ 52)) field
-    ∙ ap (λ (n : ℕ). ofFields binary64 false (suc e) n) fraction in
-    subst (λ (x : Float). HasValue x false (r * 2 ^ e) (2 ^ 1074)) (sym is)
-    (subst (λ (n : ℕ). HasValue (ofFields binary64 false (suc e) t) false (n * 2 ^ e) (2 ^ 1074)) whole (fields-value false (suc e) t (field-finite e t small)))
+    let field : b / 2 ^ 52 ≡ suc e = omega arith in
+    let fraction : b % 2 ^ 52 ≡ r - 2 ^ 52 = omega arith in
+    let whole : 2 ^ 52 + (r - 2 ^ 52) ≡ r = omega arith in
+    let is : fieldsMultiple (b / 2 ^ 52) (b % 2 ^ 52) ≡ r * 2 ^ e = rw (field, fraction) (ap (λ (n : ℕ). n * 2 ^ e) whole) in
+    subst (λ (n : ℕ). HasValue (ofBits binary64 b) false n (2 ^ 1074)) is (bits-multiple b (omega arith))
 
 -- ---- powers of four
 pub four-power : (j : ℕ) → 4 ^ j ≡ 2 ^ j * 2 ^ j

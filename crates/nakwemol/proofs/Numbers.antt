@@ -6,7 +6,7 @@ use native.Mathlib.Omega.{arith}
 use Rattle.error.specs.declared.Refusal.{Refusal}
 use Rattle.error.specs.declared.Refusal.the-variants.{CoordinatesLength, NodesLength, NoBasis, BasisCode, Regularization, ExternalLength}
 use Rattle.error.specs.declared.Refusal.the-variants.{TooFewWells, NodeExternalLength, TooMany, Tolerance, NotFinite, Model}
-use Rattle.error.specs.declared.Refusal.the-variants.{Dimension, TooFewSamples, Bins, SurveyFile, WorkArea, AnswerArea, Singular}
+use Rattle.error.specs.declared.Refusal.the-variants.{Dimension, TooFewSamples, Bins, SurveyFile, WorkArea, AnswerArea, Singular, SameSpot}
 use Rattle.error.specs.Numbers.{numberOf}
 use Rattle.error.proofs.First as First
 use Rattle.nakwemol.specs.Codes.{unknownCode}
@@ -41,3 +41,4 @@ no-refusal SurveyFile h = omega arith
 no-refusal WorkArea h = omega arith
 no-refusal AnswerArea h = omega arith
 no-refusal Singular h = omega arith
+no-refusal SameSpot h = omega arith

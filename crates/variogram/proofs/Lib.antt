@@ -1,4 +1,5 @@
 pub mod Model
+pub mod Spot
 pub mod Squares
 pub mod Distance
 pub mod Itself

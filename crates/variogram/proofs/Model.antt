@@ -11,7 +11,7 @@ use lib.IntN.{ℤ}
 use lib.Dec.{T, nltb→le}
 use lib.Ieee.{Float, nan, inf, fin, up, down, binary64, add, sub, mul, div, lt, le, ofBits, round}
 use lib.Ieee.Fits.{up-pos}
-use Rattle.ieee.specs.Floats.{zeroFloat, oneFloat, epsilon}
+use Rattle.ieee.specs.Floats.{zeroFloat, oneFloat}
 use Rattle.ieee.specs.Values.{infinite, number}
 use Rattle.exponential.specs.Exponential.{fractionTable, expNeg, expNegBy}
 use Rattle.exponential.proofs.Lent.{by-table}

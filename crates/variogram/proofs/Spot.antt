@@ -1,0 +1,52 @@
+-- The same-spot distance: one step below it and at it, which patterns 22 takes, and that such a distance is above zero.
+use Prim.Native.Nat.{ℕ, zero, suc, _+_, _*_, _/_, _%_, _^_, _≤_, _<_}
+use native.Mathlib.Nat.{mul-pos, zero-mul, zero-lt-suc}
+use native.Mathlib.Omega.{arith}
+use mathlib.Core.Path.{_≡_, refl, ap, sym, subst, _∙_}
+use mathlib.Core.Bool.{Bool, true, false, not, _||_}
+use borrow.Author.Tests.{ltb-false, lt-ltb, le-ltb}
+use lib.IntN.{ℤ}
+use lib.Dec.{T, ltb}
+use lib.Ieee.{Float, nan, inf, fin, binary64, up, down, lt, ofBits}
+use lib.Ieee.Fits.{up-pos, down-pos}
+use lib.Ieee.Scale.{finite}
+use Rattle.ieee.specs.Floats.{zeroFloat, epsilon}
+use Rattle.ieee.proofs.Steps.{pattern-rises}
+use Rattle.exponential.specs.Exponential.{expNeg}
+use Rattle.variogram.specs.declared.Variogram.{Variogram}
+use Rattle.variogram.specs.Model.{withSameSpot, semivariance, wrongSpot, WrongSpot}
+use Rattle.variogram.specs.Spot.{OneStep, Taken}
+use Rattle.variogram.proofs.Model.{same-spot, by-model}
+
+-- ---- a same-spot distance that 22 takes is above zero
+pub above-zero : (x : Float) → T (finite x) → lt x epsilon ≡ false → lt zeroFloat x ≡ true
+unfolding lt ofBits
+above-zero nan f h = absurd f
+above-zero (inf s) f h = absurd f
+above-zero (fin true m e) f h =
+    let none : m * up e * 2 ^ 52 + 1 * 1 * down e ≤ 0 = ltb-false 0 (m * up e * 2 ^ 52 + 1 * 1 * down e) h in
+    absurd (omega (arith, down-pos e))
+above-zero (fin false zero e) f h =
+    let none : 1 * 1 * down e ≤ 0 * up e * 2 ^ 52 = ltb-false (0 * up e * 2 ^ 52) (1 * 1 * down e) h in
+    absurd (omega (arith, down-pos e, zero-mul (up e)))
+above-zero (fin false (suc m) e) f h =
+    let some : 0 < suc m * up e = mul-pos (zero-lt-suc m) (up-pos e) in
+    lt-ltb (0 * down e) (suc m * up e * 1) (omega (arith, zero-mul (down e)))
+
+-- ---- one step
+not-below-itself : (x : Float) → lt x x ≡ false
+unfolding lt
+not-below-itself nan = refl
+not-below-itself (inf true) = refl
+not-below-itself (inf false) = refl
+not-below-itself (fin true m e) = le-ltb (m * up e * down e) (m * up e * down e) (omega arith)
+not-below-itself (fin false m e) = le-ltb (m * up e * down e) (m * up e * down e) (omega arith)
+
+pub one-step : (v : Variogram) (b : ℕ) → suc b < 0x7ff0_0000_0000_0000 → OneStep v b
+unfolding semivariance
+one-step v b h =
+    let w = withSameSpot v (ofBits binary64 (suc b)) in
+    record {
+      below = same-spot w (ofBits binary64 b) (pattern-rises b h);
+      equal = by-model expNeg w (ofBits binary64 (suc b)) (v .model) (not-below-itself (ofBits binary64 (suc b))) refl;
+    }
