@@ -10,7 +10,7 @@ use Rattle.error.specs.Tests.{any, Tells}
 use Rattle.error.proofs.Tells.{told, told-as, both, either, is-true, equal, different, below, not-finite-is, some-not-finite}
 use Rattle.error.specs.Rules.{Told, no-more, tells}
 use Rattle.error.proofs.Rules.{joined}
-use Rattle.ieee.specs.Floats.{zeroFloat}
+use Rattle.ieee.specs.Floats.{zeroFloat, epsilon}
 use Rattle.variogram.specs.declared.Variogram.{Variogram}
 use Rattle.variogram.specs.Model.{wrongModel}
 use Rattle.variogram.proofs.Model.{wrong-model}
@@ -18,12 +18,12 @@ use Rattle.survey.specs.declared.Limits.{Limits}
 use Rattle.survey.specs.Survey.{Survey, wells, columns, externals}
 use Rattle.survey.specs.Rules.{WrongCoords, OddNodes, BadCode, SomeBadCode, BadAmount, WrongExternal, WrongNodeExternal}
 use Rattle.survey.specs.Rules.{TooMany, VariogramNotFinite, NumberNotFinite}
-use Rattle.survey.specs.Rules.{coordRules, nodeRules, basisRules, nodeExternalRules, limitRules, toleranceRules, finiteRules, modelRules}
-use Rattle.survey.specs.Rules.{listRules, numberRules, surveyRules}
+use Rattle.survey.specs.Rules.{coordRules, nodeRules, basisRules, nodeExternalRules, limitRules, toleranceRules, finiteRules, spotRules, modelRules}
+use Rattle.survey.specs.Rules.{listRules, numberRules, variogramRules, surveyRules}
 use Rattle.survey.specs.Refusals.{wrongCoords, oddNodes, badCode, badAmount, wrongExternal, wrongNodeExternal}
 use Rattle.survey.specs.Refusals.{tooMany, variogramNotFinite, numberNotFinite}
-use Rattle.survey.specs.Refusals.{coordTests, nodeTests, basisTests, nodeExternalTests, limitTests, toleranceTests, finiteTests, modelTests}
-use Rattle.survey.specs.Refusals.{listTests, numberTests, surveyTests}
+use Rattle.survey.specs.Refusals.{coordTests, nodeTests, basisTests, nodeExternalTests, limitTests, toleranceTests, finiteTests, spotTests, modelTests}
+use Rattle.survey.specs.Refusals.{listTests, numberTests, variogramTests, surveyTests}
 
 -- ---- test by test
 pub coords-told : (s : Survey) → Tells (wrongCoords s) (WrongCoords s)
@@ -97,6 +97,9 @@ tolerance-told t = tells 10 (amount-told t) no-more
 pub finite-told : (s : Survey) (e : List Float) → Told (finiteTests s e) (finiteRules s e)
 finite-told s e = tells 11 (numbers-told s e) no-more
 
+pub spot-told : (v : Variogram) → Told (spotTests v) (spotRules v)
+spot-told v = tells 22 (either (not-finite-is (v .«same_spot»)) (is-true (lt (v .«same_spot») epsilon))) no-more
+
 pub model-told : (v : Variogram) → Told (modelTests v) (modelRules v)
 model-told v = tells 12 (told (wrongModel v) (wrong-model v)) no-more
 
@@ -107,6 +110,9 @@ list-told s m e = joined (coord-told s) (joined (node-told s) (joined (basis-tol
 pub number-told : (s : Survey) (e : List Float) → Told (numberTests s e) (numberRules s e)
 number-told s e = joined (tolerance-told (s .tolerance)) (finite-told s e)
 
+pub variogram-rules-told : (v : Variogram) → Told (variogramTests v) (variogramRules v)
+variogram-rules-told v = joined (spot-told v) (model-told v)
+
 pub survey-told : (limits : Limits) (s : Survey) (m : ℕ) (e : List Float) → Told (surveyTests limits s m e) (surveyRules limits s m e)
 unfolding surveyTests
-survey-told limits s m e = joined (list-told s m e) (joined (limit-told limits s m) (joined (number-told s e) (model-told (s .options .variogram))))
+survey-told limits s m e = joined (list-told s m e) (joined (limit-told limits s m) (joined (number-told s e) (variogram-rules-told (s .options .variogram))))

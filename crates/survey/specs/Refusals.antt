@@ -1,4 +1,4 @@
--- What turns a survey away, as tests that compute: paper 01, "What turns a call away", 1 to 12, in the parts of `Rules`.
+-- What turns a survey away, as tests that compute: paper 01, "What turns a call away", 1 to 12, with 22 of paper 02, in the parts of `Rules`.
 use Prim.Native.Nat.{ℕ, _*_, _%_}
 use mathlib.Core.Bool.{Bool, not, _&&_, _||_}
 use mathlib.Core.List.{List, [], _∷_, _++_}
@@ -10,7 +10,7 @@ use Rattle.error.specs.Tests.{Test, test, any, firstOf}
 use Rattle.ieee.specs.Floats.{zeroFloat}
 use Rattle.ieee.specs.Finite.{allFinite}
 use Rattle.variogram.specs.declared.Variogram.{Variogram}
-use Rattle.variogram.specs.Model.{wrongModel}
+use Rattle.variogram.specs.Model.{wrongSpot, wrongModel}
 use Rattle.survey.specs.declared.Limits.{Limits}
 use Rattle.survey.specs.Survey.{Survey, wells, nodeCount, columns, externals}
 
@@ -94,20 +94,27 @@ toleranceTests t = test 10 (badAmount t) ∷ []
 abbrev pub finiteTests : Survey → List Float → List Test
 finiteTests s e = test 11 (numberNotFinite s e) ∷ []
 
+-- 22: "same-spot distance not finite or below 2^-52, straight after 11"
+abbrev pub spotTests : Variogram → List Test
+spotTests v = test 22 (wrongSpot v) ∷ []
+
 -- 12: "an Exponential survey whose range is not above zero"
 abbrev pub modelTests : Variogram → List Test
 modelTests v = test 12 (wrongModel v) ∷ []
 
--- ---- joined: 1 to 8, the lists; 10 and 11, the numbers; and all of them, 1 to 12
+-- ---- joined: 1 to 8, the lists; 10 and 11, the numbers; 22 and 12, the variogram; and all of them, 1 to 11, 22, 12
 abbrev pub listTests : Survey → ℕ → List Float → List Test
 listTests s m e = coordTests s ++ (nodeTests s ++ (basisTests s ++ nodeExternalTests s m e))
 
 abbrev pub numberTests : Survey → List Float → List Test
 numberTests s e = toleranceTests (s .tolerance) ++ finiteTests s e
 
+abbrev pub variogramTests : Variogram → List Test
+variogramTests v = spotTests v ++ modelTests v
+
 unfoldable pub surveyTests : Limits → Survey → ℕ → List Float → List Test
 unfolding numberNotFinite
-surveyTests limits s m e = listTests s m e ++ (limitTests limits s m ++ (numberTests s e ++ modelTests (s .options .variogram)))
+surveyTests limits s m e = listTests s m e ++ (limitTests limits s m ++ (numberTests s e ++ variogramTests (s .options .variogram)))
 
 -- the number of the first that holds of a survey with its own nodes, and 0 where none does
 unfoldable pub surveyRefusal : Limits → Survey → ℕ

@@ -1,4 +1,4 @@
--- What turns a survey away, as the paper says it and not as tests: paper 01, "What turns a call away", 1 to 12, each from its own line.
+-- What turns a survey away, as the papers say it and not as tests: paper 01, "What turns a call away", 1 to 12, and 22 of paper 02, each from its own line.
 -- The rules come in single parts, which the calls join, so that a call can widen one number or put one in between by one line.
 -- How many nodes there are, m, and their externals, e, stand apart from the survey's own lists.
 use Prim.Native.Nat.{ℕ, _*_, _%_, _<_}
@@ -12,7 +12,7 @@ use Rattle.error.specs.Rules.{Rule, rule}
 use Rattle.ieee.specs.Floats.{zeroFloat}
 use Rattle.ieee.specs.Finite.{NotFinite, SomeNotFinite}
 use Rattle.variogram.specs.declared.Variogram.{Variogram}
-use Rattle.variogram.specs.Model.{WrongModel}
+use Rattle.variogram.specs.Model.{WrongSpot, WrongModel}
 use Rattle.survey.specs.declared.Limits.{Limits}
 use Rattle.survey.specs.Survey.{Survey, wells, columns, externals}
 
@@ -101,16 +101,23 @@ toleranceRules t = rule 10 (BadAmount t) ∷ []
 abbrev pub finiteRules : Survey → List Float → List Rule
 finiteRules s e = rule 11 (NumberNotFinite s e) ∷ []
 
+-- "22 same-spot distance not finite or below 2^-52, straight after 11"
+abbrev pub spotRules : Variogram → List Rule
+spotRules v = rule 22 (WrongSpot v) ∷ []
+
 -- "12 now means an Exponential survey whose range is not above zero, and nothing else"
 abbrev pub modelRules : Variogram → List Rule
 modelRules v = rule 12 (WrongModel v) ∷ []
 
--- ---- joined: 1 to 8, the lists; 10 and 11, the numbers; and all of them, 1 to 12
+-- ---- joined: 1 to 8, the lists; 10 and 11, the numbers; 22 and 12, the variogram; and all of them, 1 to 11, 22, 12
 abbrev pub listRules : Survey → ℕ → List Float → List Rule
 listRules s m e = coordRules s ++ (nodeRules s ++ (basisRules s ++ nodeExternalRules s m e))
 
 abbrev pub numberRules : Survey → List Float → List Rule
 numberRules s e = toleranceRules (s .tolerance) ++ finiteRules s e
 
+abbrev pub variogramRules : Variogram → List Rule
+variogramRules v = spotRules v ++ modelRules v
+
 abbrev pub surveyRules : Limits → Survey → ℕ → List Float → List Rule
-surveyRules limits s m e = listRules s m e ++ (limitRules limits s m ++ (numberRules s e ++ modelRules (s .options .variogram)))
+surveyRules limits s m e = listRules s m e ++ (limitRules limits s m ++ (numberRules s e ++ variogramRules (s .options .variogram)))
