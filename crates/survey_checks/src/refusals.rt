@@ -1,4 +1,4 @@
-// What turns a survey away, 1 to 12, in the parts that calls join.
+// What turns a survey away, 1 to 11, 22 and 12, in the parts that calls join.
 // How many nodes there are, m, and their externals stand apart from the survey's own lists.
 use crate::counts::external_columns;
 use crate::counts::is_product;
@@ -16,7 +16,8 @@ ghost use Rattle.error.specs.Numbers.{judged};
 ghost use Rattle.error.specs.Tests.{any, firstOf};
 ghost use Rattle.survey.specs.Survey.{Survey, surveyOf, wells, externals};
 ghost use Rattle.survey.specs.Refusals.{badCode, badAmount, variogramNotFinite, numberNotFinite};
-ghost use Rattle.survey.specs.Refusals.{basisTests, listTests, limitTests, numberTests, modelTests, surveyRefusal};
+ghost use Rattle.survey.specs.Refusals.{basisTests, listTests, limitTests, numberTests};
+ghost use Rattle.survey.specs.Refusals.{spotTests, modelTests, variogramTests, surveyRefusal};
 
 // 4: whether a code is outside 1 to 4.
 fn has_bad_code(bases: &[u8]) -> bool
@@ -199,6 +200,19 @@ pub fn number_refusal(
     Judgement::Accepted
 }
 
+// 22: a same-spot distance that is not finite or is below 2^-52.
+pub fn spot_refusal(v: Variogram) -> Judgement
+    ensures { λ r. ⌜ judged r ≡ firstOf (spotTests v) ⌝ }
+{
+    if !ieee::is_finite(v.same_spot) {
+        return Judgement::Refused(Refusal::SameSpot);
+    }
+    if v.same_spot < Variogram::EPSILON {
+        return Judgement::Refused(Refusal::SameSpot);
+    }
+    Judgement::Accepted
+}
+
 // 12: an Exponential model whose range is not above zero.
 pub fn model_refusal(v: Variogram) -> Judgement
     ensures { λ r. ⌜ judged r ≡ firstOf (modelTests v) ⌝ }
@@ -218,7 +232,18 @@ pub fn model_refusal(v: Variogram) -> Judgement
     }
 }
 
-// 1 to 12: the first that applies.
+// 22, and then 12: the variogram.
+pub fn variogram_refusal(v: Variogram) -> Judgement
+    ensures { λ r. ⌜ judged r ≡ firstOf (variogramTests v) ⌝ }
+{
+    let spot = spot_refusal(v);
+    if let Judgement::Refused(_) = spot {
+        return spot;
+    }
+    model_refusal(v)
+}
+
+// 1 to 11, 22 and 12: the first that applies.
 pub fn survey_refusal(
     limits: Limits,
     values: &[f64],
@@ -265,5 +290,5 @@ pub fn survey_refusal(
     if let Judgement::Refused(_) = numbers {
         return numbers;
     }
-    model_refusal(options.variogram)
+    variogram_refusal(options.variogram)
 }

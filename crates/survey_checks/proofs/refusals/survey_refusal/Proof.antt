@@ -6,7 +6,7 @@ use borrow.Author.Needs.{needs}
 use Rattle.error.specs.Tests.{Test, firstOf}
 use Rattle.error.proofs.First.{refused, accepted}
 use Rattle.survey.specs.Survey.{Survey, surveyOf, nodeCount}
-use Rattle.survey.specs.Refusals.{listTests, limitTests, numberTests, modelTests, surveyTests, surveyRefusal}
+use Rattle.survey.specs.Refusals.{listTests, limitTests, numberTests, variogramTests, surveyTests, surveyRefusal}
 use Rattle.survey_checks.proofs.refusals.survey_refusal.Statement.{statement}
 use Rattle.survey_checks.proofs.refusals.survey_refusal.Tie as tie
 
@@ -28,10 +28,10 @@ limit c = limitTests (c .args .limits) (survey c) (nodeCount (survey c))
 abbrev numbers : tie.Start → List Test
 numbers c = numberTests (survey c) (c .args .node-external .now)
 
-abbrev model : tie.Start → List Test
-model c = modelTests (c .args .options .variogram)
+abbrev variogram : tie.Start → List Test
+variogram c = variogramTests (c .args .options .variogram)
 
-parts : (c : tie.Start) → whole c ≡ firstOf (lists c ++ (limit c ++ (numbers c ++ model c)))
+parts : (c : tie.Start) → whole c ≡ firstOf (lists c ++ (limit c ++ (numbers c ++ variogram c)))
 unfolding surveyRefusal surveyTests
 parts c = refl
 
@@ -60,18 +60,18 @@ returns : tie.Need-returns
 returns c =
     let h = c .before .before in
     let s = at-lists h in
-    refused (h .list-refusal .result) _ (lists s) (limit s ++ (numbers s ++ model s)) (c .enum-told .given .1) (h .list-refusal .ensures (s .args .tolerance))
+    refused (h .list-refusal .result) _ (lists s) (limit s ++ (numbers s ++ variogram s)) (c .enum-told .given .1) (h .list-refusal .ensures (s .args .tolerance))
     ∙ sym (parts s)
 
 enum-told-2 : tie.Need-enum-told-2
 enum-told-2 c = search needs
 
-past-lists : (c : tie.After-enum-told2) → let s = at-lists (c .before .before) in whole s ≡ firstOf (limit s ++ (numbers s ++ model s))
+past-lists : (c : tie.After-enum-told2) → let s = at-lists (c .before .before) in whole s ≡ firstOf (limit s ++ (numbers s ++ variogram s))
 past-lists c =
     let h = c .before .before in
     let s = at-lists h in
     let e = h .list-refusal .ensures (s .args .tolerance) in
-    parts s ∙ accepted (h .list-refusal .result) (lists s) (limit s ++ (numbers s ++ model s)) tt (c .enum-told2 .given .1) e
+    parts s ∙ accepted (h .list-refusal .result) (lists s) (limit s ++ (numbers s ++ variogram s)) tt (c .enum-told2 .given .1) e
 
 -- let limit = limit_refusal(limits, values.len(), bases, m);
 limit-refusal-requires : tie.Need-limit-refusal-requires
@@ -85,18 +85,18 @@ returns-2 : tie.Need-returns-2
 returns-2 c =
     let h = c .before .before in
     let s = at-limit h in
-    refused (h .limit-refusal .result) _ (limit s) (numbers s ++ model s) (c .enum-told3 .given .1) (h .limit-refusal .ensures (survey s) refl refl)
+    refused (h .limit-refusal .result) _ (limit s) (numbers s ++ variogram s) (c .enum-told3 .given .1) (h .limit-refusal .ensures (survey s) refl refl)
     ∙ sym (past-lists (h .before))
 
 enum-told-4 : tie.Need-enum-told-4
 enum-told-4 c = search needs
 
-past-limit : (c : tie.After-enum-told4) → let s = at-limit (c .before .before) in whole s ≡ firstOf (numbers s ++ model s)
+past-limit : (c : tie.After-enum-told4) → let s = at-limit (c .before .before) in whole s ≡ firstOf (numbers s ++ variogram s)
 past-limit c =
     let h = c .before .before in
     let s = at-limit h in
     let e = h .limit-refusal .ensures (survey s) refl refl in
-    past-lists (h .before) ∙ accepted (h .limit-refusal .result) (limit s) (numbers s ++ model s) tt (c .enum-told4 .given .1) e
+    past-lists (h .before) ∙ accepted (h .limit-refusal .result) (limit s) (numbers s ++ variogram s) tt (c .enum-told4 .given .1) e
 
 -- let numbers = number_refusal(values, coords, bases, external, nodes, node_external, options, tolerance);
 number-refusal-requires : tie.Need-number-refusal-requires
@@ -110,22 +110,22 @@ returns-3 : tie.Need-returns-3
 returns-3 c =
     let h = c .before .before in
     let s = at-numbers h in
-    refused (h .number-refusal .result) _ (numbers s) (model s) (c .enum-told5 .given .1) (h .number-refusal .ensures) ∙ sym (past-limit (h .before))
+    refused (h .number-refusal .result) _ (numbers s) (variogram s) (c .enum-told5 .given .1) (h .number-refusal .ensures) ∙ sym (past-limit (h .before))
 
 enum-told-6 : tie.Need-enum-told-6
 enum-told-6 c = search needs
 
--- model_refusal(options.variogram)
-model-refusal-requires : tie.Need-model-refusal-requires
-model-refusal-requires c κs = search needs
+-- variogram_refusal(options.variogram)
+variogram-refusal-requires : tie.Need-variogram-refusal-requires
+variogram-refusal-requires c κs = search needs
 
 returns-4 : tie.Need-returns-4
 returns-4 c =
     let g = c .before in
     let h = g .before .before in
     let s = at-numbers h in
-    c .model-refusal .ensures
-    ∙ sym (past-limit (h .before) ∙ accepted (h .number-refusal .result) (numbers s) (model s) tt (g .enum-told6 .given .1) (h .number-refusal .ensures))
+    c .variogram-refusal .ensures
+    ∙ sym (past-limit (h .before) ∙ accepted (h .number-refusal .result) (numbers s) (variogram s) tt (g .enum-told6 .given .1) (h .number-refusal .ensures))
 
 pub survey-refusal-spec : {M : Type 1} → statement M
 survey-refusal-spec =
@@ -143,5 +143,5 @@ survey-refusal-spec =
     enum-told-5
     returns-3
     enum-told-6
-    model-refusal-requires
+    variogram-refusal-requires
     returns-4)
