@@ -7,15 +7,18 @@ use mathlib.Core.Bool.{true}
 use mathlib.Core.List.{[], _∷_}
 use lib.Dec.{T}
 use lib.ListN.{length, getD}
-use lib.Ieee.{nan}
+use lib.Ieee.{nan, lt}
 use lib.Ieee.Scale.{finite}
 use Rattle.area.proofs.Kept.{kept-same}
 use Rattle.area.proofs.Start.{kept-start}
 use Rattle.error.specs.Rules.{NoneApplies, Condition, Lowest, First, Told, no-more, tells, numbersOf}
 use Rattle.error.proofs.Tells.{stable, equal}
-use Rattle.error.proofs.Rules.{joined, no-condition, lowest-wins, first-wins}
+use Rattle.error.proofs.Rules.{joined, no-condition, first-wins}
+use Rattle.error.proofs.Lowest.{lowest-but}
 use Rattle.error.proofs.Short.{short-told, areaAt, long-at}
+use Rattle.ieee.specs.Floats.{zeroFloat}
 use Rattle.ieee.proofs.FiniteLists.{is-finite}
+use Rattle.variogram.proofs.Spot.{spot-taken}
 use Rattle.elimination.specs.Call.{Ends}
 use Rattle.elimination.proofs.Call.{work-told, kept-work, ends, whichever}
 use Rattle.survey.specs.declared.Limits.{Limits}
@@ -51,7 +54,7 @@ module _ (limits : Limits) (s : Survey) (a : Areas) where
   fit-ends = ends (tests limits s a) (rules limits s a) (fitCall limits s a) refl told tt tt long
 
   -- the order in which its numbers count, in full
-  pub order : numbersOf (rules limits s a) ≡ 1 ∷ 2 ∷ 3 ∷ 4 ∷ 5 ∷ 6 ∷ 7 ∷ 8 ∷ 9 ∷ 10 ∷ 11 ∷ 12 ∷ 17 ∷ 18 ∷ []
+  pub order : numbersOf (rules limits s a) ≡ 1 ∷ 2 ∷ 3 ∷ 4 ∷ 5 ∷ 6 ∷ 7 ∷ 8 ∷ 9 ∷ 10 ∷ 11 ∷ 22 ∷ 12 ∷ 17 ∷ 18 ∷ []
   order = refl
 
   -- a number is given exactly where its condition holds and no rule before its own applies
@@ -59,10 +62,10 @@ module _ (limits : Limits) (s : Survey) (a : Areas) where
   unfolding refusal
   first-in-a-fit = first-wins told tt tt
 
-  -- "The lowest applying number wins in a fit."
-  pub lowest-in-a-fit : (k : ℕ) → ((refusal limits s a ≡ k) × (k ≢ 0)) ↔ Lowest (rules limits s a) k
+  -- "The lowest applying number wins in a fit.": where 22, which comes "straight after 11", does not apply
+  pub lowest-but-22 : ¬ Condition (rules limits s a) 22 → (k : ℕ) → ((refusal limits s a ≡ k) × (k ≢ 0)) ↔ Lowest (rules limits s a) k
   unfolding refusal
-  lowest-in-a-fit = lowest-wins told tt
+  lowest-but-22 = lowest-but told 22 tt tt
 
   -- "and all past the named lengths is untouched": however the fit ends
   pub untouched : Untouched s a (fitted limits s a .areas)
@@ -106,6 +109,10 @@ module _ (limits : Limits) (s : Survey) (a : Areas) (none : NoneApplies (rules l
   pub finite-coords : (k : ℕ) → k < length (s .coords) → T (finite (getD (s .coords) k nan))
   finite-coords k l =
       is-finite (getD (s .coords) k nan) (λ n. no-condition (rules limits s a) none 11 (inr (inr (inl (record { place = k; inside = l; is = n })))))
+
+  -- "Errors: 22", past it: the same-spot distance is above zero
+  pub spot-above-zero : lt zeroFloat (s .options .variogram .«same_spot») ≡ true
+  spot-above-zero = spot-taken (s .options .variogram) (no-condition (rules limits s a) none 22)
 
   pub coords-length : length (s .coords) ≡ 2 * wells s
   coords-length = stable (equal (length (s .coords)) (2 * wells s)) (no-condition (rules limits s a) none 1)

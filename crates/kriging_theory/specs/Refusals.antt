@@ -12,7 +12,7 @@ use Rattle.kriging_theory.specs.Areas.{Areas, answerAreas}
 abbrev pub answerTests : Survey → Areas → List Test
 answerTests s a = test 18 (tooShort (answerAreas s a)) ∷ []
 
--- 1 to 12, 17, 18
+-- 1 to 11, 22, 12, 17, 18
 unfoldable pub tests : Limits → Survey → Areas → List Test
 unfolding surveyTests
 tests limits s a = surveyTests limits s (nodeCount s) (s .nodeExternal) ++ (workTests (size s) (a .work) ++ answerTests s a)

@@ -3,6 +3,7 @@ use Prim.Native.Nat.{ℕ, zero, suc, _+_, _*_, _/_, _%_, _^_, _≤_, _<_}
 use native.Mathlib.Nat.{mul-pos, zero-mul, zero-lt-suc}
 use native.Mathlib.Omega.{arith}
 use mathlib.Core.Path.{_≡_, refl, ap, sym, subst, _∙_}
+use mathlib.Core.Logic.{inl, inr}
 use mathlib.Core.Bool.{Bool, true, false, not, _||_}
 use borrow.Author.Tests.{ltb-false, lt-ltb, le-ltb}
 use lib.IntN.{ℤ}
@@ -11,6 +12,7 @@ use lib.Ieee.{Float, nan, inf, fin, binary64, up, down, lt, ofBits}
 use lib.Ieee.Fits.{up-pos, down-pos}
 use lib.Ieee.Scale.{finite}
 use Rattle.ieee.specs.Floats.{zeroFloat, epsilon}
+use Rattle.ieee.proofs.FiniteLists.{is-finite}
 use Rattle.ieee.proofs.Steps.{pattern-rises}
 use Rattle.exponential.specs.Exponential.{expNeg}
 use Rattle.variogram.specs.declared.Variogram.{Variogram}
@@ -32,6 +34,13 @@ above-zero (fin false zero e) f h =
 above-zero (fin false (suc m) e) f h =
     let some : 0 < suc m * up e = mul-pos (zero-lt-suc m) (up-pos e) in
     lt-ltb (0 * down e) (suc m * up e * 1) (omega (arith, zero-mul (down e)))
+
+pub spot-taken : (v : Variogram) → ¬ WrongSpot v → lt zeroFloat (v .«same_spot») ≡ true
+spot-taken v n = above-zero (v .«same_spot») (is-finite (v .«same_spot») (λ x. n (inl x))) (not-true (lt (v .«same_spot») epsilon) (λ x. n (inr x)))
+  where
+    not-true : (b : Bool) → ¬ (b ≡ true) → b ≡ false
+    not-true true f = absurd (f refl)
+    not-true false f = refl
 
 -- ---- one step
 not-below-itself : (x : Float) → lt x x ≡ false
