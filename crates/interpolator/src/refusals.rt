@@ -1,4 +1,4 @@
-// What turns a call of the interpolator away before it eliminates: 13, 1, 2, 9, 11, 12, 17, 18, in this order.
+// What turns a call of the interpolator away before it eliminates: 13, 1, 2, 9, 11, 22, 12, 17, 18, in this order.
 use crate::KrigingInterpolator;
 use crate::trend::trend_terms;
 use error::Judgement;
@@ -99,9 +99,9 @@ pub(crate) fn interpolation_refusal(
     if number_not_finite(interpolator.variogram, values, points, targets) {
         return Judgement::Refused(Refusal::NotFinite);
     }
-    let model = survey_checks::refusals::model_refusal(interpolator.variogram);
-    if let Judgement::Refused(_) = model {
-        return model;
+    let variogram = survey_checks::refusals::variogram_refusal(interpolator.variogram);
+    if let Judgement::Refused(_) = variogram {
+        return variogram;
     }
     let size = n + trend_terms(kriging_type);
     if elimination::too_short(work.len(), size) {

@@ -7,15 +7,17 @@ use mathlib.Core.Bool.{true}
 use mathlib.Core.Logic.{inl, inr}
 use lib.Dec.{T}
 use lib.ListN.{length, getD}
-use lib.Ieee.{nan}
+use lib.Ieee.{nan, lt}
 use lib.Ieee.Scale.{finite}
 use Rattle.error.specs.Rules.{NoneApplies, Condition}
 use Rattle.error.proofs.Tells.{stable, both, equal, at-most}
 use Rattle.error.proofs.Short.{long-at}
 use Rattle.error.proofs.Rules.{no-condition}
+use Rattle.ieee.specs.Floats.{zeroFloat}
 use Rattle.ieee.proofs.FiniteLists.{is-finite}
 use Rattle.variogram.specs.Distance.{offered}
 use Rattle.variogram.proofs.Distance.{is-offered}
+use Rattle.variogram.proofs.Spot.{spot-taken}
 use Rattle.survey.specs.declared.Limits.{Limits}
 use Rattle.interpolator_theory.specs.declared.KrigingType.the-variants.{Universal}
 use Rattle.interpolator_theory.specs.Call.{Query, Areas, answerAreas, wells, nodeCount, size}
@@ -28,6 +30,7 @@ pub record Accepted (q : Query) (a : Areas) : Type 0 where
   pub points : length (q .points) ≡ wells q * q .dimension
   pub targets : length (q .targets) ≡ nodeCount q * q .dimension
   pub coordinates : (k : ℕ) → k < length (q .points) → T (finite (getD (q .points) k nan))
+  pub spot : lt zeroFloat (q .variogram .«same_spot») ≡ true
   pub work : 2 * size q * size q ≤ length (a .work)
   pub figures : nodeCount q ≤ length (a .figures)
   pub variances : nodeCount q ≤ length (a .variances)
@@ -46,6 +49,7 @@ accepted limits q a none =
           let f = div-add-mod' (length (q .targets)) (q .dimension) in
           omega arith;
       coordinates = λ k l. is-finite (getD (q .points) k nan) (λ x. no-rule 11 (inr (inr (inl record { place = k; inside = l; is = x }))));
+      spot = spot-taken (q .variogram) (no-rule 22);
       work = let h : ¬ (length (a .work) < 2 * size q * size q) = no-rule 17 in omega arith;
       figures = long-at (answerAreas q a) (no-rule 18) 0;
       variances = long-at (answerAreas q a) (no-rule 18) 1;

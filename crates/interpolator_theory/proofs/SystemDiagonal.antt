@@ -34,5 +34,5 @@ diagonal limits q a none f i h =
     own-entry q i h
     ∙ ap (λ (x : Float). sub binary64 (v .sill) (semivariance v x))
     (distance-itself (q .points) i d (k .dimension) (λ c b. k .coordinates (i * d + c) (omega (arith, row-end d i (wells q) h))))
-    ∙ ap (λ (x : Float). sub binary64 (v .sill) x) (variogram-itself v)
+    ∙ ap (λ (x : Float). sub binary64 (v .sill) x) (variogram-itself v (k .spot))
     ∙ less-zero (v .sill) f

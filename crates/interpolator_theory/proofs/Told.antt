@@ -13,7 +13,7 @@ use Rattle.error.proofs.Rules.{joined}
 use Rattle.elimination.proofs.Call.{work-told}
 use Rattle.survey.specs.declared.Limits.{Limits}
 use Rattle.survey.specs.Limits.{base}
-use Rattle.survey.proofs.Told.{variogram-told, model-told}
+use Rattle.survey.proofs.Told.{variogram-told, variogram-rules-told}
 use Rattle.interpolator_theory.specs.declared.KrigingType.{KrigingType}
 use Rattle.interpolator_theory.specs.declared.KrigingType.the-variants.{Ordinary, Universal}
 use Rattle.interpolator_theory.specs.Call.{Query, Areas, answerAreas, wells, nodeCount, size}
@@ -41,12 +41,12 @@ all-told limits q a =
     (tells 2 (different (length (q .targets) % q .dimension) 0)
     (tells 9 (either (below (limits .wells) (wells q)) (below (limits .nodes) (nodeCount q)))
     (tells 11 (numbers-told q)
-    (joined (model-told (q .variogram))
+    (joined (variogram-rules-told (q .variogram))
     (joined (work-told (size q) (a .work))
     (tells 18 (short-told (answerAreas q a)) no-more)))))))
 
 -- the order in which its numbers count, in full
-pub order : (limits : Limits) (q : Query) (a : Areas) → numbersOf (rules limits q a) ≡ 13 ∷ 1 ∷ 2 ∷ 9 ∷ 11 ∷ 12 ∷ 17 ∷ 18 ∷ []
+pub order : (limits : Limits) (q : Query) (a : Areas) → numbersOf (rules limits q a) ≡ 13 ∷ 1 ∷ 2 ∷ 9 ∷ 11 ∷ 22 ∷ 12 ∷ 17 ∷ 18 ∷ []
 order limits q a = refl
 
 -- "9 n > 48 .. or m > 100": by the limits of the base

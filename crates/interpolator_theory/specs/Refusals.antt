@@ -10,7 +10,7 @@ use Rattle.ieee.specs.Finite.{allFinite}
 use Rattle.variogram.specs.Distance.{offered}
 use Rattle.elimination.specs.Call.{workTests}
 use Rattle.survey.specs.declared.Limits.{Limits}
-use Rattle.survey.specs.Refusals.{differ, variogramNotFinite, modelTests}
+use Rattle.survey.specs.Refusals.{differ, variogramNotFinite, variogramTests}
 use Rattle.interpolator_theory.specs.declared.KrigingType.{KrigingType}
 use Rattle.interpolator_theory.specs.declared.KrigingType.the-variants.{Ordinary, Universal}
 use Rattle.interpolator_theory.specs.Call.{Query, Areas, answerAreas, wells, nodeCount, size}
@@ -48,7 +48,7 @@ tests limits q a =
     ∷ test 2 (wrongTargets q)
     ∷ test 9 (tooMany limits q)
     ∷ test 11 (numberNotFinite q)
-    ∷ (modelTests (q .variogram)
+    ∷ (variogramTests (q .variogram)
     ++ (workTests (size q) (a .work)
     ++ (test 18 (tooShort (answerAreas q a))
     ∷ [])))

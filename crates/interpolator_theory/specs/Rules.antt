@@ -10,7 +10,7 @@ use Rattle.error.specs.Short.{TooShort}
 use Rattle.ieee.specs.Finite.{SomeNotFinite}
 use Rattle.elimination.specs.Call.{workRules}
 use Rattle.survey.specs.declared.Limits.{Limits}
-use Rattle.survey.specs.Rules.{VariogramNotFinite, modelRules}
+use Rattle.survey.specs.Rules.{VariogramNotFinite, variogramRules}
 use Rattle.interpolator_theory.specs.declared.KrigingType.the-variants.{Universal}
 use Rattle.interpolator_theory.specs.Call.{Query, Areas, answerAreas, wells, nodeCount, size}
 
@@ -34,8 +34,8 @@ TooMany limits q = (limits .wells < wells q) ⊎ (limits .nodes < nodeCount q)
 abbrev pub NumberNotFinite : Query → Type 0
 NumberNotFinite q = VariogramNotFinite (q .variogram) ⊎ SomeNotFinite (q .values) ⊎ SomeNotFinite (q .points) ⊎ SomeNotFinite (q .targets)
 
--- "Interpolator: 13, 1, 2, 9, 11, 12, 17, 18, 19": all but 19, which is the elimination's.
--- 12 is that of every call that takes a model, 17 that of every call that eliminates.
+-- "Interpolator: 13, 1, 2, 9, 11, 12, 17, 18, 19": all but 19, which is the elimination's; and 22, "straight after 11".
+-- 22 and 12 are those of every call that takes a variogram, 17 that of every call that eliminates.
 abbrev pub rules : Limits → Query → Areas → List Rule
 rules limits q a =
     rule 13 (WrongDimension q)
@@ -43,7 +43,7 @@ rules limits q a =
     ∷ rule 2 (WrongTargets q)
     ∷ rule 9 (TooMany limits q)
     ∷ rule 11 (NumberNotFinite q)
-    ∷ (modelRules (q .variogram)
+    ∷ (variogramRules (q .variogram)
     ++ (workRules (size q) (a .work)
     ++ (rule 18 (TooShort (answerAreas q a))
     ∷ [])))

@@ -1,12 +1,14 @@
 -- The lists of a survey in the row of its numbers: how many these are, and that each list is cut out again at its place.
 use Prim.Native.Nat.{ℕ, _+_, _*_}
 use native.Mathlib.Omega.{arith}
-use mathlib.Core.Path.{_≡_, refl, ap, _∙_}
+use mathlib.Core.Path.{_≡_, refl, ap, sym, _∙_}
 use mathlib.Core.List.{List, [], _∷_, _++_, append-assoc}
 use lib.ListN.{length, take, length-append}
 use lib.Seq.{take-at, drop-at, take-all}
 use lib.Ieee.{Float}
 use Rattle.area.specs.Area.{part}
+use Rattle.ieee.specs.Floats.{epsilon}
+use Rattle.variogram.specs.Model.{withSameSpot}
 use Rattle.survey.specs.Survey.{Survey, wells, nodeCount, externals}
 use Rattle.survey_file_theory.specs.Contents.{nodeExternals, numbers, numberCount, withoutIgnored, Lists}
 use Rattle.survey_file_theory.specs.Reader.{surveyFrom}
@@ -103,10 +105,10 @@ module _ (s : Survey) (l : Lists s) where
       (nodeExternalFrom s) (externals s * nodeCount s) before-last (l .nodeExternal)
 
   -- the survey again, from its numbers
-  pub survey-back :
+  pub survey-back : s .options .variogram .«same_spot» ≡ epsilon →
       surveyFrom (s .options .variogram .model) (wells s) (nodeCount s) (externals s) (numbers s) (s .bases) ≡ withoutIgnored s
   unfolding numbers
-  survey-back = λ i.
+  survey-back spot = λ i.
       record {
         values = values-back i;
         coords = coords-back i;
@@ -114,6 +116,6 @@ module _ (s : Survey) (l : Lists s) where
         external = external-back i;
         nodes = nodes-back i;
         nodeExternal = nodeExternal-back i;
-        options = s .options;
+        options = record { variogram = withSameSpot (s .options .variogram) (sym spot i); regularization = s .options .regularization };
         tolerance = s .tolerance;
       }

@@ -228,7 +228,7 @@ module _ (v : ℕ) (note : List ℕ) (s : Survey) (f : Filable s) (bytes : List 
       fields
       ∙ ap (λ (xs : List Float). surveyFrom (modelOf (modelNumber model)) n m k xs (s .bases)) numbers-there
       ∙ ap (λ (x : VariogramModel). surveyFrom x n m k (numbers s) (s .bases)) (model-back model)
-      ∙ survey-back s (f .lists)
+      ∙ survey-back s (f .lists) (f .spot)
 
 -- ---- a file reads as its survey, whatever its note is
 -- the counts in bytes are those of a survey

@@ -11,9 +11,9 @@ use lib.Dec.{T, eqb, eqb·suc-zero}
 use lib.ListN.{length, take, drop}
 use lib.Seq.{take-append-seam, drop-append-seam}
 use lib.Ieee.{Float}
-use Rattle.ieee.specs.Bytes.{allFit}
+use Rattle.variogram.proofs.Spot.{is-epsilon}
 use Rattle.survey.specs.Survey.{Survey, wells, nodeCount, externals}
-use Rattle.survey_file_theory.specs.Contents.{numbers, withoutIgnored, Filable}
+use Rattle.survey_file_theory.specs.Contents.{withoutIgnored, EachF64, Filable}
 use Rattle.survey_file_theory.specs.File.{fileOf, writerFile}
 use Rattle.survey_file_theory.specs.Areas.{Areas, filledWith, Holds}
 use Rattle.survey_file_theory.specs.Rules.{WellFormed, ListsFit, Writable}
@@ -31,16 +31,17 @@ node-externals : (k m : ℕ) (xs : List Float) → (0 < k → length xs ≡ k * 
 node-externals zero m xs h = sym (zero-mul m)
 node-externals (suc k) m xs h = rw (eqb·suc-zero k) (h (omega arith))
 
-filable : (v : ℕ) (s : Survey) (area : List ℕ) → T (allFit (numbers s)) → Writable v s area → Filable s
+filable : (v : ℕ) (s : Survey) (area : List ℕ) → EachF64 s → Writable v s area → Filable s
 filable v s area fit w =
     record {
-      fit = fit;
+      fit = fit .numbers;
       lists = record {
         coords = w .coords;
         external = w .external;
         nodes = let e = w .nodes in omega arith;
         nodeExternal = node-externals (externals s) (nodeCount s) (s .nodeExternal) (w .nodeExternal);
       };
+      spot = is-epsilon (s .options .variogram .«same_spot») (fit .spot) (w .spot);
       few-wells = w .few-wells;
       few-nodes = w .few-nodes;
       few-bases = w .few-bases;
@@ -84,7 +85,7 @@ module _ (v : ℕ) (s : Survey) (area : List ℕ) (count : ℕ) (said : writer v
   past-untouched = wrote .rest
 
   -- Node externals that are ignored, k = 0, are not written. Every other number comes back with its bits, -0 with its sign, and so do model and codes.
-  pub round-trip : T (allFit (numbers s)) → readBytes v (take count (writer v s area .area)) ≡ some (withoutIgnored s)
+  pub round-trip : EachF64 s → readBytes v (take count (writer v s area .area)) ≡ some (withoutIgnored s)
   unfolding writerFile
   round-trip fit =
       let w = wrote in
@@ -109,7 +110,7 @@ nothing-ignored s h = λ i.
       tolerance = s .tolerance;
     }
 
-pub round-trip-whole : (v : ℕ) (s : Survey) (area : List ℕ) (count : ℕ) → writer v s area .count ≡ some count → T (allFit (numbers s))
+pub round-trip-whole : (v : ℕ) (s : Survey) (area : List ℕ) (count : ℕ) → writer v s area .count ≡ some count → EachF64 s
     → (0 < externals s) ⊎ (s .nodeExternal ≡ []) → readBytes v (take count (writer v s area .area)) ≡ some s
 round-trip-whole v s area count e fit h = round-trip v s area count e fit ∙ ap {B = Option Survey} some (nothing-ignored s h)
 
@@ -130,7 +131,7 @@ reading-back v s bytes areas w c e h =
     reader-reads v bytes areas w room
     ∙ λ i. record { number = 0; header = some (headerOf (c .wells i) (c .nodes i) (c .bases i) (e i)); areas = filledWith (e i) areas }
 
-pub round-trip-call : (v : ℕ) (s : Survey) (area : List ℕ) (count : ℕ) → writer v s area .count ≡ some count → T (allFit (numbers s))
+pub round-trip-call : (v : ℕ) (s : Survey) (area : List ℕ) (count : ℕ) → writer v s area .count ≡ some count → EachF64 s
     → (areas : Areas) → Holds s areas → reader v (take count (writer v s area .area)) areas ≡ answerOf s areas
 unfolding writerFile
 round-trip-call v s area count e fit areas h =

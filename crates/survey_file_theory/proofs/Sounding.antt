@@ -5,9 +5,9 @@ use mathlib.Core.Bool.{false}
 use mathlib.Core.List.{List, [], _∷_, _++_}
 use mathlib.Core.Option.{none, some}
 use lib.ListN.{length, drop, replicate}
-use lib.Ieee.{Float, nan, inf, binary64, ofBits}
+use lib.Ieee.{Float, nan, inf, binary64, eq, ofBits}
 use Rattle.ieee.specs.Floats.{zeroFloat, oneFloat}
-use Rattle.variogram.specs.Model.{variogram}
+use Rattle.variogram.specs.Model.{variogram, withSameSpot}
 use Rattle.variogram.specs.declared.VariogramModel.{VariogramModel}
 use Rattle.variogram.specs.declared.VariogramModel.the-variants.{Spherical, Gaussian, Linear}
 use Rattle.survey.specs.Survey.{Survey}
@@ -37,7 +37,7 @@ pub sounding-A-file :
     × (writer baseVersion soundingA (replicate 95 7) ≡ record { number = 0; count = some 95; area = file })
     × (writer baseVersion soundingA (replicate 94 7) ≡ record { number = 18; count = none; area = replicate 94 7 })
     × (readBytes baseVersion file ≡ some soundingA)
-unfolding writerFile writer readBytes ofBits
+unfolding writerFile writer readBytes eq ofBits
 sounding-A-file = (refl, refl, refl, refl, refl)
 
 -- a survey of no wells and no nodes
@@ -82,5 +82,38 @@ pub writer-edges : (writer baseVersion (bare Gaussian zeroFloat zeroFloat [] (na
     × (writer baseVersion (bare Gaussian zeroFloat zeroFloat [] (nan ∷ []) (4 ∷ [])) (replicate 55 0) .number ≡ 8)
     × (writer baseVersion (bare Gaussian zeroFloat (inf false) [] [] []) (replicate 55 0) .number ≡ 11)
     × (writer baseVersion (bare Gaussian zeroFloat (inf false) (nan ∷ []) [] []) (replicate 55 0) .number ≡ 1)
-unfolding writer ofBits
+unfolding writer eq ofBits
 writer-edges = (refl, refl, refl, refl)
+
+-- a survey of one code alone, with a same-spot distance and an r
+abbrev pub spottedBare : Float → Float → Survey
+spottedBare spot r =
+    record {
+      values = [];
+      coords = [];
+      bases = 1 ∷ [];
+      external = [];
+      nodes = [];
+      nodeExternal = [];
+      options = record { variogram = withSameSpot (variogram Linear zeroFloat oneFloat oneFloat) spot; regularization = r };
+      tolerance = zeroFloat;
+    }
+
+-- how the writer's call ends, with so many bytes lent
+abbrev pub spotNumber : Float → Float → ℕ → ℕ
+unfolding writer
+spotNumber spot r room = writer baseVersion (spottedBare spot r) (replicate room 0) .number
+
+-- 22, with 55 bytes lent unless said: 1.0, the f64 just above 2^-52, the one just below and a NaN are refused; with r not finite 11 comes first; with
+-- no room 22 comes first; the f64 2^-52 itself, by its bits, is written
+pub writer-spots :
+    (spotNumber oneFloat zeroFloat 55 ≡ 22)
+    × (spotNumber (ofBits binary64 0x3cb0_0000_0000_0001) zeroFloat 55 ≡ 22)
+    × (spotNumber (ofBits binary64 0x3caf_ffff_ffff_ffff) zeroFloat 55 ≡ 22)
+    × (spotNumber nan zeroFloat 55 ≡ 22)
+    × (spotNumber oneFloat (inf false) 55 ≡ 11)
+    × (spotNumber oneFloat zeroFloat 0 ≡ 22)
+    × (spotNumber (ofBits binary64 0x3cb0_0000_0000_0000) zeroFloat 55 ≡ 0)
+    × (spotNumber (ofBits binary64 0x3cb0_0000_0000_0000) zeroFloat 0 ≡ 18)
+unfolding writer eq ofBits
+writer-spots = (refl, refl, refl, refl, refl, refl, refl, refl)

@@ -5,14 +5,17 @@ use mathlib.Core.Path.{_≡_, refl, ap, sym, _∙_, subst}
 use mathlib.Core.Logic.{_↔_, _≢_, inl, inr}
 use mathlib.Core.List.{List}
 use mathlib.Core.Option.{none}
+use lib.Dec.{T}
 use lib.ListN.{length}
+use lib.Ieee.{eq}
+use Rattle.ieee.specs.Floats.{epsilon}
 use Rattle.area.proofs.Start.{copied-is}
 use Rattle.error.specs.Rules.{Ruled, NoneApplies, Condition}
-use Rattle.error.proofs.Tells.{stable, equal}
+use Rattle.error.proofs.Tells.{stable, passes, equal}
 use Rattle.error.proofs.Rules.{ruled-exactly, none-exactly, no-condition}
 use Rattle.survey.specs.Survey.{Survey, wells, nodeCount, externals}
 use Rattle.survey_file_theory.specs.File.{writerFile}
-use Rattle.survey_file_theory.specs.Rules.{TooLong, Writable, writerRules}
+use Rattle.survey_file_theory.specs.Rules.{OtherSpot, TooLong, Writable, writerRules}
 use Rattle.survey_file_theory.specs.Refusals.{writerRefusal}
 use Rattle.survey_file_theory.specs.Writer.{callWhere, writer, Writes, Ends}
 use Rattle.survey_file_theory.proofs.Told.{writer-told}
@@ -41,6 +44,9 @@ module _ (version : ℕ) (s : Survey) (area : List ℕ) where
       (λ e. n .0 (sym number-is ∙ e), λ x. number-is ∙ n .1 x)
 
   -- ---- 0: the survey can be written
+  same-spot : ¬ OtherSpot s → T (eq (s .options .variogram .«same_spot») epsilon)
+  same-spot = stable (passes (eq (s .options .variogram .«same_spot») epsilon))
+
   writable : NoneApplies (writerRules version s area) → Writable version s area
   writable n =
       let not : (k : ℕ) → ¬ Condition (writerRules version s area) k = no-condition (writerRules version s area) n in
@@ -56,6 +62,7 @@ module _ (version : ℕ) (s : Survey) (area : List ℕ) where
         external = stable (equal (length (s .external)) (k * wells s)) (not 6);
         nodeExternal = λ l. stable (equal (length (s .nodeExternal)) (k * nodeCount s)) (λ x. not 8 (l, x));
         finite = finite-exactly s .1 (not 11);
+        spot = same-spot (not 22);
         size = omega arith;
         few-wells = omega arith;
         few-nodes = omega arith;
@@ -76,7 +83,10 @@ module _ (version : ℕ) (s : Survey) (area : List ℕ) where
       λ x. x (w .nodes),
       (
         λ x. x (w .external),
-        (λ x. x .1 (w .nodeExternal (x .0)), (finite-exactly s .0 (w .finite), (not-long w, (λ x. let l = w .room in omega arith, tt)))),
+        (
+          λ x. x .1 (w .nodeExternal (x .0)),
+          (finite-exactly s .0 (w .finite), (λ x. x (w .spot), (not-long w, (λ x. let l = w .room in omega arith, tt)))),
+        ),
       ),
     ),
   )

@@ -5,7 +5,8 @@ use mathlib.Core.Bool.{cond}
 use mathlib.Core.List.{List, [], _∷_, _++_}
 use lib.Dec.{T, eqb}
 use lib.ListN.{length}
-use lib.Ieee.{Float}
+use lib.Ieee.{Float, binary64, fits}
+use Rattle.ieee.specs.Floats.{epsilon}
 use Rattle.ieee.specs.Bytes.{allFit}
 use Rattle.survey.specs.Survey.{Survey, wells, nodeCount, externals}
 
@@ -48,10 +49,16 @@ pub record Lists (s : Survey) : Type 0 where
   pub nodes : length (s .nodes) ≡ 2 * nodeCount s
   pub nodeExternal : length (nodeExternals s) ≡ externals s * nodeCount s
 
--- what a survey must be to have a file: f64 in lists of the lengths that its counts say, and counts of two bytes
+-- every number of a survey is an f64, the same-spot distance too
+pub record EachF64 (s : Survey) : Type 0 where
+  pub numbers : T (allFit (numbers s))
+  pub spot : T (fits binary64 (s .options .variogram .«same_spot»))
+
+-- what a survey must be to have a file: f64 in lists of the lengths that its counts say, "2^-52" as the same-spot distance, and counts of two bytes
 pub record Filable (s : Survey) : Type 0 where
   pub fit : T (allFit (numbers s))
   pub lists : Lists s
+  pub spot : s .options .variogram .«same_spot» ≡ epsilon
   pub few-wells : wells s ≤ 65535
   pub few-nodes : nodeCount s ≤ 65535
   pub few-bases : length (s .bases) ≤ 65535

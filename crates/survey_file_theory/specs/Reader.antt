@@ -32,7 +32,8 @@ modelOf (suc (suc zero)) = Exponential
 modelOf (suc (suc (suc zero))) = Gaussian
 modelOf (suc (suc (suc (suc number)))) = Linear
 
--- "the body from byte S": the numbers of n wells, m nodes and k external columns, and the codes
+-- "the body from byte S": the numbers of n wells, m nodes and k external columns, and the codes. "Survey files don't carry" the same-spot distance "and
+-- take 2^-52", which is what `variogram` has
 abbrev pub surveyFrom : VariogramModel → ℕ → ℕ → ℕ → List Float → List ℕ → Survey
 surveyFrom model n m k xs codes =
     record {

@@ -4,7 +4,9 @@ use mathlib.Core.Bool.{Bool, not, _||_}
 use mathlib.Core.List.{List, [], _∷_}
 use lib.Dec.{eqb, ltb}
 use lib.ListN.{length}
+use lib.Ieee.{eq}
 use lib.Ieee.Scale.{finite}
+use Rattle.ieee.specs.Floats.{epsilon}
 use Rattle.error.specs.Tests.{Test, test, firstOf}
 use Rattle.error.specs.Short.{tooShort}
 use Rattle.survey.specs.Survey.{Survey, wells, nodeCount}
@@ -32,6 +34,10 @@ unfoldable pub someNumberNotFinite : Survey → Bool
 unfolding numberNotFinite
 someNumberNotFinite s = numberNotFinite s (s .nodeExternal) || (not (finite (s .options .regularization)) || not (finite (s .tolerance)))
 
+-- 22: "Survey files don't carry it and take 2^-52; a writer handed any other refuses by 22"
+abbrev pub otherSpot : Survey → Bool
+otherSpot s = not (eq (s .options .variogram .«same_spot») epsilon)
+
 -- 16: "over 65,536 bytes or a count over 65,535"
 abbrev pub tooLong : ℕ → Survey → Bool
 tooLong version s =
@@ -42,7 +48,7 @@ tooLong version s =
 abbrev pub shortFile : ℕ → Survey → List ℕ → Bool
 shortFile version s area = ltb (length area) (length (writerFile version s))
 
--- "1, 2, 6, 8, 11 (r and t included), 16 (over 65,536 bytes or a count over 65,535), 18, in that order"
+-- "1, 2, 6, 8, 11 (r and t included), 16 (over 65,536 bytes or a count over 65,535), 18, in that order", and 22 "straight after 11"
 abbrev pub writerTests : ℕ → Survey → List ℕ → List Test
 writerTests version s area =
     test 1 (wrongCoords s)
@@ -50,6 +56,7 @@ writerTests version s area =
     ∷ test 6 (wrongExternal s)
     ∷ test 8 (wrongNodeExternal s (nodeCount s) (s .nodeExternal))
     ∷ test 11 (someNumberNotFinite s)
+    ∷ test 22 (otherSpot s)
     ∷ test 16 (tooLong version s)
     ∷ test 18 (shortFile version s area)
     ∷ []

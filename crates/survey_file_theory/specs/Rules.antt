@@ -5,6 +5,8 @@ use mathlib.Core.Logic.{_≢_, _⊎_}
 use mathlib.Core.List.{List, [], _∷_}
 use lib.Dec.{T}
 use lib.ListN.{length}
+use lib.Ieee.{eq}
+use Rattle.ieee.specs.Floats.{epsilon}
 use Rattle.error.specs.Rules.{Rule, rule}
 use Rattle.error.specs.Short.{TooShort}
 use Rattle.ieee.specs.Finite.{NotFinite, allFinite}
@@ -65,6 +67,10 @@ readerRules version bytes areas = rule 16 (Malformed version bytes) ∷ rule 18 
 abbrev pub SomeNumberNotFinite : Survey → Type 0
 SomeNumberNotFinite s = NumberNotFinite s (s .nodeExternal) ⊎ NotFinite (s .options .regularization) ⊎ NotFinite (s .tolerance)
 
+-- 22: "Survey files don't carry it and take 2^-52; a writer handed any other refuses by 22"
+abbrev pub OtherSpot : Survey → Type 0
+OtherSpot s = ¬ T (eq (s .options .variogram .«same_spot») epsilon)
+
 -- 16: "over 65,536 bytes or a count over 65,535"
 abbrev pub TooLong : ℕ → Survey → Type 0
 TooLong version s = (65536 < length (writerFile version s)) ⊎ (65535 < wells s) ⊎ (65535 < nodeCount s) ⊎ (65535 < length (s .bases))
@@ -73,7 +79,7 @@ TooLong version s = (65536 < length (writerFile version s)) ⊎ (65535 < wells s
 abbrev pub ShortFile : ℕ → Survey → List ℕ → Type 0
 ShortFile version s area = length area < length (writerFile version s)
 
--- "refuses by 1, 2, 6, 8, 11 (r and t included), 16 (over 65,536 bytes or a count over 65,535), 18, in that order"
+-- "refuses by 1, 2, 6, 8, 11 (r and t included), 16 (over 65,536 bytes or a count over 65,535), 18, in that order", and by 22 "straight after 11"
 abbrev pub writerRules : ℕ → Survey → List ℕ → List Rule
 writerRules version s area =
     rule 1 (WrongCoords s)
@@ -81,6 +87,7 @@ writerRules version s area =
     ∷ rule 6 (WrongExternal s)
     ∷ rule 8 (WrongNodeExternal s (nodeCount s) (s .nodeExternal))
     ∷ rule 11 (SomeNumberNotFinite s)
+    ∷ rule 22 (OtherSpot s)
     ∷ rule 16 (TooLong version s)
     ∷ rule 18 (ShortFile version s area)
     ∷ []
@@ -92,6 +99,7 @@ pub record Writable (version : ℕ) (s : Survey) (area : List ℕ) : Type 0 wher
   pub external : length (s .external) ≡ externals s * wells s
   pub nodeExternal : 0 < externals s → length (s .nodeExternal) ≡ externals s * nodeCount s
   pub finite : T (allFinite (numbers s))
+  pub spot : T (eq (s .options .variogram .«same_spot») epsilon)
   pub size : length (writerFile version s) ≤ 65536
   pub few-wells : wells s ≤ 65535
   pub few-nodes : nodeCount s ≤ 65535

@@ -7,12 +7,15 @@ use mathlib.Core.Logic.{inl, inr}
 use mathlib.Core.Bool.{Bool, true, false, not, _||_}
 use borrow.Author.Tests.{ltb-false, lt-ltb, le-ltb}
 use lib.IntN.{ℤ}
-use lib.Dec.{T, ltb}
-use lib.Ieee.{Float, nan, inf, fin, binary64, up, down, lt, ofBits}
-use lib.Ieee.Fits.{up-pos, down-pos}
+use lib.Dec.{T, eqb, eqb→eq}
+use lib.Pow.{pow-pos}
+use lib.Ieee.{Float, nan, inf, fin, binary64, fits, up, down, lt, eq, ofBits, round}
+use lib.Ieee.Exact.{HasValue}
+use lib.Ieee.Fits.{up-pos, down-pos, and-l, and-r}
 use lib.Ieee.Scale.{finite}
 use Rattle.ieee.specs.Floats.{zeroFloat, epsilon}
 use Rattle.ieee.proofs.FiniteLists.{is-finite}
+use Rattle.ieee.proofs.Own.{round-own}
 use Rattle.ieee.proofs.Steps.{pattern-rises}
 use Rattle.exponential.specs.Exponential.{expNeg}
 use Rattle.variogram.specs.declared.Variogram.{Variogram}
@@ -59,3 +62,19 @@ one-step v b h =
       below = same-spot w (ofBits binary64 b) (pattern-rises b h);
       equal = by-model expNeg w (ofBits binary64 (suc b)) (v .model) (not-below-itself (ofBits binary64 (suc b))) refl;
     }
+
+-- ---- the f64 that is the same number as 2^-52 is 2^-52, bit for bit
+pub is-epsilon : (x : Float) → T (fits binary64 x) → T (eq x epsilon) → x ≡ epsilon
+unfolding eq ofBits round
+is-epsilon nan f h = absurd h
+is-epsilon (inf s) f h = absurd h
+is-epsilon (fin true m e) f h =
+    let a : ℕ = m * up e * 2 ^ 52 in
+    let same : a ≡ 1 * 1 * down e = eqb→eq a (1 * 1 * down e) (and-l (eqb a (1 * 1 * down e)) (eqb a 0) h) in
+    let none : a ≡ 0 = eqb→eq a 0 (and-r (eqb a (1 * 1 * down e)) (eqb a 0) h) in
+    absurd (omega (arith, down-pos e))
+is-epsilon (fin false m e) f h =
+    let a : ℕ = m * up e * 2 ^ 52 in
+    let same : a ≡ 1 * 1 * down e = eqb→eq a (1 * 1 * down e) (and-l (eqb a (1 * 1 * down e)) true h) in
+    let value : HasValue (fin false m e) false 1 (2 ^ 52) = (refl, same) in
+    sym (round-own (fin false m e) false 1 (2 ^ 52) f (pow-pos 52) value)

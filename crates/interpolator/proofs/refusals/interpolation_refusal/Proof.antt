@@ -12,7 +12,7 @@ use Rattle.error.specs.Tests.{Test, test, firstOf}
 use Rattle.error.specs.Short.{tooShort}
 use Rattle.error.proofs.First.{here, past, none, last-one, refused, accepted}
 use Rattle.elimination.specs.Call.{workTests}
-use Rattle.survey.specs.Refusals.{modelTests}
+use Rattle.survey.specs.Refusals.{variogramTests}
 use Rattle.interpolator_theory.specs.Call.{Query, Areas, answerAreas, areasOf, nodeCount, size}
 use Rattle.interpolator.specs.Outcome.{queryOf}
 use Rattle.interpolator_theory.specs.Refusals.{wrongPoints, wrongTargets, tooMany, numberNotFinite, wrongDimension, refusal}
@@ -37,11 +37,11 @@ left-18 c = test 18 (tooShort (answerAreas (query c) (areas c))) ∷ []
 abbrev left-17 : tie.Start → List Test
 left-17 c = workTests (size (query c)) (c .args .work .now) ++ left-18 c
 
-abbrev left-12 : tie.Start → List Test
-left-12 c = modelTests (c .args .interpolator .variogram) ++ left-17 c
+abbrev left-22 : tie.Start → List Test
+left-22 c = variogramTests (c .args .interpolator .variogram) ++ left-17 c
 
 abbrev left-11 : tie.Start → List Test
-left-11 c = test 11 (numberNotFinite (query c)) ∷ left-12 c
+left-11 c = test 11 (numberNotFinite (query c)) ∷ left-22 c
 
 abbrev left-9 : tie.Start → List Test
 left-9 c = test 9 (tooMany (c .args .limits) (query c)) ∷ left-11 c
@@ -146,14 +146,14 @@ number-not-finite-requires c κs = search needs
 returns-5 : tie.Need-returns-5
 returns-5 c = let h = c .before in sym (past-9 (h .before) ∙ here 11 _ (sym (h .number-not-finite .ensures) ∙ c .if5 .taken))
 
-past-11 : (c : tie.Else5) → whole (entry-5 c) ≡ firstOf (left-12 (entry-5 c))
+past-11 : (c : tie.Else5) → whole (entry-5 c) ≡ firstOf (left-22 (entry-5 c))
 past-11 c = let h = c .before in past-9 (h .before) ∙ past 11 _ (sym (h .number-not-finite .ensures) ∙ c .if5 .left)
 
--- let model = survey_checks::refusals::model_refusal(interpolator.variogram);
-model-refusal-requires : tie.Need-model-refusal-requires
-model-refusal-requires c κs = search needs
+-- let variogram = survey_checks::refusals::variogram_refusal(interpolator.variogram);
+variogram-refusal-requires : tie.Need-variogram-refusal-requires
+variogram-refusal-requires c κs = search needs
 
--- if let Judgement::Refused(_) = model
+-- if let Judgement::Refused(_) = variogram
 enum-told : tie.Need-enum-told
 enum-told c = search needs
 
@@ -161,7 +161,7 @@ returns-6 : tie.Need-returns-6
 returns-6 c =
     let h = c .before .before in
     let s = entry-5 (h .before) in
-    refused (h .model-refusal .result) _ (modelTests (s .args .interpolator .variogram)) (left-17 s) (c .enum-told .given .1) (h .model-refusal .ensures)
+    refused (h .variogram-refusal .result) _ (variogramTests (s .args .interpolator .variogram)) (left-17 s) (c .enum-told .given .1) (h .variogram-refusal .ensures)
     ∙ sym (past-11 (h .before))
 
 enum-told-2 : tie.Need-enum-told-2
@@ -171,9 +171,9 @@ past-12 : (c : tie.After-enum-told2) → whole (entry-m c) ≡ firstOf (left-17 
 past-12 c =
     let h = c .before .before in
     let s = entry-m c in
-    let e = h .model-refusal .ensures in
+    let e = h .variogram-refusal .ensures in
     past-11 (h .before)
-    ∙ accepted (h .model-refusal .result) (modelTests (s .args .interpolator .variogram)) (left-17 s) tt (c .enum-told2 .given .1) e
+    ∙ accepted (h .variogram-refusal .result) (variogramTests (s .args .interpolator .variogram)) (left-17 s) tt (c .enum-told2 .given .1) e
 
 -- let size = n + trend_terms(kriging_type);
 trend-terms-requires : tie.Need-trend-terms-requires
@@ -234,7 +234,7 @@ interpolation-refusal-spec =
     returns-4
     number-not-finite-requires
     returns-5
-    model-refusal-requires
+    variogram-refusal-requires
     enum-told
     returns-6
     enum-told-2
