@@ -16,7 +16,7 @@ use Rattle.ieee.specs.Bytes.{allFit}
 use Rattle.survey.specs.Survey.{Survey, externals}
 use Rattle.survey_file_theory.specs.declared.Written.the-variants.{Done, Refused}
 use Rattle.survey_file_theory.specs.Areas.{Areas, Holds}
-use Rattle.survey_file_theory.specs.Contents.{numbers, nodeExternals}
+use Rattle.survey_file_theory.specs.Contents.{numbers, nodeExternals, EachF64}
 use Rattle.survey_file_theory.specs.File.{baseVersion, writerFile}
 use Rattle.survey_file_theory.specs.Refusals.{writerRefusal}
 use Rattle.survey_file_theory.specs.Reader.{reader, answerOf}
@@ -42,6 +42,7 @@ pub record Handed (s : Survey) : Type 0 where
   pub nugget : fits binary64 (s .options .variogram .nugget) ≡ true
   pub sill : fits binary64 (s .options .variogram .sill) ≡ true
   pub range : fits binary64 (s .options .variogram .range) ≡ true
+  pub spot : fits binary64 (s .options .variogram .«same_spot») ≡ true
   pub regularization : fits binary64 (s .options .regularization) ≡ true
   pub tolerance : fits binary64 (s .tolerance) ≡ true
   pub values : (i : ℕ) → T (fits binary64 (getD (s .values) i nan))
@@ -67,6 +68,9 @@ numbers-fit s h =
     let e = fit-append (toCoords s) (s .external) c (all-fit (s .external) (h .external)) in
     let n = fit-append (toExternal s) (s .nodes) e (all-fit (s .nodes) (h .nodes)) in
     subst (λ (xs : List Float). T (allFit xs)) (to-the-last s) (fit-append (toNodes s) (nodeExternals s) n (fit-taken s h))
+
+each-f64 : (s : Survey) → Handed s → EachF64 s
+each-f64 s h = record { numbers = numbers-fit s h; spot = rw (h .spot) tt }
 
 module _ (s : Survey) (area : List ℕ) where
   -- ---- the two ways in which the call ends
@@ -102,5 +106,5 @@ module _ (s : Survey) (area : List ℕ) where
       subst Promise (sym h) (
         refl,
         writer-ends baseVersion s area,
-        λ count said lent holds. round-trip-call baseVersion s area count said (numbers-fit s given) lent holds,
+        λ count said lent holds. round-trip-call baseVersion s area count said (each-f64 s given) lent holds,
       )

@@ -1,5 +1,5 @@
 // The writer of the survey file. What a file is, and that it reads back, stands in survey_file.
-mod refusals; // refusals.rt: 1, 2, 6, 8, 11, 16, 18
+mod refusals; // refusals.rt: 1, 2, 6, 8, 11, 22, 16, 18
 mod bytes; // bytes.rt: numbers and lists as bytes of a file
 mod layout; // layout.rt: the body and the trailer
 
@@ -19,7 +19,7 @@ ghost use Rattle.survey_file_theory.specs.Reader.{reader, answerOf};
 ghost use Rattle.survey_file_theory.specs.Writer.{outcomeOf, writer, Ends};
 
 // Writes a survey as a file, with no note, and says how many bytes it has: values and coordinates of n wells, basis codes, external values column after
-// column, m nodes with theirs node after node.
+// column, m nodes with theirs node after node. A file has no place for the same-spot distance: any but 2^-52 is refused by 22.
 pub fn write_survey(
     values: &[f64],
     coords: &[f64],

@@ -1,10 +1,11 @@
-// What turns the writer away: 1, 2, 6, 8, 11, 16, 18, in that order.
+// What turns the writer away: 1, 2, 6, 8, 11, 22, 16, 18, in that order.
 use error::Judgement;
 use error::Refusal;
 use survey::UniversalKrigingOptions;
 use survey_checks::counts::external_columns;
 use survey_checks::counts::is_product;
 use survey_checks::refusals::number_not_finite;
+use variogram::Variogram;
 ghost use mathlib.Core.Path.{_≡_};
 ghost use lib.Dec.{ltb};
 ghost use lib.Ieee.{Float};
@@ -158,6 +159,11 @@ pub(crate) fn writer_refusal(
         tolerance,
     ) {
         return Judgement::Refused(Refusal::NotFinite);
+    }
+    // a file has no place for the same-spot distance, and is read with 2^-52
+    let variogram = options.variogram;
+    if variogram.same_spot != Variogram::EPSILON {
+        return Judgement::Refused(Refusal::SameSpot);
     }
     let count = number_count(values, coords, bases, external, nodes, node_external);
     let codes = bases.len();

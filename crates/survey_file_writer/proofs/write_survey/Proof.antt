@@ -49,6 +49,7 @@ handed c =
       nugget = v .0 .1;
       sill = v .1 .0 .1;
       range = v .1 .1 .0 .1;
+      spot = v .1 .1 .1 .0 .1;
       regularization = o .1 .0 .1;
       tolerance = after-lists .1 .1 .1 .0 .1;
       values = h .before .before .shared-slice-known .given;

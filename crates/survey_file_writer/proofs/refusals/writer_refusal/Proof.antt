@@ -1,16 +1,18 @@
--- `survey_file_writer::refusals::writer_refusal` meets its contract: the lists' lengths, the numbers, the file's length and the room, in that order.
+-- `survey_file_writer::refusals::writer_refusal` meets its contract: the lists' lengths, the numbers, the same-spot distance, the file's length and the
+-- room, in that order.
 use Prim.Native.Nat.{ℕ}
 use mathlib.Core.Path.{_≡_, refl, sym, ap, _∙_}
 use mathlib.Core.List.{List, [], _∷_, _++_}
 use borrow.Author.Needs.{needs}
 use lib.Dec.{ltb}
 use lib.ListN.{length}
+use lib.Ieee.{ne}
 use Rattle.error.specs.Tests.{Test, test, firstOf}
 use Rattle.error.proofs.First.{here, past, none, refused, accepted}
 use Rattle.survey.specs.Survey.{Survey, surveyOf}
 use Rattle.survey_file_theory.specs.Contents.{numbers}
 use Rattle.survey_file_theory.specs.File.{longestFile, baseVersion, writerFile}
-use Rattle.survey_file_theory.specs.Refusals.{someNumberNotFinite, tooLong, shortFile, writerRefusal}
+use Rattle.survey_file_theory.specs.Refusals.{someNumberNotFinite, otherSpot, tooLong, shortFile, writerRefusal}
 use Rattle.survey_file_writer.specs.Parts.{lengthTests, bytesFor}
 use Rattle.survey_file_writer.proofs.Lengths.{length-written, too-long-is}
 use Rattle.survey_file_writer.proofs.refusals.writer_refusal.Statement.{statement}
@@ -31,8 +33,11 @@ of-room c = test 18 (shortFile baseVersion (survey c) (c .args .file .now)) ∷ 
 abbrev of-length : tie.Start → List Test
 of-length c = test 16 (tooLong baseVersion (survey c)) ∷ of-room c
 
+abbrev of-spot : tie.Start → List Test
+of-spot c = test 22 (otherSpot (survey c)) ∷ of-length c
+
 abbrev of-numbers : tie.Start → List Test
-of-numbers c = test 11 (someNumberNotFinite (survey c)) ∷ of-length c
+of-numbers c = test 11 (someNumberNotFinite (survey c)) ∷ of-spot c
 
 parts : (c : tie.Start) → whole c ≡ firstOf (lengthTests (survey c) ++ of-numbers c)
 unfolding writerRefusal
@@ -48,10 +53,17 @@ at-lengths c = known-4 (c .before) .before .before .before .before
 abbrev at-numbers : tie.After-some-number-not-finite → tie.Start
 at-numbers c = at-lengths (c .before .before .before)
 
-abbrev at-count : tie.After-number-count → tie.Start
-at-count c = at-numbers (c .before .before)
+-- past 11, with the variogram at hand
+abbrev past-11 : tie.After-struct-known → tie.Else1
+past-11 c = c .before .before
 
-abbrev at-length : tie.Else2 → tie.Start
+abbrev at-spot : tie.After-struct-known → tie.Start
+at-spot c = at-numbers (past-11 c .before)
+
+abbrev at-count : tie.After-number-count → tie.Start
+at-count c = at-spot (c .before .before)
+
+abbrev at-length : tie.Else3 → tie.Start
 at-length c = at-count (c .before .before)
 
 -- let lengths = length_refusal(values, coords, bases, external, nodes, node_external);
@@ -86,8 +98,17 @@ some-number-not-finite-requires c κs = search needs
 returns-2 : tie.Need-returns-2
 returns-2 c = let h = c .before in sym (past-lengths (h .before) ∙ here 11 _ (sym (h .some-number-not-finite .ensures) ∙ c .if1 .taken))
 
-past-numbers : (c : tie.Else1) → let s = at-numbers (c .before) in whole s ≡ firstOf (of-length s)
+past-numbers : (c : tie.Else1) → let s = at-numbers (c .before) in whole s ≡ firstOf (of-spot s)
 past-numbers c = let h = c .before in past-lengths (h .before) ∙ past 11 _ (sym (h .some-number-not-finite .ensures) ∙ c .if1 .left)
+
+-- if variogram.same_spot != Variogram::EPSILON {
+returns-3 : tie.Need-returns-3
+unfolding ne
+returns-3 c = sym (past-numbers (past-11 (c .before)) ∙ here 22 _ (c .if2 .taken))
+
+past-spot : (c : tie.Else2) → let s = at-spot (c .before) in whole s ≡ firstOf (of-length s)
+unfolding ne
+past-spot c = past-numbers (past-11 (c .before)) ∙ past 22 _ (c .if2 .left)
 
 -- let count = number_count(values, coords, bases, external, nodes, node_external);
 number-count-requires : tie.Need-number-count-requires
@@ -110,11 +131,11 @@ bytes-are c =
 length-is : (c : tie.After-longer) → c .longer .result ≡ tooLong baseVersion (survey (at-count (c .before)))
 length-is c = c .longer .ensures ∙ ap (ltb longestFile) (bytes-are (c .before)) ∙ too-long-is baseVersion (survey (at-count (c .before)))
 
-returns-3 : tie.Need-returns-3
-returns-3 c = let h = c .before in sym (past-numbers (h .before .before) ∙ here 16 _ (sym (length-is h) ∙ c .if2 .taken))
+returns-4 : tie.Need-returns-4
+returns-4 c = let h = c .before in sym (past-spot (h .before .before) ∙ here 16 _ (sym (length-is h) ∙ c .if3 .taken))
 
-past-length : (c : tie.Else2) → whole (at-length c) ≡ firstOf (of-room (at-length c))
-past-length c = let h = c .before in past-numbers (h .before .before) ∙ past 16 _ (sym (length-is h) ∙ c .if2 .left)
+past-length : (c : tie.Else3) → whole (at-length c) ≡ firstOf (of-room (at-length c))
+past-length c = let h = c .before in past-spot (h .before .before) ∙ past 16 _ (sym (length-is h) ∙ c .if3 .left)
 
 -- if longer(count, codes, file.len()) {
 longer-requires-2 : tie.Need-longer-requires-2
@@ -123,12 +144,12 @@ longer-requires-2 c κs = search needs
 room-is : (c : tie.After-longer2) → let s = at-length (c .before) in c .longer2 .result ≡ shortFile baseVersion (survey s) (s .args .file .now)
 room-is c = c .longer2 .ensures ∙ ap (ltb (length (at-length (c .before) .args .file .now))) (bytes-are (c .before .before .before))
 
-returns-4 : tie.Need-returns-4
-returns-4 c = let h = c .before in sym (past-length (h .before) ∙ here 18 _ (sym (room-is h) ∙ c .if3 .taken))
+returns-5 : tie.Need-returns-5
+returns-5 c = let h = c .before in sym (past-length (h .before) ∙ here 18 _ (sym (room-is h) ∙ c .if4 .taken))
 
 -- Judgement::Accepted
-returns-5 : tie.Need-returns-5
-returns-5 c = let h = c .before in sym (past-length (h .before) ∙ past 18 _ (sym (room-is h) ∙ c .if3 .left) ∙ none)
+returns-6 : tie.Need-returns-6
+returns-6 c = let h = c .before in sym (past-length (h .before) ∙ past 18 _ (sym (room-is h) ∙ c .if4 .left) ∙ none)
 
 pub writer-refusal-spec : {M : Type 1} → statement M
 writer-refusal-spec =
@@ -140,9 +161,10 @@ writer-refusal-spec =
     enum-told-2
     some-number-not-finite-requires
     returns-2
+    returns-3
     number-count-requires
     longer-requires
-    returns-3
-    longer-requires-2
     returns-4
-    returns-5)
+    longer-requires-2
+    returns-5
+    returns-6)
