@@ -45,6 +45,7 @@ enum nakwemol_number {
     NAKWEMOL_WORK_AREA = 17,           /* work area under 2 s s numbers */
     NAKWEMOL_ANSWER_AREA = 18,         /* an answer area too short */
     NAKWEMOL_SINGULAR = 19,            /* a pivot below 2^-52 */
+    NAKWEMOL_SAME_SPOT_DISTANCE = 22,  /* same-spot distance not finite or below 2^-52; in nakwemol_write anything but 2^-52. Straight after 11 */
     NAKWEMOL_UNKNOWN_CODE = 100        /* a model or a kriging type by a code that is none; before all others */
 };
 
@@ -71,6 +72,10 @@ enum nakwemol_basis {            /* columns at (x, y)                  */
 /* A verdict: 0 where the node passed its audit, 1 to p + 1 the first row missed, this where something is not finite. */
 #define NAKWEMOL_VERDICT_NOT_FINITE 255
 
+/* The same-spot distance of the original, 2^-52: the plain choice for `same_spot`, and the least that a call takes. Below it the variogram is 0; a distance
+ * equal to it is not the same spot. A larger one does more harm than good where two wells lie nearer than it and are told apart all the same: section 3. */
+#define NAKWEMOL_SAME_SPOT 2.220446049250313e-16
+
 /* Numbers of a work area that serve every fit, and every interpolation. */
 #define NAKWEMOL_WORK_OF_A_FIT 7200
 #define NAKWEMOL_WORK_OF_AN_INTERPOLATION 5408
@@ -85,6 +90,7 @@ enum nakwemol_basis {            /* columns at (x, y)                  */
  *   external       k n       column after column: every well of the first external basis, then of the second
  *   nodes          2m        x, y of node 1, ..
  *   node_external  k m       node after node: every column of node 1, then of node 2; not looked at where k = 0
+ *   same_spot                below this distance the variogram is 0; NAKWEMOL_SAME_SPOT is the original's
  *   tolerance                t of the audit, 0 or above; 0 asks that every row be met exactly
  * Areas:
  *   work           2 s s     scratch; holds the finished elimination
@@ -96,14 +102,14 @@ enum nakwemol_basis {            /* columns at (x, y)                  */
  *   trend          p         the estimate of the trend's coefficients, column by column: those of x and y are slopes, in units of value over coordinate.
  *                            It does not depend on the nodes, and is filled where m = 0 too
  *
- * Numbers, in this order: 100, then 1 to 12, 17, 18, 19.
+ * Numbers, in this order: 100, then 1 to 11, 22, 12, 17, 18, 19.
  */
 uint8_t nakwemol_fit(
     const double *values, size_t values_count,
     const double *coords, size_t coords_count,
     const uint8_t *bases, size_t bases_count,
     const double *external, size_t external_count,
-    uint8_t model, double nugget, double sill, double range, double regularization,
+    uint8_t model, double nugget, double sill, double range, double same_spot, double regularization,
     const double *nodes, size_t nodes_count,
     const double *node_external, size_t node_external_count,
     double tolerance,
@@ -125,14 +131,14 @@ uint8_t nakwemol_fit(
  *   figures    m
  *   variances  m      0 or above
  *
- * Numbers, in this order: 100, 13, 1, 2, 9, 11, 12, 17, 18, 19.
+ * Numbers, in this order: 100, 13, 1, 2, 9, 11, 22, 12, 17, 18, 19.
  */
 uint8_t nakwemol_interpolate(
     const double *values, size_t values_count,
     const double *points, size_t points_count,
     const double *targets, size_t targets_count,
     size_t d, uint8_t kriging_type,
-    uint8_t model, double nugget, double sill, double range,
+    uint8_t model, double nugget, double sill, double range, double same_spot,
     double *work, size_t work_count,
     double *figures, size_t figures_count,
     double *variances, size_t variances_count);
@@ -185,20 +191,21 @@ uint8_t nakwemol_read(
     double *node_external, size_t node_external_count,
     size_t counts[3], double numbers[5], uint8_t *model);
 
-/* Writes a survey file: section 12. The lists are those of a fit; what was written reads back bit for bit.
+/* Writes a survey file: section 12. The lists are those of a fit; what was written reads back bit for bit. A file has no place for the same-spot distance:
+ * any but NAKWEMOL_SAME_SPOT is refused by 22, and what nakwemol_read hands out has that.
  *
  * Areas:
  *   file    the file's length: 54 + 8 (3n + k n + 2m + k m) + the number of codes
  *   length  how many bytes were written
  *
- * Numbers, in this order: 100, 1, 2, 6, 8, 11 (r and t included), 16 (over 65,536 bytes), 18.
+ * Numbers, in this order: 100, 1, 2, 6, 8, 11 (r and t included), 22, 16 (over 65,536 bytes), 18.
  */
 uint8_t nakwemol_write(
     const double *values, size_t values_count,
     const double *coords, size_t coords_count,
     const uint8_t *bases, size_t bases_count,
     const double *external, size_t external_count,
-    uint8_t model, double nugget, double sill, double range, double regularization,
+    uint8_t model, double nugget, double sill, double range, double same_spot, double regularization,
     const double *nodes, size_t nodes_count,
     const double *node_external, size_t node_external_count,
     double tolerance,

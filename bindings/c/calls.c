@@ -34,10 +34,14 @@ static void clear(void) {
     verdicts[0] = verdicts[1] = 99;
 }
 
-static uint8_t fit_range(uint8_t model, double range, size_t lent) {
+static uint8_t fit_spot(uint8_t model, double range, double spot, size_t lent) {
     clear();
-    return nakwemol_fit(values, 2, coords, 4, bases, 1, none, 0, model, 0, 1, range, 0, nodes, 2, none, 0, 0,
+    return nakwemol_fit(values, 2, coords, 4, bases, 1, none, 0, model, 0, 1, range, spot, 0, nodes, 2, none, 0, 0,
                         work, 19, predicted, lent, variance, 2, verdicts, 2, weights, 3, multipliers, 2, trend, 2);
+}
+
+static uint8_t fit_range(uint8_t model, double range, size_t lent) {
+    return fit_spot(model, range, NAKWEMOL_SAME_SPOT, lent);
 }
 
 static uint8_t fit(uint8_t model, size_t lent) {
@@ -92,7 +96,7 @@ static void fits(void) {
 /* The first n of these levels at the first wells and the first m nodes, with so many places for the trend. */
 static uint8_t fit_levels(const double *levels, size_t n, size_t m, size_t lent) {
     clear();
-    return nakwemol_fit(levels, n, coords, 2 * n, bases, 1, none, 0, NAKWEMOL_SPHERICAL, 0, 1, 1, 0, nodes, 2 * m, none, 0, 0,
+    return nakwemol_fit(levels, n, coords, 2 * n, bases, 1, none, 0, NAKWEMOL_SPHERICAL, 0, 1, 1, NAKWEMOL_SAME_SPOT, 0, nodes, 2 * m, none, 0, 0,
                         work, 19, predicted, 2, variance, 2, verdicts, 2, weights, 3, multipliers, 2, trend, lent);
 }
 
@@ -126,7 +130,7 @@ static uint8_t fit_plain(double multiplier[3], double slope[3], size_t lent) {
     double area[72], figure, estimate, shares[3];
     uint8_t verdict;
     for (int j = 0; j < 3; j++) multiplier[j] = slope[j] = -9;
-    return nakwemol_fit(levels, 3, wells, 6, linear, 1, none, 0, NAKWEMOL_SPHERICAL, 0, 1, 1, 0, wells, 2, none, 0, 0,
+    return nakwemol_fit(levels, 3, wells, 6, linear, 1, none, 0, NAKWEMOL_SPHERICAL, 0, 1, 1, NAKWEMOL_SAME_SPOT, 0, wells, 2, none, 0, 0,
                         area, 72, &figure, 1, &estimate, 1, &verdict, 1, shares, 3, multiplier, 3, slope, lent);
 }
 
@@ -142,12 +146,34 @@ static void slopes(void) {
 
 static void interpolations(void) {
     double figure = -1, estimate = -1;
-    same("interpolate", nakwemol_interpolate(values, 2, coords, 4, nodes, 2, 2, NAKWEMOL_ORDINARY, NAKWEMOL_SPHERICAL, 0, 1, 1,
+    same("interpolate", nakwemol_interpolate(values, 2, coords, 4, nodes, 2, 2, NAKWEMOL_ORDINARY, NAKWEMOL_SPHERICAL, 0, 1, 1, NAKWEMOL_SAME_SPOT,
                                              work, 19, &figure, 1, &estimate, 1), NAKWEMOL_OK);
     same("interpolated", figure, 4);
     same("its variance", estimate, 1.5);
-    same("a kriging type that is none", nakwemol_interpolate(values, 2, coords, 4, nodes, 2, 2, 3, NAKWEMOL_SPHERICAL, 0, 1, 1,
+    same("a kriging type that is none", nakwemol_interpolate(values, 2, coords, 4, nodes, 2, 2, 3, NAKWEMOL_SPHERICAL, 0, 1, 1, NAKWEMOL_SAME_SPOT,
                                                              work, 19, &figure, 1, &estimate, 1), NAKWEMOL_UNKNOWN_CODE);
+}
+
+/* Two wells 2 m apart and a node between them, 1 m from each: with a same-spot distance of 1 it is at neither, and with the next number above 1 at both. */
+static void spots(void) {
+    const double nothing = 0, minus = -0.0, infinite = 1 / nothing;
+    double figure = -1, estimate = -1;
+    same("a distance equal to the spot's", fit_spot(NAKWEMOL_LINEAR, 2, 1, 2), NAKWEMOL_OK);
+    same("its variance", variance[0], 0.5);
+    same("a distance below the spot's", fit_spot(NAKWEMOL_LINEAR, 2, 1.0000000000000002, 2), NAKWEMOL_OK);
+    same("its variance", variance[0], 0);
+    same("the least spot", fit_spot(NAKWEMOL_LINEAR, 2, NAKWEMOL_SAME_SPOT, 2), NAKWEMOL_OK);
+    same("a smaller one", fit_spot(NAKWEMOL_LINEAR, 2, 2.2204460492503128e-16, 2), NAKWEMOL_SAME_SPOT_DISTANCE);
+    same("what it leaves", predicted[0], -1);
+    same("none", fit_spot(NAKWEMOL_LINEAR, 2, 0, 2), NAKWEMOL_SAME_SPOT_DISTANCE);
+    same("minus zero", fit_spot(NAKWEMOL_LINEAR, 2, minus, 2), NAKWEMOL_SAME_SPOT_DISTANCE);
+    same("an infinite one", fit_spot(NAKWEMOL_LINEAR, 2, infinite, 2), NAKWEMOL_SAME_SPOT_DISTANCE);
+    same("no number", fit_spot(NAKWEMOL_LINEAR, 2, infinite - infinite, 2), NAKWEMOL_SAME_SPOT_DISTANCE);
+    same("22 after 11", fit_spot(NAKWEMOL_LINEAR, infinite, 0, 2), NAKWEMOL_NOT_FINITE);
+    same("22 before 12", fit_spot(NAKWEMOL_EXPONENTIAL, 0, 0, 2), NAKWEMOL_SAME_SPOT_DISTANCE);
+    same("22 of an interpolation", nakwemol_interpolate(values, 2, coords, 4, nodes, 2, 2, NAKWEMOL_ORDINARY, NAKWEMOL_LINEAR, 0, 1, 2, 0,
+                                                        work, 19, &figure, 1, &estimate, 1), NAKWEMOL_SAME_SPOT_DISTANCE);
+    same("what it leaves", figure, -1);
 }
 
 static void semivariograms(void) {
@@ -168,8 +194,8 @@ static void files(void) {
     uint8_t file[200], codes[1], model = 0;
     double read_values[2], read_coords[4], read_nodes[2], numbers[5], unread[1];
     size_t length = 0, sizes[3];
-    same("write", nakwemol_write(values, 2, coords, 4, bases, 1, none, 0, NAKWEMOL_LINEAR, 1, 2, 3, 4, nodes, 2, none, 0, 5, file, 200, &length),
-         NAKWEMOL_OK);
+    same("write", nakwemol_write(values, 2, coords, 4, bases, 1, none, 0, NAKWEMOL_LINEAR, 1, 2, 3, NAKWEMOL_SAME_SPOT, 4, nodes, 2, none, 0, 5, file, 200,
+                                 &length), NAKWEMOL_OK);
     same("length", (double)length, 119);
     same("read", nakwemol_read(file, length, read_values, 2, read_coords, 4, codes, 1, unread, 0, read_nodes, 2, unread, 0, sizes, numbers, &model),
          NAKWEMOL_OK);
@@ -182,6 +208,8 @@ static void files(void) {
     same("coordinates read", memcmp(read_coords, coords, sizeof coords), 0);
     same("nodes read", memcmp(read_nodes, nodes, sizeof nodes), 0);
     same("code read", codes[0], NAKWEMOL_BASIS_CONSTANT);
+    same("another spot", nakwemol_write(values, 2, coords, 4, bases, 1, none, 0, NAKWEMOL_LINEAR, 1, 2, 3, 1, 4, nodes, 2, none, 0, 5, file, 200, &length),
+         NAKWEMOL_SAME_SPOT_DISTANCE);
     same("no file", nakwemol_read(file, 3, read_values, 2, read_coords, 4, codes, 1, unread, 0, read_nodes, 2, unread, 0, sizes, numbers, &model),
          NAKWEMOL_SURVEY_FILE);
 }
@@ -192,6 +220,7 @@ int main(void) {
     slopes();
     models();
     interpolations();
+    spots();
     semivariograms();
     files();
     printf("%d compared, %d differ\n", compared, differ);

@@ -73,6 +73,7 @@ fn told(number: u8) -> (ErrorKind, &'static str) {
             MatrixError,
             "Look for two wells at one place (leave one out, or raise r) and for columns that say the same at every well (leave one out).",
         ),
+        22 => (Added, "Give the same-spot distance in metres, 2^-52 or more; to write a survey file leave it at 2^-52."),
         _ => (Added, "Name a model by 1 to 4, and a kriging type by 1 or 2."),
     }
 }

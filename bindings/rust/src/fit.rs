@@ -112,6 +112,7 @@ pub fn universal_kriging_fit(
         variogram.nugget,
         variogram.sill,
         variogram.range,
+        variogram.same_spot,
         options.regularization,
         query_points,
         query_external_drift.unwrap_or(&[]),

@@ -62,6 +62,7 @@ impl KrigingInterpolator {
             self.variogram.nugget,
             self.variogram.sill,
             self.variogram.range,
+            self.variogram.same_spot,
             &mut work_area(values.len().min(WELLS) + self.kriging_type.terms()),
             &mut answer.values,
             &mut answer.variances,

@@ -52,7 +52,7 @@ pub fn read(bytes: &[u8]) -> Result<Survey> {
     Ok(Survey { values, coords, bases, external, nodes, node_external, variogram, regularization, tolerance })
 }
 
-/// Writes a survey file, with no note.
+/// Writes a survey file, with no note. A file has no place for the same-spot distance: any but 2^-52 is refused by 22.
 pub fn write(survey: &Survey) -> Result<Vec<u8>> {
     let mut file = vec![0; LONGEST];
     let mut length = 0;
@@ -65,6 +65,7 @@ pub fn write(survey: &Survey) -> Result<Vec<u8>> {
         survey.variogram.nugget,
         survey.variogram.sill,
         survey.variogram.range,
+        survey.variogram.same_spot,
         survey.regularization,
         &survey.nodes,
         &survey.node_external,

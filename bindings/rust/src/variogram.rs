@@ -38,11 +38,21 @@ pub struct Variogram {
     pub nugget: f64,
     pub sill: f64,
     pub range: f64,
+    /// Below this distance the variogram is 0: section 3 of docs/REFERENCE.md, with a warning. The original has no such field, and 2^-52 in its place.
+    pub same_spot: f64,
     pub model: VariogramModel,
 }
 
 impl Variogram {
+    /// 2^-52: the same-spot distance of `new`.
+    pub const SAME_SPOT: f64 = f64::EPSILON;
+
     pub fn new(model: VariogramModel, nugget: f64, sill: f64, range: f64) -> Self {
-        Self { nugget, sill, range, model }
+        Self { nugget, sill, range, same_spot: Self::SAME_SPOT, model }
+    }
+
+    /// The same with another same-spot distance, finite and 2^-52 or more: else a call refuses it by 22. A survey file takes 2^-52 alone.
+    pub fn with_same_spot(self, distance: f64) -> Self {
+        Self { same_spot: distance, ..self }
     }
 }

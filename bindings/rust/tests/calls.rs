@@ -2,7 +2,7 @@
 use nakwemol::survey_file::{self, Survey};
 use nakwemol::*;
 
-const SPHERICAL: Variogram = Variogram { nugget: 0.0, sill: 1.0, range: 1.0, model: VariogramModel::Spherical };
+const SPHERICAL: Variogram = Variogram { nugget: 0.0, sill: 1.0, range: 1.0, same_spot: Variogram::SAME_SPOT, model: VariogramModel::Spherical };
 
 /// Two wells, (0, 0) with 2 and (2, 0) with 6, and the node (1, 0).
 const COORDS: [f64; 4] = [0.0, 0.0, 2.0, 0.0];
@@ -55,7 +55,7 @@ fn area_of_the_trend() {
         let (mut work, mut verdicts, mut weights) = ([-1.0; 18], [99; 2], [-1.0; 2]);
         #[rustfmt::skip]
         let number = calls::fit(
-            &VALUES, &COORDS, &[1], &[], model, 0.0, 1.0, 1.0, 0.0, &NODE, &[], 0.0,
+            &VALUES, &COORDS, &[1], &[], model, 0.0, 1.0, 1.0, Variogram::SAME_SPOT, 0.0, &NODE, &[], 0.0,
             &mut work, &mut predicted, &mut variance, &mut verdicts, &mut weights, &mut multipliers, trend,
         );
         (number, predicted[0], multipliers)
@@ -88,6 +88,29 @@ fn models_by_the_exponential() {
         let interpolator = KrigingInterpolator::new(KrigingType::Ordinary, Variogram::new(VariogramModel::Exponential, 0.0, 1.0, range));
         assert_eq!(number(interpolator.interpolate(&COORDS, &VALUES, &NODE, 2)), 12);
     }
+}
+
+/// A node 1 m from both wells: with a same-spot distance of 1 it is at neither, and with the next number above 1 at both. 22's edges, and its order.
+#[test]
+fn same_spot_distance() {
+    let fit = |model, range, spot| {
+        let variogram = Variogram::new(model, 0.0, 1.0, range).with_same_spot(spot);
+        universal_kriging_fit(&COORDS, &VALUES, &UniversalKrigingOptions { variogram, ..options(vec![DriftBasis::Constant]) }, &NODE, None, 0.0)
+    };
+    let linear = |spot| fit(VariogramModel::Linear, 2.0, spot);
+    assert_eq!(linear(1.0).unwrap().variance, [0.5]);
+    assert_eq!(linear(1.0 + f64::EPSILON).unwrap().variance, [0.0]);
+    for spot in [2f64.powi(-52), f64::MAX] {
+        assert_eq!(number(linear(spot)), 0);
+    }
+    for spot in [f64::from_bits(2f64.powi(-52).to_bits() - 1), 0.0, -0.0, -1.0, f64::INFINITY, f64::NAN] {
+        assert_eq!(number(linear(spot)), 22);
+        let variogram = Variogram::new(VariogramModel::Linear, 0.0, 1.0, 2.0).with_same_spot(spot);
+        assert_eq!(number(KrigingInterpolator::new(KrigingType::Ordinary, variogram).interpolate(&COORDS, &VALUES, &NODE, 2)), 22);
+    }
+    assert_eq!(number(fit(VariogramModel::Linear, f64::NAN, 0.0)), 11);
+    assert_eq!(number(fit(VariogramModel::Exponential, 0.0, 0.0)), 22);
+    assert_eq!(number(fit(VariogramModel::Exponential, 0.0, 1.0)), 12);
 }
 
 #[test]
@@ -156,6 +179,8 @@ fn survey_file_there_and_back() {
     let file = survey_file::write(&survey).unwrap();
     assert_eq!(survey_file::read(&file).unwrap(), survey);
     assert_eq!(number(survey_file::read(&file[1..])), 16);
+    let elsewhere = Survey { variogram: survey.variogram.with_same_spot(1.0), ..survey.clone() };
+    assert_eq!(number(survey_file::write(&elsewhere)), 22);
     assert_eq!(number(survey_file::write(&Survey { coords: vec![], ..survey })), 1);
 }
 
@@ -172,5 +197,5 @@ fn kinds_and_sentences_are_the_reference_s() {
             numbers.push(number);
         }
     }
-    assert!((1..=19).all(|number| numbers.contains(&number)), "{numbers:?}");
+    assert!((1..=19).chain([22, 100]).all(|number| numbers.contains(&number)), "{numbers:?}");
 }

@@ -7,6 +7,7 @@ use Rattle.cases.specs.Cases.{FourBins, Cases}
 use Rattle.cases.proofs.FitCases.{fit-cases}
 use Rattle.cases.proofs.InterpolationCases.{interpolation-cases}
 use Rattle.cases.proofs.ModelCases.{model-cases}
+use Rattle.cases.proofs.SpotCases.{spot-cases}
 use Rattle.cases.proofs.SlopeCases.{slope-cases}
 use Rattle.cases.proofs.ComparisonCases.{comparison-cases}
 use Rattle.cases.proofs.FileCases.{file-cases}
@@ -21,6 +22,7 @@ cases = record {
   fits = fit-cases;
   interpolations = interpolation-cases;
   models = model-cases;
+  spots = spot-cases;
   slopes = slope-cases;
   comparisons = comparison-cases;
   bins = four-bins;

@@ -28,6 +28,7 @@ numbers = record {
   work-area = (refl, refl);
   answer-area = (refl, refl);
   pivot = (refl, refl);
+  same-spot = (refl, refl);
 }
 
 nearest : Nearest 7737125245533627
@@ -35,7 +36,7 @@ nearest = record { least = omega arith; most = omega arith; below = omega arith;
 
 defaults : Defaults
 unfolding units ofBits toBits
-defaults = record { constant = refl; model = refl; nugget = refl; sill = refl; range = refl; r = refl; pattern = refl; nearest = nearest }
+defaults = record { constant = refl; model = refl; nugget = refl; sill = refl; range = refl; spot = refl; r = refl; pattern = refl; nearest = nearest }
 
 pub refusal-cases : RefusalCases
 refusal-cases = record { numbers = numbers; defaults = defaults }

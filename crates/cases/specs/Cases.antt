@@ -1,6 +1,6 @@
 -- Computed cases, their answers worked out outside these definitions: by tools/reading/cases.py, another reading of the paper in Python's floats and whole
--- numbers, and where the original Rust answers, the original's own; those of ModelCases, SlopeCases, ComparisonCases, FileCases and RefusalCases as they say.
--- One record holds them all.
+-- numbers, and where the original Rust answers, the original's own; those of ModelCases, SpotCases, SlopeCases, ComparisonCases, FileCases and RefusalCases
+-- as they say. One record holds them all.
 use mathlib.Core.Path.{_≡_}
 use mathlib.Core.List.{[], _∷_}
 use mathlib.Core.Option.{some}
@@ -16,6 +16,7 @@ use Rattle.survey_file_theory.specs.Cases.{survey, file, noted, bare, withModel
 use Rattle.cases.specs.FitCases.{f, fs, FitCases}
 use Rattle.cases.specs.InterpolationCases.{InterpolationCases}
 use Rattle.cases.specs.ModelCases.{ModelCases}
+use Rattle.cases.specs.SpotCases.{SpotCases}
 use Rattle.cases.specs.SlopeCases.{SlopeCases}
 use Rattle.cases.specs.ComparisonCases.{ComparisonCases}
 use Rattle.cases.specs.FileCases.{FileCases}
@@ -51,6 +52,8 @@ pub record Cases : Type 0 where
   pub interpolations : InterpolationCases
   -- the Exponential and the Gaussian model, and the ranges that 12 refuses
   pub models : ModelCases
+  -- the same-spot distance, and what 22 refuses
+  pub spots : SpotCases
   -- an exact inverse of a fit's matrix, and the trend by it
   pub slopes : SlopeCases
   pub comparisons : ComparisonCases

@@ -1,4 +1,5 @@
--- Paper 01's list "What turns a call away", number by number, with its kinds, and its named default options, all by literals from the paper.
+-- Paper 01's list "What turns a call away" and what paper 02 adds to it, number by number, with its kinds, and the named default options, all by literals
+-- from the papers.
 use Prim.Native.Nat.{ℕ, _+_, _*_, _^_, _≤_, _<_}
 use mathlib.Core.Path.{_≡_}
 use mathlib.Core.Logic.{_⊎_}
@@ -7,7 +8,7 @@ use lib.IntN.{pos}
 use Rattle.error.specs.declared.Refusal.{Refusal}
 use Rattle.error.specs.declared.Refusal.the-variants.{CoordinatesLength, NodesLength, NoBasis, BasisCode, Regularization, ExternalLength, TooFewWells}
 use Rattle.error.specs.declared.Refusal.the-variants.{NodeExternalLength, TooMany, Tolerance, NotFinite, Model, Dimension, TooFewSamples, Bins}
-use Rattle.error.specs.declared.Refusal.the-variants.{SurveyFile, WorkArea, AnswerArea, Singular}
+use Rattle.error.specs.declared.Refusal.the-variants.{SurveyFile, WorkArea, AnswerArea, Singular, SameSpot}
 use Rattle.error.specs.declared.ErrorKind.{ErrorKind}
 use Rattle.error.specs.declared.ErrorKind.the-variants.{InvalidInput, InsufficientData, MatrixError, DimensionMismatch, InvalidParameter, Added}
 use Rattle.error.specs.Numbers.{numberOf}
@@ -62,6 +63,8 @@ pub record Numbers : Type 0 where
   pub answer-area : Numbered AnswerArea 18 Added
   -- "a pivot below 2^-52"
   pub pivot : Numbered Singular 19 MatrixError
+  -- paper 02: "22 same-spot distance not finite or below 2^-52"
+  pub same-spot : Numbered SameSpot 22 Added
 
 -- m·2^-86 is an f64 where m has 53 bits, and m + 1 and m − 1 are its neighbours: the one nearest 10^-10 is less than half a unit away from it, which is, times
 -- 2·10^10·2^86, by whole numbers
@@ -78,6 +81,8 @@ pub record Defaults : Type 0 where
   pub nugget : defaultOptions .variogram .nugget ≡ f 0
   pub sill : defaultOptions .variogram .sill ≡ f 0x3ff0_0000_0000_0000
   pub range : defaultOptions .variogram .range ≡ f 0x3ff0_0000_0000_0000
+  -- paper 02: "`new` sets it to 2^-52", 2^1022 units of 2^-1074
+  pub spot : units (defaultOptions .variogram .«same_spot») ≡ pos (2 ^ 1022)
   -- 7,737,125,245,533,627 units of 2^-86, worked out by Python's fractions; 2^-86 is 2^988 units of 2^-1074. And its pattern, by Python's struct.pack
   pub r : units (defaultOptions .regularization) ≡ pos (7737125245533627 * 2 ^ 988)
   pub pattern : defaultOptions .regularization ≡ f 0x3ddb_7cdf_d9d7_bdbb

@@ -1,7 +1,8 @@
 -- What the codes of an exported call stand for, and how a call ends whose code stands for nothing.
 use Prim.Native.Nat.{ℕ, zero, suc}
 use lib.Ieee.{Float}
-use Rattle.variogram.specs.Model.{variogram}
+use Rattle.variogram.specs.declared.Variogram.{Variogram}
+use Rattle.variogram.specs.Model.{variogram, withSameSpot}
 use Rattle.variogram.specs.declared.VariogramModel.{VariogramModel}
 use Rattle.variogram.specs.declared.VariogramModel.the-variants.{Spherical, Exponential, Gaussian, Linear}
 use Rattle.survey.specs.declared.UniversalKrigingOptions.{UniversalKrigingOptions}
@@ -39,6 +40,11 @@ abbrev pub byType : {A : Type 0} → CodedType → A → (KrigingType → A) →
 byType CodedType.Unknown away call = away
 byType (CodedType.Known type) away call = call type
 
--- the options of a model with "Nugget, sill, range, regularisation r"
-abbrev pub optionsOf : VariogramModel → Float → Float → Float → Float → UniversalKrigingOptions
-optionsOf model nugget sill range regularization = record { variogram = variogram model nugget sill range; regularization = regularization }
+-- the variogram of a model with "Nugget, sill, range" and the same-spot distance
+abbrev pub variogramOf : VariogramModel → Float → Float → Float → Float → Variogram
+variogramOf model nugget sill range spot = withSameSpot (variogram model nugget sill range) spot
+
+-- the options with such a variogram and "regularisation r"
+abbrev pub optionsOf : VariogramModel → Float → Float → Float → Float → Float → UniversalKrigingOptions
+optionsOf model nugget sill range spot regularization =
+    record { variogram = variogramOf model nugget sill range spot; regularization = regularization }

@@ -1,9 +1,10 @@
-// The codes of models and kriging types.
+// The codes of models and kriging types, and the variogram that a call's numbers make.
 use interpolator_theory::KrigingType;
+use variogram::Variogram;
 use variogram::VariogramModel;
 ghost use mathlib.Core.Path.{_≡_};
 ghost use Rattle.survey_file_theory.specs.File.{modelNumber};
-ghost use Rattle.nakwemol.specs.Codes.{modelOf, typeOf};
+ghost use Rattle.nakwemol.specs.Codes.{modelOf, typeOf, variogramOf};
 
 // The number of a call that names a model or a kriging type by a code that is none. No refusal has it.
 pub(crate) const UNKNOWN_CODE: u8 = 100;
@@ -54,4 +55,17 @@ pub(crate) fn type_of(code: u8) -> CodedType
         2 => CodedType::Known(KrigingType::Universal),
         _ => CodedType::Unknown,
     }
+}
+
+// A variogram with all its numbers, the same-spot distance too.
+pub(crate) fn variogram_of(
+    model: VariogramModel,
+    nugget: f64,
+    sill: f64,
+    range: f64,
+    same_spot: f64,
+) -> Variogram
+    ensures { λ r. ⌜ r ≡ variogramOf model nugget sill range «same_spot» ⌝ }
+{
+    Variogram::new(model, nugget, sill, range).with_same_spot(same_spot)
 }

@@ -3,12 +3,12 @@ use crate::codes::CodedModel;
 use crate::codes::UNKNOWN_CODE;
 use crate::codes::model_code;
 use crate::codes::model_of;
+use crate::codes::variogram_of;
 use survey::UniversalKrigingOptions;
 use survey_file_reader::read_survey;
 use survey_file_theory::Read;
 use survey_file_theory::Written;
 use survey_file_writer::write_survey;
-use variogram::Variogram;
 ghost use mathlib.Core.Path.{_≡_};
 ghost use mathlib.Core.List.{List};
 ghost use Prim.Native.Nat.{ℕ};
@@ -97,6 +97,7 @@ pub extern "C" fn nakwemol_write(
     nugget: f64,
     sill: f64,
     range: f64,
+    same_spot: f64,
     regularization: f64,
     nodes: &[f64],
     node_external: &[f64],
@@ -107,7 +108,7 @@ pub extern "C" fn nakwemol_write(
     ensures { λ r. ⌜ ending r (now (length .exit)) (now (file .exit))
         ≡ byModel (modelOf model) (ending unknownCode (now (length .entry)) (now (file .entry)))
         (λ m. lengthTold (Writer.writer baseVersion (surveyOf (now (values .entry)) (now (coords .entry)) (now (bases .entry)) (now (external .entry))
-        (optionsOf m nugget sill range regularization) (now (nodes .entry)) (now («node_external» .entry)) tolerance) (now (file .entry)))
+        (optionsOf m nugget sill range «same_spot» regularization) (now (nodes .entry)) (now («node_external» .entry)) tolerance) (now (file .entry)))
         (now (length .entry))) ⌝ }
 {
     let coded = model_of(model);
@@ -115,7 +116,7 @@ pub extern "C" fn nakwemol_write(
         return UNKNOWN_CODE;
     };
     let options = UniversalKrigingOptions {
-        variogram: Variogram::new(known, nugget, sill, range),
+        variogram: variogram_of(known, nugget, sill, range, same_spot),
         regularization,
     };
     let written = write_survey(

@@ -2,10 +2,10 @@
 use crate::codes::CodedModel;
 use crate::codes::UNKNOWN_CODE;
 use crate::codes::model_of;
+use crate::codes::variogram_of;
 use kriging::Fit;
 use kriging::universal_kriging_fit;
 use survey::UniversalKrigingOptions;
-use variogram::Variogram;
 ghost use mathlib.Core.Path.{_≡_};
 ghost use Rattle.error.specs.Outcome.{outcome};
 ghost use Rattle.survey.specs.Limits.{base};
@@ -36,6 +36,7 @@ pub extern "C" fn nakwemol_fit(
     nugget: f64,
     sill: f64,
     range: f64,
+    same_spot: f64,
     regularization: f64,
     nodes: &[f64],
     node_external: &[f64],
@@ -55,14 +56,14 @@ pub extern "C" fn nakwemol_fit(
         (now (weights .exit)) (now (multipliers .exit)) (now (trend .exit)))
         ≡ byModel (modelOf model) (outcome unknownCode a)
         (λ m. fitted base (surveyOf (now (values .entry)) (now (coords .entry)) (now (bases .entry)) (now (external .entry))
-        (optionsOf m nugget sill range regularization) (now (nodes .entry)) (now («node_external» .entry)) tolerance) a) ⌝ }
+        (optionsOf m nugget sill range «same_spot» regularization) (now (nodes .entry)) (now («node_external» .entry)) tolerance) a) ⌝ }
 {
     let coded = model_of(model);
     let CodedModel::Known(known) = coded else {
         return UNKNOWN_CODE;
     };
     let options = UniversalKrigingOptions {
-        variogram: Variogram::new(known, nugget, sill, range),
+        variogram: variogram_of(known, nugget, sill, range, same_spot),
         regularization,
     };
     let fit = universal_kriging_fit(

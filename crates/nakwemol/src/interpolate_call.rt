@@ -4,17 +4,16 @@ use crate::codes::CodedType;
 use crate::codes::UNKNOWN_CODE;
 use crate::codes::model_of;
 use crate::codes::type_of;
+use crate::codes::variogram_of;
 use interpolator::Interpolation;
 use interpolator::KrigingInterpolator;
-use variogram::Variogram;
 ghost use mathlib.Core.Path.{_≡_};
 ghost use Rattle.error.specs.Outcome.{outcome};
-ghost use Rattle.variogram.specs.Model.{variogram};
 ghost use Rattle.survey.specs.Limits.{base};
 ghost use Rattle.interpolator_theory.specs.Call.{Areas, areasOf};
 ghost use Rattle.interpolator_theory.specs.Interpolation.{interpolated};
 ghost use Rattle.interpolator.specs.Outcome.{interpolator, queryOf, outcomeOf};
-ghost use Rattle.nakwemol.specs.Codes.{modelOf, typeOf, byModel, byType, unknownCode};
+ghost use Rattle.nakwemol.specs.Codes.{modelOf, typeOf, byModel, byType, unknownCode, variogramOf};
 
 // The number of an interpolation's answer.
 fn interpolation_number(interpolation: Interpolation) -> u8
@@ -39,6 +38,7 @@ pub extern "C" fn nakwemol_interpolate(
     nugget: f64,
     sill: f64,
     range: f64,
+    same_spot: f64,
     work: &mut [f64],
     figures: &mut [f64],
     variances: &mut [f64],
@@ -47,7 +47,7 @@ pub extern "C" fn nakwemol_interpolate(
         let a = areasOf (now (work .entry)) (now (figures .entry)) (now (variances .entry)) in
         ⌜ outcome r (areasOf (now (work .exit)) (now (figures .exit)) (now (variances .exit)))
         ≡ byType (typeOf «kriging_type») (outcome unknownCode a) (λ t. byModel (modelOf model) (outcome unknownCode a)
-        (λ m. interpolated base (queryOf (interpolator t (variogram m nugget sill range))
+        (λ m. interpolated base (queryOf (interpolator t (variogramOf m nugget sill range «same_spot»))
         (now (values .entry)) (now (points .entry)) (now (targets .entry)) d) a)) ⌝ }
 {
     let coded_type = type_of(kriging_type);
@@ -58,7 +58,8 @@ pub extern "C" fn nakwemol_interpolate(
     let CodedModel::Known(known) = coded else {
         return UNKNOWN_CODE;
     };
-    let kriging = KrigingInterpolator::new(known_type, Variogram::new(known, nugget, sill, range));
+    let variogram = variogram_of(known, nugget, sill, range, same_spot);
+    let kriging = KrigingInterpolator::new(known_type, variogram);
     let interpolation = kriging.interpolate(values, points, targets, d, work, figures, variances);
     interpolation_number(interpolation)
 }

@@ -31,7 +31,7 @@ use Rattle.survey_map.proofs.Own.{lists-fit, own-work, own-predicted, o
 
 module _ (s : Survey) where
   -- a number that is given: its condition holds, and no rule before its own applies
-  first : (k : ℕ) → k ≢ 0 → k ≢ 19 → fitted base s ownAreas .number ≡ k → First (rules base s ownAreas) k
+  pub first : (k : ℕ) → k ≢ 0 → k ≢ 19 → fitted base s ownAreas .number ≡ k → First (rules base s ownAreas) k
   unfolding refusal
   first k z n e =
       let r = fit-ends base s ownAreas .refused k z n .0 e in
@@ -74,7 +74,7 @@ module _ (s : Survey) where
       answer-fits (at-most (λ x. few (inl x))) (at-most (λ x. few (inr (inl x)))) (at-most (λ x. few (inr (inr x)))) (l .applies)
 
   -- so that neither is printed
-  apart : (k : ℕ) → fitted base s ownAreas .number ≢ k → surveyText s ≢ refusedText k
+  pub apart : (k : ℕ) → fitted base s ownAreas .number ≢ k → surveyText s ≢ refusedText k
   unfolding surveyText
   apart k n = let o = fitted base s ownAreas in go (o .number) (o .areas) n
     where
@@ -86,7 +86,7 @@ module _ (s : Survey) where
   ample-for-fit = record { work = never-17; answer = never-18; never-17 = apart 17 never-17; never-18 = apart 18 never-18 }
 
 module _ (bytes : List ℕ) where
-  file-apart : (k : ℕ) → k ≢ 16 → surveyText (surveyIn bytes) ≢ refusedText k → fileText bytes ≢ refusedText k
+  pub file-apart : (k : ℕ) → k ≢ 16 → surveyText (surveyIn bytes) ≢ refusedText k → fileText bytes ≢ refusedText k
   unfolding fileText
   file-apart k n d = go (malformed baseVersion bytes)
     where

@@ -1,5 +1,6 @@
 pub mod Own
 pub mod Ample
+pub mod Spot
 pub mod Answer
 pub mod Texts
 pub mod Input

@@ -49,6 +49,10 @@ pub record AmpleForFit (s : Survey) : Type 0 where
   pub never-17 : surveyText s ≢ refusedText 17
   pub never-18 : surveyText s ≢ refusedText 18
 
+-- "Survey files don't carry it and take 2^-52": whatever the bytes, 22 never shows
+abbrev pub NeverSpot : List ℕ → Type 0
+NeverSpot bytes = fileText bytes ≢ refusedText 22
+
 -- whatever the bytes, the areas for their lists are too: the reader's only refusal is 16, and what is printed is never 17 or 18
 pub record AmpleForFile (bytes : List ℕ) : Type 0 where
   pub lists : reader baseVersion bytes ownLists .number ≢ 18

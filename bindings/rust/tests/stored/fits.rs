@@ -11,7 +11,7 @@ struct Record {
     node_external: Vec<f64>,
     codes: Vec<u8>,
     model: u8,
-    options: [f64; 5],
+    options: [f64; 6],
     lent: [usize; 7],
     number: u8,
     written: [usize; 7],
@@ -58,7 +58,7 @@ fn next(words: &mut Words) -> Record {
 
 /// The exported call: its number, what it writes, and what it does not.
 fn exported_agrees(r: &Record) -> bool {
-    let [nugget, sill, range, regularization, tolerance] = r.options;
+    let [nugget, sill, range, same_spot, regularization, tolerance] = r.options;
     let [mut work, mut predicted, mut variance, mut weights, mut multipliers, mut trend] = [0, 1, 2, 4, 5, 6].map(|area| marked(r.lent[area]));
     let mut verdicts = vec![MARK_BYTE; r.lent[3]];
     let number = calls::fit(
@@ -70,6 +70,7 @@ fn exported_agrees(r: &Record) -> bool {
         nugget,
         sill,
         range,
+        same_spot,
         regularization,
         &r.nodes,
         &r.node_external,
@@ -113,8 +114,8 @@ fn bases(r: &Record) -> Option<Vec<DriftBasis>> {
 
 /// The safe call, which lends areas of its own, so that 17 and 18 do not come up.
 fn safe_agrees(r: &Record, drift_bases: Vec<DriftBasis>) -> bool {
-    let [nugget, sill, range, regularization, tolerance] = r.options;
-    let variogram = Variogram::new(VariogramModel::of_code(r.model).expect("1 to 4"), nugget, sill, range);
+    let [nugget, sill, range, same_spot, regularization, tolerance] = r.options;
+    let variogram = Variogram::new(VariogramModel::of_code(r.model).expect("1 to 4"), nugget, sill, range).with_same_spot(same_spot);
     let options = UniversalKrigingOptions { drift_bases, variogram, regularization };
     match universal_kriging_fit(&r.coords, &r.values, &options, &r.nodes, Some(&r.node_external), tolerance) {
         Ok(fit) => {

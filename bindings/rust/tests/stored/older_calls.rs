@@ -6,7 +6,7 @@ fn compare_interpolation(words: &mut Words) -> bool {
     let lengths: [usize; 3] = words.counts();
     let [kind, d] = words.counts();
     let model = words.word() as u8;
-    let [nugget, sill, range] = std::array::from_fn(|_| words.number());
+    let [nugget, sill, range, same_spot] = std::array::from_fn(|_| words.number());
     let lent: [usize; 3] = words.counts();
     let [values, points, targets] = lengths.map(|length| words.numbers(length));
     let number = words.word() as u8;
@@ -14,13 +14,16 @@ fn compare_interpolation(words: &mut Words) -> bool {
     let told = words.count();
     let [told_work, told_figures, told_variances] = [told, written[1], written[2]].map(|count| words.words(count));
     let [mut work, mut figures, mut variances] = lent.map(marked);
-    let given = calls::interpolate(&values, &points, &targets, d, kind as u8, model, nugget, sill, range, &mut work, &mut figures, &mut variances);
+    #[rustfmt::skip]
+    let given = calls::interpolate(
+        &values, &points, &targets, d, kind as u8, model, nugget, sill, range, same_spot, &mut work, &mut figures, &mut variances,
+    );
     let exported = given == number
         && holds(&work, &told_work, written[0])
         && holds(&figures, &told_figures, written[1])
         && holds(&variances, &told_variances, written[2]);
     let kriging_type = if kind == 1 { KrigingType::Ordinary } else { KrigingType::Universal };
-    let variogram = Variogram::new(VariogramModel::of_code(model).expect("1 to 4"), nugget, sill, range);
+    let variogram = Variogram::new(VariogramModel::of_code(model).expect("1 to 4"), nugget, sill, range).with_same_spot(same_spot);
     let safe = match KrigingInterpolator::new(kriging_type, variogram).interpolate(&points, &values, &targets, d) {
         _ if number == 17 || number == 18 => true,
         Ok(answer) => number == 0 && same(&answer.values, &told_figures) && same(&answer.variances, &told_variances),

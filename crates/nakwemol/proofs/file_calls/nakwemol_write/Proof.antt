@@ -5,14 +5,13 @@ use mathlib.Core.List.{List}
 use borrow.Author.Needs.{needs}
 use Rattle.variogram.specs.declared.Variogram.{Variogram}
 use Rattle.variogram.specs.declared.VariogramModel.{VariogramModel}
-use Rattle.variogram.specs.Model.{variogram}
 use Rattle.survey.specs.declared.UniversalKrigingOptions.{UniversalKrigingOptions}
 use Rattle.survey.specs.Survey.{surveyOf}
 use Rattle.survey_file_theory.specs.declared.Written.{Written}
 use Rattle.survey_file_theory.specs.File.{baseVersion}
 use Rattle.survey_file_theory.specs.Writer.{Outcome, outcomeOf, writer}
 use Rattle.nakwemol.specs.declared.codes.CodedModel.{CodedModel}
-use Rattle.nakwemol.specs.Codes.{modelOf, byModel, unknownCode}
+use Rattle.nakwemol.specs.Codes.{modelOf, byModel, unknownCode, variogramOf}
 use Rattle.nakwemol.specs.Told.{Ending, ending, lengthTold}
 use Rattle.nakwemol.proofs.Coded.{model-unknown, model-known}
 use Rattle.nakwemol.proofs.file_calls.nakwemol_write.Statement.{statement}
@@ -25,7 +24,7 @@ at-entry c =
     let e = d .before .before .before in
     e .before .before
 
-abbrev at-code : tie.After-new → tie.After-model-of
+abbrev at-code : tie.After-variogram-of → tie.After-model-of
 at-code c = let d = c .before .before in d .before .before
 
 abbrev at-call : tie.After-tell-length → tie.After-write-survey
@@ -47,12 +46,12 @@ abbrev told : tie.Start → Outcome → Ending ℕ (List ℕ)
 told c e = lengthTold e (c .args .length .now)
 
 abbrev with-model : tie.Start → VariogramModel → Ending ℕ (List ℕ)
-with-model c m = let a = c .args in told c (with-variogram c (variogram m (a .nugget) (a .sill) (a .range)))
+with-model c m = let a = c .args in told c (with-variogram c (variogramOf m (a .nugget) (a .sill) (a .range) (a .same-spot)))
 
 -- the file with the model that the code stands for is how the call ends
 with-known : (s : tie.Start) (n count : ℕ) (written : Written) (after : List ℕ) (v : Variogram) (m : VariogramModel)
     → ((file : List ℕ) → ending n count file ≡ told s (outcomeOf written file)) → outcomeOf written after ≡ with-variogram s v
-    → v ≡ variogram m (s .args .nugget) (s .args .sill) (s .args .range) → modelOf (s .args .model) ≡ CodedModel.Known m
+    → v ≡ variogramOf m (s .args .nugget) (s .args .sill) (s .args .range) (s .args .same-spot) → modelOf (s .args .model) ≡ CodedModel.Known m
     → ending n count after ≡ byModel (modelOf (s .args .model)) (away s) (with-model s)
 with-known s n count written after v m number is new code =
     number after ∙ ap (told s) (is ∙ ap (with-variogram s) new) ∙ model-known (away s) (with-model s) code
@@ -75,9 +74,9 @@ returns c =
     let s = at-entry m in
     model-unknown (away s) (with-model s) (sym (m .model-of .ensures) ∙ c .enum-told .given .1)
 
--- variogram: Variogram::new(known, nugget, sill, range),
-new-requires : tie.Need-new-requires
-new-requires c κs = search needs
+-- variogram: variogram_of(known, nugget, sill, range, same_spot),
+variogram-of-requires : tie.Need-variogram-of-requires
+variogram-of-requires c κs = search needs
 
 -- let written = write_survey(
 write-survey-requires : tie.Need-write-survey-requires
@@ -98,8 +97,8 @@ returns-2 c =
     let m = at-code n in
     let known = n .before .before .coded .given in
     let file = w .write-survey .last .1 .1 .1 .1 .1 .1 .1 .1 .0 in
-    with-known (at-entry m) (c .tell-length .result) (c .tell-length .last .1 .0) (w .write-survey .result) file (n .new .result) (known .0 .0)
-    (c .tell-length .ensures) (w .write-survey .ensures .0) (n .new .ensures) (sym (m .model-of .ensures) ∙ known .1)
+    with-known (at-entry m) (c .tell-length .result) (c .tell-length .last .1 .0) (w .write-survey .result) file (n .variogram-of .result) (known .0 .0)
+    (c .tell-length .ensures) (w .write-survey .ensures .0) (n .variogram-of .ensures) (sym (m .model-of .ensures) ∙ known .1)
 
 pub nakwemol-write-spec : {M : Type 1} → statement M
 nakwemol-write-spec =
@@ -109,7 +108,7 @@ nakwemol-write-spec =
     enum-known-coded
     enum-told
     returns
-    new-requires
+    variogram-of-requires
     write-survey-requires
     tell-length-requires
     same-length

@@ -5,7 +5,6 @@ use borrow.Author.Needs.{needs}
 use Rattle.error.specs.Outcome.{Outcome, outcome}
 use Rattle.variogram.specs.declared.Variogram.{Variogram}
 use Rattle.variogram.specs.declared.VariogramModel.{VariogramModel}
-use Rattle.variogram.specs.Model.{variogram}
 use Rattle.survey.specs.declared.UniversalKrigingOptions.{UniversalKrigingOptions}
 use Rattle.survey.specs.Limits.{base}
 use Rattle.survey.specs.Survey.{surveyOf}
@@ -14,7 +13,7 @@ use Rattle.kriging_theory.specs.Fit.{fitted}
 use Rattle.kriging.specs.declared.Fit.{Fit}
 use Rattle.kriging.specs.Outcome.{outcomeOf}
 use Rattle.nakwemol.specs.declared.codes.CodedModel.{CodedModel}
-use Rattle.nakwemol.specs.Codes.{modelOf, byModel, unknownCode}
+use Rattle.nakwemol.specs.Codes.{modelOf, byModel, unknownCode, variogramOf}
 use Rattle.nakwemol.proofs.Coded.{model-unknown, model-known}
 use Rattle.nakwemol.proofs.fit_call.nakwemol_fit.Statement.{statement}
 use Rattle.nakwemol.proofs.fit_call.nakwemol_fit.Tie as tie
@@ -29,10 +28,10 @@ lists-known c =
 abbrev at-entry : tie.After-model-of → tie.Start
 at-entry c = let d = lists-known c .before .before .before in d .before .before .before
 
-abbrev at-code : tie.After-new → tie.After-model-of
+abbrev at-code : tie.After-variogram-of → tie.After-model-of
 at-code c = let d = c .before .before in d .before .before
 
-abbrev at-new : tie.After-universal-kriging-fit → tie.After-new
+abbrev at-new : tie.After-universal-kriging-fit → tie.After-variogram-of
 at-new c =
     let later = c .before .before .before in
     let earlier = later .before .before .before in
@@ -66,7 +65,7 @@ with-variogram c v =
     (lent c)
 
 abbrev with-model : tie.Start → VariogramModel → Outcome Areas
-with-model c m = let a = c .args in with-variogram c (variogram m (a .nugget) (a .sill) (a .range))
+with-model c m = let a = c .args in with-variogram c (variogramOf m (a .nugget) (a .sill) (a .range) (a .same-spot))
 
 -- what the fit leaves
 abbrev left : tie.After-universal-kriging-fit → Areas
@@ -77,7 +76,7 @@ left c =
 
 -- the fit with the model that the code stands for is how the call ends
 with-known : (s : tie.Start) (n : ℕ) (fit : Fit) (after : Areas) (v : Variogram) (m : VariogramModel) → ((a : Areas) → outcome n a ≡ outcomeOf fit a)
-    → outcomeOf fit after ≡ with-variogram s v → v ≡ variogram m (s .args .nugget) (s .args .sill) (s .args .range)
+    → outcomeOf fit after ≡ with-variogram s v → v ≡ variogramOf m (s .args .nugget) (s .args .sill) (s .args .range) (s .args .same-spot)
     → modelOf (s .args .model) ≡ CodedModel.Known m → outcome n after ≡ byModel (modelOf (s .args .model)) (away s) (with-model s)
 with-known s n fit after v m number is new code = number after ∙ is ∙ ap (with-variogram s) new ∙ model-known (away s) (with-model s) code
 
@@ -99,9 +98,9 @@ returns c =
     let s = at-entry m in
     model-unknown (away s) (with-model s) (sym (m .model-of .ensures) ∙ c .enum-told .given .1)
 
--- variogram: Variogram::new(known, nugget, sill, range),
-new-requires : tie.Need-new-requires
-new-requires c κs = search needs
+-- variogram: variogram_of(known, nugget, sill, range, same_spot),
+variogram-of-requires : tie.Need-variogram-of-requires
+variogram-of-requires c κs = search needs
 
 -- let fit = universal_kriging_fit(
 universal-kriging-fit-requires : tie.Need-universal-kriging-fit-requires
@@ -139,8 +138,8 @@ returns-2 c =
     let n = at-new f in
     let m = at-code n in
     let known = n .before .before .coded .given in
-    with-known (at-entry m) (c .fit-number .result) (f .universal-kriging-fit .result) (left f) (n .new .result) (known .0 .0)
-    (c .fit-number .ensures) (f .universal-kriging-fit .ensures .0) (n .new .ensures) (sym (m .model-of .ensures) ∙ known .1)
+    with-known (at-entry m) (c .fit-number .result) (f .universal-kriging-fit .result) (left f) (n .variogram-of .result) (known .0 .0)
+    (c .fit-number .ensures) (f .universal-kriging-fit .ensures .0) (n .variogram-of .ensures) (sym (m .model-of .ensures) ∙ known .1)
 
 pub nakwemol-fit-spec : {M : Type 1} → statement M
 nakwemol-fit-spec =
@@ -150,7 +149,7 @@ nakwemol-fit-spec =
     enum-known-coded
     enum-told
     returns
-    new-requires
+    variogram-of-requires
     universal-kriging-fit-requires
     fit-number-requires
     same-length

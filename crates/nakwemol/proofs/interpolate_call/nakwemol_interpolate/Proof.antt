@@ -5,7 +5,6 @@ use borrow.Author.Needs.{needs}
 use Rattle.error.specs.Outcome.{Outcome, outcome}
 use Rattle.variogram.specs.declared.Variogram.{Variogram}
 use Rattle.variogram.specs.declared.VariogramModel.{VariogramModel}
-use Rattle.variogram.specs.Model.{variogram}
 use Rattle.survey.specs.Limits.{base}
 use Rattle.interpolator_theory.specs.declared.KrigingType.{KrigingType}
 use Rattle.interpolator_theory.specs.Call.{Areas, areasOf}
@@ -14,7 +13,7 @@ use Rattle.interpolator.specs.declared.KrigingInterpolator.{KrigingInterpolator
 use Rattle.interpolator.specs.declared.Interpolation.{Interpolation}
 use Rattle.interpolator.specs.Outcome.{interpolator, queryOf, outcomeOf}
 use Rattle.nakwemol.specs.declared.codes.CodedModel.{CodedModel}
-use Rattle.nakwemol.specs.Codes.{modelOf, typeOf, byModel, byType, unknownCode}
+use Rattle.nakwemol.specs.Codes.{modelOf, typeOf, byModel, byType, unknownCode, variogramOf}
 use Rattle.nakwemol.proofs.Coded.{model-unknown, model-known, type-unknown, type-known}
 use Rattle.nakwemol.proofs.interpolate_call.nakwemol_interpolate.Statement.{statement}
 use Rattle.nakwemol.proofs.interpolate_call.nakwemol_interpolate.Tie as tie
@@ -29,10 +28,10 @@ at-entry c =
 abbrev at-type : tie.After-model-of → tie.After-type-of
 at-type c = let d = c .before .before in d .before .before
 
-abbrev at-code : tie.After-new → tie.After-model-of
+abbrev at-code : tie.After-variogram-of → tie.After-model-of
 at-code c = let d = c .before .before in d .before .before
 
-abbrev made : tie.After-interpolate → tie.After-new2
+abbrev made : tie.After-interpolate → tie.After-new
 made c = let d = c .before .before in d .before .before
 
 abbrev at-call : tie.After-interpolation-number → tie.After-interpolate
@@ -51,7 +50,7 @@ by-interpolator c k =
     interpolated base (queryOf k (a .values .now) (a .points .now) (a .targets .now) (a .d)) (areasOf (a .work .now) (a .figures .now) (a .variances .now))
 
 abbrev with-model : tie.Start → KrigingType → VariogramModel → Outcome Areas
-with-model c t m = let a = c .args in by-interpolator c (interpolator t (variogram m (a .nugget) (a .sill) (a .range)))
+with-model c t m = let a = c .args in by-interpolator c (interpolator t (variogramOf m (a .nugget) (a .sill) (a .range) (a .same-spot)))
 
 abbrev with-type : tie.Start → KrigingType → Outcome Areas
 with-type c t = byModel (modelOf (c .args .model)) (away c) (with-model c t)
@@ -63,7 +62,7 @@ left c = let work = c .interpolate .last .1 .1 .1 .1 .1 in areasOf (work .0) (wo
 -- the interpolation with the model that the code stands for is that of its kriging type
 with-known : (s : tie.Start) (t : KrigingType) (n : ℕ) (i : Interpolation) (after : Areas) (k : KrigingInterpolator) (v : Variogram) (m : VariogramModel)
     → ((a : Areas) → outcome n a ≡ outcomeOf i a) → outcomeOf i after ≡ by-interpolator s k → k ≡ interpolator t v
-    → v ≡ variogram m (s .args .nugget) (s .args .sill) (s .args .range) → modelOf (s .args .model) ≡ CodedModel.Known m → outcome n after ≡ with-type s t
+    → v ≡ variogramOf m (s .args .nugget) (s .args .sill) (s .args .range) (s .args .same-spot) → modelOf (s .args .model) ≡ CodedModel.Known m → outcome n after ≡ with-type s t
 with-known s t n i after k v m number is made new code =
     number after ∙ is ∙ ap (by-interpolator s) (made ∙ ap (interpolator t) new) ∙ model-known (away s) (with-model s t) code
 
@@ -113,12 +112,13 @@ returns-2 c =
     let s = at-entry (at-type m) in
     model-unknown (away s) (with-model s (type-at m)) (sym (m .model-of .ensures) ∙ c .enum-told2 .given .1) ∙ typed m
 
--- let kriging = KrigingInterpolator::new(known_type, Variogram::new(known, nugget, sill, range));
+-- let variogram = variogram_of(known, nugget, sill, range, same_spot);
+variogram-of-requires : tie.Need-variogram-of-requires
+variogram-of-requires c κs = search needs
+
+-- let kriging = KrigingInterpolator::new(known_type, variogram);
 new-requires : tie.Need-new-requires
 new-requires c κs = search needs
-
-new-requires-2 : tie.Need-new-requires-2
-new-requires-2 c κs = search needs
 
 -- let interpolation = kriging.interpolate(values, points, targets, d, work, figures, variances);
 interpolate-requires : tie.Need-interpolate-requires
@@ -145,8 +145,8 @@ returns-3 c =
     let n = k .before in
     let m = at-code n in
     let known = n .before .before .coded .given in
-    with-known (at-entry (at-type m)) (type-at m) (c .interpolation-number .result) (i .interpolate .result) (left i) (k .new2 .result) (n .new .result)
-    (known .0 .0) (c .interpolation-number .ensures) (i .interpolate .ensures .0) (k .new2 .ensures) (n .new .ensures)
+    with-known (at-entry (at-type m)) (type-at m) (c .interpolation-number .result) (i .interpolate .result) (left i) (k .new .result) (n .variogram-of .result)
+    (known .0 .0) (c .interpolation-number .ensures) (i .interpolate .ensures .0) (k .new .ensures) (n .variogram-of .ensures)
     (sym (m .model-of .ensures) ∙ known .1)
     ∙ typed m
 
@@ -162,8 +162,8 @@ nakwemol-interpolate-spec =
     enum-known-coded
     enum-told-2
     returns-2
+    variogram-of-requires
     new-requires
-    new-requires-2
     interpolate-requires
     interpolation-number-requires
     same-length
