@@ -41,7 +41,8 @@ impl KrigingInterpolator {
         }
     }
 
-    // The values at targets, from those at points of d numbers each: their figures and variances, into the lent areas.
+    // The values at targets, from those at points of d numbers each: their figures and variances, into the lent areas. Below the variogram's same-spot
+    // distance the variogram is 0, between two points and between a point and a target.
     pub fn interpolate(
         self,
         values: &[f64],

@@ -1,5 +1,5 @@
 // Universal kriging with external drift, by the Rust's parts. What the fit answers is defined in specs/.
-mod refusals; // refusals.rt: 1 to 12, 17, 18
+mod refusals; // refusals.rt: 1 to 11, 22, 12, 17, 18
 mod drift; // drift.rt: the drift columns at the wells and at a node
 mod assembly; // assembly.rt: the matrix beside the identity
 mod node; // node.rt: one node
@@ -43,6 +43,7 @@ pub enum Fit {
 
 // Universal kriging with external drift: values and coordinates of n wells, basis codes, external values column after column, m nodes with theirs
 // node after node.
+// The options carry the variogram with its same-spot distance: below that distance the variogram is 0, between two wells and between a well and a node.
 // Lent are a work area, and areas for m figures, variances and verdicts, n·m weights node after node, p multipliers, and p numbers of the trend.
 pub fn universal_kriging_fit(
     values: &[f64],

@@ -1,4 +1,5 @@
-// What turns a fit away before it eliminates: the survey's refusals, 1 to 12, then the work area's, 17, and the answer areas', 18.
+// What turns a fit away before it eliminates: the survey's refusals, 1 to 11, 22 and 12, then the work area's, 17, and the answer
+// areas', 18.
 use error::Judgement;
 use error::Refusal;
 use survey::Limits;
@@ -56,7 +57,7 @@ fn short_answer(
     trend < p
 }
 
-// 1 to 12, 17 and 18: the first that applies. Past 7 there are no more columns than wells, so that their count is p itself.
+// 1 to 11, 22, 12, 17 and 18: the first that applies. Past 7 there are no more columns than wells, so that their count is p itself.
 pub(crate) fn fit_refusal(
     limits: Limits,
     values: &[f64],

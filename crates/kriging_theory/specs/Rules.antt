@@ -1,4 +1,4 @@
--- What turns a fit away before it eliminates, as the paper says it and not as tests: the survey's rules, the work area's and the answer areas'.
+-- What turns a fit away before it eliminates, as the papers say it and not as tests: the survey's rules, the work area's and the answer areas'.
 -- "The lowest applying number wins in a fit.", and 22 comes "straight after 11".
 use mathlib.Core.List.{List, [], _∷_, _++_}
 use Rattle.error.specs.Rules.{Rule, rule}

@@ -47,7 +47,7 @@ fn tell_header(read: Read, counts: &mut [usize; 3], numbers: &mut [f64; 5], mode
 }
 
 // `read_survey`: 0 where the areas hold the lists, counts how many wells, nodes and bases there are, numbers nugget, sill, range, r and t, and model the
-// model's code; else what turned the call away.
+// model's code; else what turned the call away. The same-spot distance is not told: a file has none, and stands for 2^-52.
 #[no_mangle]
 pub extern "C" fn nakwemol_read(
     bytes: &[u8],
@@ -85,8 +85,8 @@ fn tell_length(written: Written, length: &mut usize) -> u8
     }
 }
 
-// `write_survey`: 0 where the area holds the file, and length how many bytes it has; else what turned the call away. 100 where the model's code is none,
-// before all others.
+// `write_survey`: 0 where the area holds the file, and length how many bytes it has; else what turned the call away. A `same_spot` other than 2^-52 is refused
+// by 22, since a file has no place for it. 100 where the model's code is none, before all others.
 #[no_mangle]
 pub extern "C" fn nakwemol_write(
     values: &[f64],

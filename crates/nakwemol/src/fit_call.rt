@@ -25,7 +25,8 @@ fn fit_number(fit: Fit) -> u8
     }
 }
 
-// `universal_kriging_fit`: 0 where the areas hold the answer, else what turned the call away. 100 where the model's code is none, before all others.
+// `universal_kriging_fit`: 0 where the areas hold the answer, else what turned the call away. Below the distance `same_spot` the variogram is 0. 100 where the
+// model's code is none, before all others.
 #[no_mangle]
 pub extern "C" fn nakwemol_fit(
     values: &[f64],

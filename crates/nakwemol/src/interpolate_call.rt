@@ -25,8 +25,8 @@ fn interpolation_number(interpolation: Interpolation) -> u8
     }
 }
 
-// `interpolate` of the interpolator of a kriging type and a variogram: 0 where the areas hold the answer, else what turned the call away. 100 where the
-// kriging type's code or the model's is none, before all others.
+// `interpolate` of the interpolator of a kriging type and a variogram, which is 0 below the distance `same_spot`: 0 where the areas hold the answer, else what
+// turned the call away. 100 where the kriging type's code or the model's is none, before all others.
 #[no_mangle]
 pub extern "C" fn nakwemol_interpolate(
     values: &[f64],

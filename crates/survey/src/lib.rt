@@ -24,7 +24,7 @@ pub const MOST_DRIFT: usize = MOST_WELLS * MOST_COLUMNS;
 
 // Options of a fit. Its drift bases, a list of codes, are lent beside them.
 pub struct UniversalKrigingOptions {
-    // Variogram model of the wells and of the nodes.
+    // Variogram of the wells and of the nodes, with its same-spot distance.
     pub variogram: Variogram,
     // Regularisation, added to the diagonal between a well and itself.
     pub regularization: f64,
