@@ -6,7 +6,7 @@ to agree with the original wherever that answers: else nothing is written. The o
 A record is words of 64 bits:
 
     the lengths of the values, coordinates, externals, nodes and node externals, and of the codes
-    the model, nugget, sill, range, r and t
+    the model, nugget, sill, range, same-spot distance, r and t
     how much is lent of the work area, the figures, variances, verdicts, weights, multipliers and of the trend
     the lists in that order, then the codes
     the number, 0 for an answer
@@ -114,7 +114,7 @@ def hold_known(ended):
 def asked_words(case):
     survey, lent = case.survey, case.lent
     lists = [survey.values, survey.coords, survey.external, survey.nodes, survey.node_external]
-    options = [survey.variogram.model, *numbers([*survey.variogram.numbers(), survey.r, survey.t])]
+    options = [survey.variogram.model, *numbers([*survey.variogram[1:], survey.r, survey.t])]
     areas = [lent.work, lent.figures, lent.variances, lent.verdicts, lent.weights, lent.multipliers, lent.trend]
     return [*map(len, lists), len(survey.codes), *options, *areas, *(x for xs in lists for x in numbers(xs)), *survey.codes]
 

@@ -4,9 +4,10 @@ leave.
 Figures and variances are the original's. Work areas and the numbers of refusals are tools/reading's, which has to agree with the original wherever
 that answers: else nothing is written.
 
-A record is words of 64 bits: the lengths of the values, coordinates and targets; the type (1 Ordinary, 2 Universal), d, the model, nugget, sill and
-range; how much is lent of the work area, the figures and the variances; the lists in that order. After these the number, 0 for an answer; how much is
-written of each area, in the same order; how much of the work area is told, all that is written or nothing; and then what stands there, area after area.
+A record is words of 64 bits: the lengths of the values, coordinates and targets; the type (1 Ordinary, 2 Universal), d, the model, nugget, sill, range
+and same-spot distance; how much is lent of the work area, the figures and the variances; the lists in that order. After these the number, 0 for an
+answer; how much is written of each area, in the same order; how much of the work area is told, all that is written or nothing; and then what stands
+there, area after area.
 """
 from collections import Counter
 from typing import NamedTuple
@@ -65,7 +66,7 @@ def held(ended, answer):
 def asked_words(case):
     query, lent = case.query, case.lent
     lists = [query.values, query.coords, query.targets]
-    variogram = [query.variogram.model, *numbers(query.variogram.numbers())]
+    variogram = [query.variogram.model, *numbers(query.variogram[1:])]
     return [*map(len, lists), query.kind, query.d, *variogram, lent.work, lent.figures, lent.variances, *(x for xs in lists for x in numbers(xs))]
 
 

@@ -31,7 +31,7 @@ def fields(heading, named):
 def survey(s):
     v = s.variogram
     lists = {"codes": s.codes, "values": s.values, "coords": s.coords, "external": s.external, "nodes": s.nodes, "node_external": s.node_external}
-    fields("inputs", {**lists, "model": v.model, "nugget": v.nugget, "sill": v.sill, "range": v.range, "r": s.r, "t": s.t})
+    fields("inputs", {**lists, "model": v.model, "nugget": v.nugget, "sill": v.sill, "range": v.range, "same_spot": v.same_spot, "r": s.r, "t": s.t})
 
 
 def on_the_way(matrix, right_hand_sides):

@@ -4,7 +4,7 @@
 Usage: tools/reading/compare.py KRIGING.RS [COUNT [SEED]]     COUNT fits (20,000), and a quarter as many of each of the other two, and of trends
 
 A call is compared where the original answers it: figures, variances, multipliers, distances, semivariances, and the kinds of the refusals that
-it has. Where paper 01 adds a refusal nothing is compared, and the call is counted beside; these are tried at their edges (edges.py). Each
+it has. Where the papers add a refusal nothing is compared, and the call is counted beside; these are tried at their edges (edge_checks.py). Each
 reading is also held to what paper 01 says of areas, and its verdicts to sums of fractions. The original has no trend: of more fits the trend is held
 to the inverse that the original makes of the same matrix. Prints what was compared and, of what differs, the shortest call.
 """
@@ -19,7 +19,7 @@ from tools.generators.draw import Draw
 from tools.generators.records import line
 from tools.oracle.oracle import ask, build
 from tools.patterns import bits, word
-from tools.reading import edges, fit, interpolator, semivariogram
+from tools.reading import edge_checks, fit, interpolator, semivariogram
 from tools.reading.fractions_audit import verdict_by_fractions
 from tools.reading.lent import area, fit_lengths, query_lengths, untouched
 from tools.reading.original import asked_inverse, trend_by_inverse
@@ -156,7 +156,7 @@ def main():
     build(sys.argv[1])
     count = int(sys.argv[2]) if len(sys.argv) > 2 else 20000
     draw = Draw(sys.argv[3] if len(sys.argv) > 3 else "nakwemol reading").with_models([1, 1, 2, 2, 3, 3, 4])
-    print(f"refusals: {edges.check()} calls at the edges, each as it has to be")
+    print(f"refusals: {edge_checks.check()} calls at the edges, each as it has to be")
     different = compare("fits", draw, count, draw_fit, read_fit)
     different += compare("interpolations", draw, count // 4, draw_interpolate, read_interpolate)
     different += compare("semivariograms", draw, count // 4, draw_calculate, read_calculate)
