@@ -24,8 +24,10 @@ class Variogram(NamedTuple):
 
     def evaluate(self, h):
         """Slip 5: "the variogram is 0 below it instead of below 2^-52"; "A distance equal to the field is not the same spot"."""
-        if h < self.same_spot:
-            return 0.0
+        return 0.0 if h < self.same_spot else self.by_formula(h)
+
+    def by_formula(self, h):
+        """The model's value at a distance that is not the same spot."""
         by_model = {SPHERICAL: self.spherical, EXPONENTIAL: self.exponential, GAUSSIAN: self.gaussian, LINEAR: self.linear}
         return by_model[self.model](h)
 
