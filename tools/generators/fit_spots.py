@@ -1,4 +1,4 @@
-"""Fits with a same-spot distance of their own: wells and nodes within it of each other, beside it and at it, with every model."""
+"""Fits with a same-spot distance of their own: wells and nodes nearer to each other than it, beside it and at it, with every model."""
 import math
 
 from tools.generators.draw import COLUMNS, Draw, flat

@@ -1,7 +1,6 @@
 """What the calls with a same-spot distance are drawn from: wells and nodes in yards, and distances that occur, with the numbers beside them."""
 import math
 
-from tools.generators.draw import flat
 from tools.reading.variogram import EXPONENTIAL, GAUSSIAN, LINEAR, SPHERICAL, distance
 
 MODELS = (SPHERICAL, EXPONENTIAL, GAUSSIAN, LINEAR)
@@ -54,12 +53,5 @@ def lattice(draw, count, axes):
     return points
 
 
-def level(draw):
-    return round(draw.uniform(20, 90), 2)
-
-
 def levels(draw, count):
-    return [level(draw) for _ in range(count)]
-
-
-__all__ = ["MODELS", "SPOTS", "away", "beside", "flat", "lattice", "levels", "nodes_at", "occurring", "yards"]
+    return [round(draw.uniform(20, 90), 2) for _ in range(count)]

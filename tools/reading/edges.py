@@ -18,6 +18,7 @@ LEAST_SPOT = 2.0**-52
 BELOW_LEAST, ABOVE_LEAST = math.nextafter(LEAST_SPOT, 0.0), math.nextafter(LEAST_SPOT, 1.0)
 WRONG_SPOTS = [0.0, BELOW_LEAST, -0.0, TINY, -1.0, -LEAST_SPOT, -GREATEST, *ODD]
 TAKEN_SPOTS = [LEAST_SPOT, ABOVE_LEAST, 1e-3, 0.5, 1.0, GREATEST]
+OTHER_SPOTS = [1.0, ABOVE_LEAST, 1e-3, 0.5, GREATEST, *WRONG_SPOTS]
 
 
 def spread(count):
@@ -116,6 +117,6 @@ SAMPLES_EDITS = {
 WRITER_EDITS = {
     **{number: FIT_EDITS[number] for number in (1, 2, 6, 8)},
     11: FIT_EDITS[11] + [edit(r=bad) for bad in ODD] + [edit(t=bad) for bad in ODD],
-    22: spots([1.0, ABOVE_LEAST, *TAKEN_SPOTS[2:4], GREATEST, *WRONG_SPOTS]),
+    22: spots(OTHER_SPOTS),
     16: [grown(n=2500), grown(m=3000), edit(codes=[1] * 65536 + [4])],
 }
