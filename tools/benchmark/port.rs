@@ -6,6 +6,8 @@ use std::hint::black_box;
 
 const SPHERICAL: u8 = 1;
 const AXES: usize = 2;
+/// The original's own: below it a variogram is 0.
+const SAME_SPOT: f64 = f64::EPSILON;
 
 pub struct Fit {
     survey: Survey,
@@ -45,6 +47,7 @@ impl Fit {
             s.nugget,
             s.sill,
             s.range,
+            SAME_SPOT,
             s.regularization,
             &s.nodes,
             &[],
@@ -148,6 +151,7 @@ impl Interpolation {
             s.nugget,
             s.sill,
             s.range,
+            SAME_SPOT,
             &mut self.work,
             &mut self.figures,
             &mut self.variances,

@@ -4,6 +4,19 @@ from typing import NamedTuple
 from tools.generators.draw import COLUMNS, flat
 from tools.generators.records import listed, number, numbers
 
+# the same-spot distance that the original has as its constant
+OWN = number(2.0**-52)
+
+
+def below(variogram):
+    """The same-spot distance before a call, where it is another than the original's own. One that is drawn has none but that."""
+    return [w for spot in variogram[4:] if number(spot) != OWN for w in ("below", number(spot))]
+
+
+def variogram_words(variogram):
+    model, nugget, sill, span = variogram[:4]
+    return [model, *numbers([nugget, sill, span])]
+
 
 class Fit(NamedTuple):
     values: list
@@ -18,7 +31,7 @@ class Fit(NamedTuple):
     def words(self):
         wells = [*listed(self.values), *listed(self.coords), len(self.codes), *self.codes, *listed(self.external)]
         nodes = [*listed(self.nodes), *listed(self.node_external)]
-        return ["fit", *wells, *nodes, self.variogram[0], *numbers(self.variogram[1:]), number(self.r)]
+        return [*below(self.variogram), "fit", *wells, *nodes, *variogram_words(self.variogram), number(self.r)]
 
 
 class Interpolate(NamedTuple):
@@ -31,7 +44,7 @@ class Interpolate(NamedTuple):
 
     def words(self):
         lists = [*listed(self.values), *listed(self.coords), *listed(self.targets)]
-        return ["interpolate", self.kind, self.d, *lists, self.variogram[0], *numbers(self.variogram[1:])]
+        return [*below(self.variogram), "interpolate", self.kind, self.d, *lists, *variogram_words(self.variogram)]
 
 
 class Calculate(NamedTuple):

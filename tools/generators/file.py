@@ -1,4 +1,5 @@
-"""crates/vectors_file: files that are read and surveys that are written, as file_cases.py and file_refusals.py have them, with all that is left in the areas.
+"""crates/vectors_file: files that are read and surveys that are written, as file_cases.py, file_refusals.py and file_spots.py have them, with all that is
+left in the areas.
 
 The bytes of every file are put together by file_case.py from the paper's sentence, the answers are tools/reading's; where what the one writes is not what
 the other has, or a call ends by another number than is written down for it, nothing is written. The original has no survey file.
@@ -6,9 +7,9 @@ the other has, or a call ends by another number than is written down for it, not
 A record is words of 64 bits and bytes. First the call, 1 the reader's, 2 the writer's.
 
     reader: how much is lent of values, coordinates, codes, externals, nodes, node externals; the file. Then the number, 0 for an answer; wells, nodes,
-        codes, model, nugget, sill, range, r, t, all 0 in a refusal; and what is written of each of the six areas.
-    writer: the lengths of values, coordinates, externals, nodes, node externals; model, nugget, sill, range, r, t; how many bytes are lent; those lists as
-        one; the codes. Then the number; how many bytes are written; and those.
+        codes, model, nugget, sill, range, same-spot distance, r, t, all 0 in a refusal; and what is written of each of the six areas.
+    writer: the lengths of values, coordinates, externals, nodes, node externals; model, nugget, sill, range, same-spot distance, r, t; how many bytes are
+        lent; those lists as one; the codes. Then the number; how many bytes are written; and those.
 
 A list comes as its bytes, eight for a number, and these as runs, so that a long one takes little room: how many runs; of each how many places it has, how
 many of them are told, and those. Each place after these is as that so many places before it.
@@ -20,6 +21,7 @@ from tools.generators.file_case import CODE_PERIOD, MOST_BYTES, MOST_NUMBERS, PE
 from tools.generators.file_cases import read_cases, write_cases
 from tools.generators.file_covered import covered
 from tools.generators.file_refusals import refused_reads, refused_writes
+from tools.generators.file_spots import spot_writes
 from tools.generators.replay import made_files, marked, untouched, written_lines
 from tools.patterns import bits
 from tools.reading import survey_file
@@ -30,6 +32,8 @@ PARTS = ["values", "coordinates", "codes", "externals", "nodes", "node externals
 # after how many bytes a list may come again: one, the codes', the numbers'; and how many it has to save
 PERIODS = (1, CODE_PERIOD, 8 * PERIOD)
 SAVES = 40
+# what a file says besides its lists
+HEADER = 10
 
 
 class Ended(NamedTuple):
@@ -61,9 +65,9 @@ def read(case):
     assert areas.codes[written[2]:] == before.codes[written[2]:]
     assert [list(map(bits, areas[i][:written[i]])) for i in numbers] == [list(map(bits, lists[i])) for i in numbers]
     if survey is None:
-        return Ended(case, number, [0] * 9, lists)
+        return Ended(case, number, [0] * HEADER, lists)
     v = survey.variogram
-    return Ended(case, number, [survey.n, survey.m, len(survey.codes), v.model, *map(bits, [*v.numbers(), survey.r, survey.t])], lists)
+    return Ended(case, number, [survey.n, survey.m, len(survey.codes), v.model, *map(bits, [*v[1:], survey.r, survey.t])], lists)
 
 
 def reads_back(survey, data):
@@ -133,7 +137,7 @@ def write_record(ended):
     survey = ended.case.survey
     lists = [survey.values, survey.coords, survey.external, survey.nodes, survey.node_external]
     v = survey.variogram
-    head = [*map(len, lists), v.model, *map(bits, [*v.numbers(), survey.r, survey.t]), ended.case.lent]
+    head = [*map(len, lists), v.model, *map(bits, [*v[1:], survey.r, survey.t]), ended.case.lent]
     data = packed([2, *head]) + packed_words([x for items in lists for x in items]) + packed_bytes(survey.codes)
     return data + packed([ended.number, *ended.header]) + packed_bytes(ended.lists[0])
 
@@ -158,11 +162,12 @@ def counted(all_ended):
     file_bytes = sum(len(ended.lists[0]) for ended in writes)
     lent = sum(sum(ended.case.lent) for ended in reads) + sum(ended.case.lent for ended in writes)
     past = lent - sum(told.values()) - file_bytes
-    return {"headers": 9 * len(reads), **told, "lengths of files": len(writes), "bytes of files": file_bytes, "places not to be written": past}
+    return {"headers": HEADER * len(reads), **told, "lengths of files": len(writes), "bytes of files": file_bytes, "places not to be written": past}
 
 
 def files():
-    all_ended = [*map(read, read_cases()), *map(read, refused_reads()), *map(write, write_cases()), *map(write, refused_writes())]
+    reads = [*map(read, read_cases()), *map(read, refused_reads())]
+    all_ended = [*reads, *map(write, write_cases()), *map(write, refused_writes()), *map(write, spot_writes())]
     for ended in all_ended:
         assert fits_program(ended.case) and ended.number == ended.case.number, (ended.case.number, ended.number)
     covered(all_ended)

@@ -120,7 +120,7 @@ def many(**counts):
 
 
 EDITS = {
-    **{number: edges.WRITER_EDITS[number] for number in (1, 2, 6, 8, 11)},
+    **{number: edges.WRITER_EDITS[number] for number in (1, 2, 6, 8, 11, 22)},
     16: [with_codes(65537), with_codes(65540), many(n=2000), many(m=2700), edges.edit(codes=lambda call: call.codes + [1] * (65535 - len(call.codes)))],
 }
 WAYS = {**changes(EDITS), 18: too_short([0])}
@@ -134,13 +134,18 @@ def bytes_for(survey, ways):
     return file_length(survey) - len(shorts(ways))
 
 
-def refused_writes():
-    for first, numbers, ways in REFUSALS.combined():
+def refused_by(combinations):
+    for first, numbers, ways in combinations:
         survey = edited(SURVEY, ways)
         lent = bytes_for(survey, ways)
         applies = {number for number, test in writer_tests(survey, bytes(lent)) if test}
         assert set(numbers) <= applies, (first, numbers, applies)
         yield Write(survey, lent, first)
+
+
+def refused_writes():
+    """Without the number that came later: its calls stand by themselves (file_spots.py)."""
+    yield from refused_by(REFUSALS.without(22).combined())
     # 18 alone, at every length below the file's that could be taken for it
     length = len(written_file(SURVEY).data())
     yield from (Write(SURVEY, lent, 18) for lent in (0, 1, 14, length - 14, length - 8, length - 1))

@@ -1,12 +1,13 @@
-"""crates/vectors_fit: fits, as fit_cases.py, fit_models.py, fit_trends.py and fit_refusals.py draw them, with all that they leave.
+"""crates/vectors_fit: fits, as fit_cases.py, fit_models.py, fit_trends.py, fit_refusals.py, fit_spots.py and fit_spot_refusals.py draw them, with all
+that they leave.
 
-Figures, variances and multipliers are the original's. Weights, trends, verdicts, work areas and the numbers of refusals are tools/reading's, which has
+Figures, variances and multipliers are the original's; with a same-spot distance that it does not have, those of its second build. Weights, trends, verdicts, work areas and the numbers of refusals are tools/reading's, which has
 to agree with the original wherever that answers: else nothing is written. The original has no trend; it has the inverse, and a trend is held to that.
 
 A record is words of 64 bits:
 
     the lengths of the values, coordinates, externals, nodes and node externals, and of the codes
-    the model, nugget, sill, range, r and t
+    the model, nugget, sill, range, same-spot distance, r and t
     how much is lent of the work area, the figures, variances, verdicts, weights, multipliers and of the trend
     the lists in that order, then the codes
     the number, 0 for an answer
@@ -23,6 +24,9 @@ from tools.generators.fit_cases import accepted_cases
 from tools.generators.fit_covered import covered
 from tools.generators.fit_models import model_cases
 from tools.generators.fit_refusals import refused_cases
+from tools.generators.fit_spot_refusals import spot_refusals
+from tools.generators.fit_spots import spot_cases
+from tools.generators.fit_spots_covered import covered_spots
 from tools.generators.fit_trends import trend_cases
 from tools.generators.fit_trends_covered import covered_trends
 from tools.generators.records import answer_words, answered, numbers, packed
@@ -35,7 +39,7 @@ from tools.reading.lent import fit_lengths
 from tools.reading.original import asked_inverse, trend_by_inverse
 
 MARK_BYTE = 99
-MOST_BYTES = 2_250_000
+MOST_BYTES = 2_700_000
 MOST_NUMBERS, MOST_CODES = 3072, 64
 PARTS = {
     "figures": "figures",
@@ -114,7 +118,7 @@ def hold_known(ended):
 def asked_words(case):
     survey, lent = case.survey, case.lent
     lists = [survey.values, survey.coords, survey.external, survey.nodes, survey.node_external]
-    options = [survey.variogram.model, *numbers([*survey.variogram.numbers(), survey.r, survey.t])]
+    options = [survey.variogram.model, *numbers([*survey.variogram[1:], survey.r, survey.t])]
     areas = [lent.work, lent.figures, lent.variances, lent.verdicts, lent.weights, lent.multipliers, lent.trend]
     return [*map(len, lists), len(survey.codes), *options, *areas, *(x for xs in lists for x in numbers(xs)), *survey.codes]
 
@@ -147,7 +151,7 @@ def counted(all_ended):
 
 
 def files():
-    cases = [*accepted_cases(), *refused_cases(), *model_cases(), *trend_cases()]
+    cases = [*accepted_cases(), *refused_cases(), *model_cases(), *trend_cases(), *spot_cases(), *spot_refusals()]
     assert all(map(fits_program, cases))
     calls = [Fit(*case.survey[:6], tuple(case.survey.variogram), case.survey.r).words() for case in cases]
     answers = [answer for _, answer in answered(calls)]
@@ -159,5 +163,6 @@ def files():
     hold_trends(all_ended)
     covered(all_ended)
     covered_trends(all_ended)
+    covered_spots(all_ended)
     records = [packed([*asked_words(e.case), *told_words(e, a)]) for e, a in zip(all_ended, answers)]
     return made_files(records, written_lines([ended.number for ended in all_ended], counted(all_ended)), MOST_BYTES)

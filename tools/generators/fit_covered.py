@@ -7,7 +7,7 @@ from tools.reading.fit import assembled, drift, node_drift
 from tools.reading.floats import all_finite, div
 from tools.reading.variogram import EXPONENTIAL, GAUSSIAN, distance
 
-NUMBERS = {0, *range(1, 13), 17, 18, 19}
+NUMBERS = {0, *range(1, 13), 17, 18, 19, 22}
 
 
 def node_causes(ended, columns, q):
@@ -35,7 +35,7 @@ def powers(survey):
     v, wells = survey.variogram, [survey.well(i) for i in range(survey.n)]
     apart = {distance(a, b) for a in wells for b in [*wells, *map(survey.node, range(survey.m))]}
     reach = v.range if v.model == EXPONENTIAL else v.range * v.range
-    return {div(h if v.model == EXPONENTIAL else h * h, reach) for h in apart if h >= 2.0**-52}
+    return {div(h if v.model == EXPONENTIAL else h * h, reach) for h in apart if h >= v.same_spot}
 
 
 def covered_powers(surveys, model):

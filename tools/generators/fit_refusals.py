@@ -28,25 +28,32 @@ def refused(first, *ways):
     return shortened(survey, {place for _, place in ways if place is not None})._replace(number=first)
 
 
-def pairs():
-    for at, first in enumerate(edges.FIT_ORDER):
+def pairs(order):
+    """Each number alone, and with each later one: the numbers that apply, and the case."""
+    for at, first in enumerate(order):
         for way in WAYS[first]:
-            yield refused(first, way)
-            yield from (refused(first, way, WAYS[later][0]) for later in edges.FIT_ORDER[at + 1:])
+            yield [first], refused(first, way)
+            yield from (([first, later], refused(first, way, WAYS[later][0])) for later in order[at + 1:])
 
 
-def at_once():
+def at_once(order):
     """A number together with all later ones: what is not finite is the variogram's, which no other way undoes."""
     last = {11: WAYS[11][-1]}
-    for at, first in enumerate(edges.FIT_ORDER):
-        yield refused(first, *(last.get(number, WAYS[number][0]) for number in edges.FIT_ORDER[at:]))
+    for at, first in enumerate(order):
+        yield order[at:], refused(first, *(last.get(number, WAYS[number][0]) for number in order[at:]))
 
 
-def short_trends():
+def short_trends(order):
     """The trend's area too short, together with each earlier number but 3, without columns: it is not looked at before the others."""
-    for first in edges.FIT_ORDER[:-1]:
+    for first in order[:-1]:
         if first != 3:
-            yield refused(first, WAYS[first][0], (lambda call: call, TREND))
+            yield [first, 18], refused(first, WAYS[first][0], (lambda call: call, TREND))
+
+
+def combined(order):
+    yield from pairs(order)
+    yield from at_once(order)
+    yield from short_trends(order)
 
 
 def long_lists():
@@ -65,7 +72,11 @@ def long_lists():
 
 
 def refused_cases():
-    yield from pairs()
-    yield from at_once()
-    yield from short_trends()
+    """Without the numbers that came later: the cases of those stand by themselves."""
+    yield from (case for _, case in combined([number for number in edges.FIT_ORDER if number != 22]))
     yield from long_lists()
+
+
+def refused_by_spots():
+    """Those in which 22 takes part: by it, and by an earlier number beside it."""
+    yield from (case for numbers, case in combined(edges.FIT_ORDER) if 22 in numbers)

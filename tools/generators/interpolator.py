@@ -1,12 +1,13 @@
-"""crates/vectors_interpolator: interpolations, as interpolator_cases.py, interpolator_models.py and interpolator_refusals.py have them, with all that they
-leave.
+"""crates/vectors_interpolator: interpolations, as interpolator_cases.py, interpolator_models.py, interpolator_refusals.py and interpolator_spots.py have
+them, with all that they leave.
 
-Figures and variances are the original's. Work areas and the numbers of refusals are tools/reading's, which has to agree with the original wherever
+Figures and variances are the original's; with a same-spot distance that it does not have, those of its second build. Work areas and the numbers of refusals are tools/reading's, which has to agree with the original wherever
 that answers: else nothing is written.
 
-A record is words of 64 bits: the lengths of the values, coordinates and targets; the type (1 Ordinary, 2 Universal), d, the model, nugget, sill and
-range; how much is lent of the work area, the figures and the variances; the lists in that order. After these the number, 0 for an answer; how much is
-written of each area, in the same order; how much of the work area is told, all that is written or nothing; and then what stands there, area after area.
+A record is words of 64 bits: the lengths of the values, coordinates and targets; the type (1 Ordinary, 2 Universal), d, the model, nugget, sill, range
+and same-spot distance; how much is lent of the work area, the figures and the variances; the lists in that order. After these the number, 0 for an
+answer; how much is written of each area, in the same order; how much of the work area is told, all that is written or nothing; and then what stands
+there, area after area.
 """
 from collections import Counter
 from typing import NamedTuple
@@ -17,13 +18,15 @@ from tools.generators.interpolator_cases import accepted_cases
 from tools.generators.interpolator_covered import covered
 from tools.generators.interpolator_models import model_cases
 from tools.generators.interpolator_refusals import refused_cases
+from tools.generators.interpolator_spots import spot_cases
+from tools.generators.interpolator_spots_covered import covered_spots
 from tools.generators.records import answer_words, answered, numbers, packed
 from tools.generators.replay import hold_refusal, made_files, marked, plus_zero, untouched, written_lines
 from tools.patterns import bits
 from tools.reading import interpolator
 from tools.reading.lent import query_lengths
 
-MOST_BYTES = 1_000_000
+MOST_BYTES = 1_250_000
 PARTS = {"figures": "figures", "variances": "variances", "work areas": "work", "places not to be written": "untouched"}
 
 
@@ -65,7 +68,7 @@ def held(ended, answer):
 def asked_words(case):
     query, lent = case.query, case.lent
     lists = [query.values, query.coords, query.targets]
-    variogram = [query.variogram.model, *numbers(query.variogram.numbers())]
+    variogram = [query.variogram.model, *numbers(query.variogram[1:])]
     return [*map(len, lists), query.kind, query.d, *variogram, lent.work, lent.figures, lent.variances, *(x for xs in lists for x in numbers(xs))]
 
 
@@ -94,7 +97,7 @@ def counted(all_ended):
 
 
 def files():
-    cases = [*accepted_cases(), *refused_cases(), *model_cases()]
+    cases = [*accepted_cases(), *refused_cases(), *model_cases(), *spot_cases()]
     assert all(map(fits_program, cases))
     calls = [Interpolate(*case.query[:5], tuple(case.query.variogram)).words() for case in cases]
     answers = [answer for _, answer in answered(calls)]
@@ -103,5 +106,6 @@ def files():
         held(ended, answer)
         assert ended.case.number in (None, ended.number), (ended.case, ended.number)
     covered(all_ended)
+    covered_spots(all_ended)
     records = [packed([*asked_words(e.case), *told_words(e, a)]) for e, a in zip(all_ended, answers)]
     return made_files(records, written_lines([ended.number for ended in all_ended], counted(all_ended)), MOST_BYTES)

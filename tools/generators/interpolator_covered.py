@@ -11,7 +11,7 @@ from tools.reading.interpolator import assembled, right_hand_side
 from tools.reading.variogram import EXPONENTIAL, GAUSSIAN, LINEAR, SPHERICAL, distance
 
 MODELS = (SPHERICAL, EXPONENTIAL, GAUSSIAN, LINEAR)
-NUMBERS = {0, 1, 2, 9, 11, 12, 13, 17, 18, 19}
+NUMBERS = {0, 1, 2, 9, 11, 12, 13, 17, 18, 19, 22}
 
 
 def stop(ended):

@@ -4,9 +4,9 @@ import math
 from tools.generators.interpolator_case import Case, enough
 from tools.generators.refused import Refusals, changes, edited, shorts, too_short
 from tools.reading import edges
-from tools.reading.interpolator import ORDINARY, UNIVERSAL, Areas, Query, tests
+from tools.reading.interpolator import UNIVERSAL, Areas, tests
 
-BASE = Query(ORDINARY, 2, edges.spread(4), edges.spread(8), edges.spread(4), edges.MODEL)
+BASE = edges.QUERY
 FAR = 2**64 - 1
 # lists at their limits, of which what stood in them stays
 MANY_WELLS = edges.edit(values=lambda call: (call.values + edges.spread(49))[:49], coords=lambda call: (call.coords + edges.spread(98))[:98])
@@ -35,8 +35,8 @@ def undone(query):
     return {2 if query.d == 1 else 13, 12 if query.variogram.range == math.inf else 13}
 
 
-def listed():
-    for first, numbers, ways in QUERIES.combined():
+def listed(combinations):
+    for first, numbers, ways in combinations:
         query = edited(BASE, ways)
         areas = lent(query, shorts(ways))
         # with no dimension there is no m, and with the greatest there is no target
@@ -68,5 +68,11 @@ def other_lists():
 
 
 def refused_cases():
-    yield from listed()
+    """Without the number that came later: its cases stand by themselves."""
+    yield from listed(QUERIES.without(22).combined())
     yield from other_lists()
+
+
+def refused_by_spots():
+    """Those in which 22 takes part: by it, and by an earlier number beside it."""
+    yield from listed(QUERIES.combined_with(22))

@@ -44,6 +44,14 @@ class Refusals(NamedTuple):
                 taken.append(number)
         return taken[1:]
 
+    def without(self, number):
+        """The same call without a number."""
+        return self._replace(order=[other for other in self.order if other != number])
+
+    def combined_with(self, number):
+        """Those of the combinations in which a number takes part."""
+        return (combination for combination in self.combined() if number in combination[1])
+
     def combined(self):
         """The number that has to come, all that apply, and their ways."""
         for at, first in enumerate(self.order):

@@ -1,17 +1,19 @@
 """crates/vectors_variogram: variograms and distances of the original.
 
-A record is eight little-endian words of 64 bits: what is called, six numbers, and the original's answer.
+A record is nine little-endian words of 64 bits: what is called, seven numbers, and the original's answer.
 
-    1 to 4       Variogram::evaluate, Spherical, Exponential, Gaussian and Linear: nugget, sill, range, h, 0, 0
-    11, 12, 13   calculate_distance over 1, 2 and 3 axes: three numbers of each point, zeros for those not taken
-    20, 21       squared_distance_2d, and its root: ax, ay, bx, by, 0, 0
+    1 to 4       Variogram::evaluate, Spherical, Exponential, Gaussian and Linear: nugget, sill, range, h, 0, 0, same-spot distance
+    11, 12, 13   calculate_distance over 1, 2 and 3 axes: three numbers of each point, zeros for those not taken, 0
+    20, 21       squared_distance_2d, and its root: ax, ay, bx, by, 0, 0, 0
 
-Exponential and Gaussian are those of the original running the port's e^−u; tools/reading has to agree with it, by its own.
+The same-spot distance of the original is 2^-52; for others the answer is its second build's (variogram_spots.py). Exponential and Gaussian are those of
+the original running the port's e^−u. Every variogram is held to tools/reading, which works e^−u out by its own.
 """
 import math
 import random
 
 from tools.generators.records import files as made_files, packed
+from tools.generators.variogram_spots import covered, spot_calls
 from tools.oracle.oracle import ask
 from tools.patterns import NAN, bits, value, word, words
 from tools.reading.variogram import EXPONENTIAL, GAUSSIAN, Variogram
@@ -136,29 +138,39 @@ def distances():
             yield kind, a + rest + b + rest if kind < 20 else a + b
 
 
-def call(kind, numbers):
+def call(kind, numbers, field):
     if kind < 10:
-        return f"evaluate {kind} {words(numbers)}"
+        named = "" if field == EPSILON else f"below {word(field)} "
+        return f"{named}evaluate {kind} {words(numbers)}"
     if kind < 20:
         axes = kind - 10
         return f"distance {axes} {words(numbers[:axes])} {words(numbers[3:3 + axes])}"
     return f"distance2 {words(numbers)}"
 
 
-def hold(kind, numbers, answer):
-    """Stops where the reading's variogram is another: it works e^−u out by itself."""
-    if kind in (EXPONENTIAL, GAUSSIAN):
+def hold(kind, numbers, field, answer):
+    """Stops where the reading's variogram is another."""
+    if kind < 10:
         nugget, sill, span, h = map(value, numbers)
-        read = word(bits(Variogram(kind, nugget, sill, span).evaluate(h)))
-        assert answer == read, (kind, words(numbers), answer, read)
+        read = word(bits(Variogram(kind, nugget, sill, span, value(field)).evaluate(h)))
+        assert answer == read, (kind, words(numbers), word(field), answer, read)
 
 
-def eight_words(kind, numbers, answer):
-    hold(kind, numbers, answer)
+def nine_words(kind, numbers, field, answer):
+    hold(kind, numbers, field, answer)
     taken = answer.split()[-1 if kind == 21 else 0]
-    return packed([kind, *numbers, *[0] * (6 - len(numbers)), int(taken, 16)])
+    return packed([kind, *numbers, *[0] * (6 - len(numbers)), field, int(taken, 16)])
+
+
+def with_own_field():
+    """Those with the original's own same-spot distance; a distance has none."""
+    for kind, numbers in [*variograms(), *distances(), *by_exponential()]:
+        yield kind, [NAN if value(n) != value(n) else n for n in numbers], EPSILON if kind < 10 else 0
 
 
 def files():
-    calls = [(kind, [NAN if value(n) != value(n) else n for n in numbers]) for kind, numbers in [*variograms(), *distances(), *by_exponential()]]
-    return made_files([eight_words(*c, answer) for c, answer in zip(calls, ask([call(*c) for c in calls]))])
+    spots = spot_calls()
+    calls = [*with_own_field(), *((model, numbers, field) for model, *numbers, field in spots)]
+    answers = ask([call(*c) for c in calls])
+    covered(spots, [int(answer, 16) for answer in answers[-len(spots):]])
+    return made_files([nine_words(*c, answer) for c, answer in zip(calls, answers)])

@@ -1,5 +1,6 @@
 #!/usr/bin/env bash
 # Builds the oracle: the original kriging.rs behind a driver that answers calls, unchanged but for its inner doc comments and for `exp`, which is the port's.
+# And a second one, oracle_same_spot, in which the one constant below which a variogram is 0 is read from the call.
 # Usage: tools/oracle/build.sh PATH-OF-KRIGING.RS [RUSTC-FLAG..]     writes target/oracle/ and nothing else; needs target/staticlib/libnakwemol.a
 set -euo pipefail
 source=${1:?path of the original kriging.rs}
@@ -21,7 +22,21 @@ flags=("${@:--O}")
 sed -e '/^\/\/!/d' -e 's/\.exp()/.port_exp()/g' "$source" > "$out/kriging.rs"
 sha256sum < "$source" | cut -d ' ' -f 1 > "$out/source.sha256"
 
+# `evaluate` is the only place that compares a distance with the constant. The two eliminations compare a pivot with it, and keep it.
+place='if h < f64::EPSILON {'
+if [ "$(grep -cF "$place" "$out/kriging.rs")" != 1 ]; then
+    echo "$source does not have '$place' exactly once" >&2
+    exit 1
+fi
+sed "s/$place/if h < crate::same_spot::same_spot() {/" "$out/kriging.rs" > "$out/kriging_same_spot.rs"
+
+linked() { # NAME SOURCE [RUSTC-FLAG..]
+    local name=$1
+    ORACLE_SOURCE=$2 rustc --edition 2021 "${flags[@]}" --crate-name "$name" -A dead_code --check-cfg 'cfg(same_spot)' "${@:3}" \
+        --extern scirs2_core="$out/libscirs2_core.rlib" -L "native=$archive" -l static=nakwemol "$here/main.rs" -o "$out/$name"
+    echo "$out/$name"
+}
+
 rustc --edition 2021 "${flags[@]}" --crate-type rlib --crate-name scirs2_core "$here/ndarray.rs" -o "$out/libscirs2_core.rlib"
-ORACLE_SOURCE="$out/kriging.rs" rustc --edition 2021 "${flags[@]}" --crate-name oracle -A dead_code \
-    --extern scirs2_core="$out/libscirs2_core.rlib" -L "native=$archive" -l static=nakwemol "$here/main.rs" -o "$out/oracle"
-echo "$out/oracle"
+linked oracle "$out/kriging.rs"
+linked oracle_same_spot "$out/kriging_same_spot.rs" --cfg same_spot

@@ -220,9 +220,21 @@ fn exp_neg(words: &mut Words) -> String {
     format!("{} {}", hex(minus.port_exp()), hex(minus.exp()))
 }
 
+/// The name of the call, after the same-spot distance, where one is named: the first build has none but its own, and is not asked for another.
+fn name(words: &mut Words) -> String {
+    let mut name = words.next().to_string();
+    let mut distance = f64::EPSILON;
+    if cfg!(same_spot) && name == "below" {
+        distance = words.float();
+        name = words.next().to_string();
+    }
+    crate::same_spot::set(distance);
+    name
+}
+
 fn answer(line: &str) -> String {
     let mut words = Words(line.split_whitespace());
-    let call = words.next().to_string();
+    let call = name(&mut words);
     let words = &mut words;
     let shaped = match call.as_str() {
         "fit" => fit(words),

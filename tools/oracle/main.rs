@@ -2,6 +2,7 @@
 
 mod error;
 mod exponential;
+mod same_spot;
 
 /// The original file, with the driver below it, so that its private functions are in reach.
 mod kriging {

@@ -96,7 +96,7 @@ def print_query(query, *wrong):
     outcome = of_query(query)
     v = query.variogram
     fields = {"kind": query.kind, "d": query.d, "values": query.values, "coords": query.coords, "targets": query.targets}
-    case_text.fields("inputs", {**fields, "model": v.model, "nugget": v.nugget, "sill": v.sill, "range": v.range})
+    case_text.fields("inputs", {**fields, "model": v.model, "nugget": v.nugget, "sill": v.sill, "range": v.range, "same_spot": v.same_spot})
     case_text.fields("expected", outcome)
     case_text.on_the_way(interpolator.assembled(query), [interpolator.right_hand_side(query, q) for q in range(query.m)])
     words = Interpolate(*query[:5], tuple(v)).words()

@@ -31,7 +31,7 @@ def fields(heading, named):
 def survey(s):
     v = s.variogram
     lists = {"codes": s.codes, "values": s.values, "coords": s.coords, "external": s.external, "nodes": s.nodes, "node_external": s.node_external}
-    fields("inputs", {**lists, "model": v.model, "nugget": v.nugget, "sill": v.sill, "range": v.range, "r": s.r, "t": s.t})
+    fields("inputs", {**lists, "model": v.model, "nugget": v.nugget, "sill": v.sill, "range": v.range, "same_spot": v.same_spot, "r": s.r, "t": s.t})
 
 
 def on_the_way(matrix, right_hand_sides):
@@ -41,10 +41,10 @@ def on_the_way(matrix, right_hand_sides):
 
 
 def agrees(words, answer):
-    """Asserts that the original answers so."""
+    """Asserts that the original answers so, its second build where the same-spot distance is another than its own."""
     (given,) = ask([line(words)])
     assert given == answer, (given, answer)
-    print("the original answers the same")
+    print("the original's second build answers the same" if words[0] == "below" else "the original answers the same")
 
 
 def ok(count, *lists):

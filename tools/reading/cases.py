@@ -11,7 +11,7 @@ import sys
 sys.path.insert(0, str(pathlib.Path(__file__).resolve().parents[2]))
 
 from tools.oracle.oracle import build
-from tools.reading import case_files, case_fits, case_older
+from tools.reading import case_files, case_fits, case_older, case_spots
 
 
 def main():
@@ -19,6 +19,7 @@ def main():
     case_fits.print_all()
     case_older.print_all()
     case_files.print_all()
+    case_spots.print_all()
 
 
 if __name__ == "__main__":

@@ -1,12 +1,13 @@
 #!/usr/bin/env python3
 """Holds the reading of the papers to the original: random calls of the fit, the interpolator and the semivariogram, bit for bit.
 
-Usage: tools/reading/compare.py KRIGING.RS [COUNT [SEED]]     COUNT fits (20,000), and a quarter as many of each of the other two, and of trends
+Usage: tools/reading/compare.py KRIGING.RS [COUNT [SEED]]     COUNT fits (20,000), and a quarter as many of each of the other two, and of trends;
+                                                              as many fits and interpolations again, with a same-spot distance of their own
 
 A call is compared where the original answers it: figures, variances, multipliers, distances, semivariances, and the kinds of the refusals that
-it has. Where paper 01 adds a refusal nothing is compared, and the call is counted beside; these are tried at their edges (edges.py). Each
+it has. Where the papers add a refusal nothing is compared, and the call is counted beside; these are tried at their edges (edge_checks.py). Each
 reading is also held to what paper 01 says of areas, and its verdicts to sums of fractions. The original has no trend: of more fits the trend is held
-to the inverse that the original makes of the same matrix. Prints what was compared and, of what differs, the shortest call.
+to the inverse that the original makes of the same matrix. Calls with a same-spot distance of their own are held to its second build. Prints what was compared and, of what differs, the shortest call.
 """
 import pathlib
 import sys
@@ -19,7 +20,8 @@ from tools.generators.draw import Draw
 from tools.generators.records import line
 from tools.oracle.oracle import ask, build
 from tools.patterns import bits, word
-from tools.reading import edges, fit, interpolator, semivariogram
+from tools.reading import edge_checks, fit, interpolator, semivariogram
+from tools.reading.drawn_spots import spotted_fit, spotted_query
 from tools.reading.fractions_audit import verdict_by_fractions
 from tools.reading.lent import area, fit_lengths, query_lengths, untouched
 from tools.reading.original import asked_inverse, trend_by_inverse
@@ -155,12 +157,15 @@ def compare_trends(draw, count):
 def main():
     build(sys.argv[1])
     count = int(sys.argv[2]) if len(sys.argv) > 2 else 20000
-    draw = Draw(sys.argv[3] if len(sys.argv) > 3 else "nakwemol reading").with_models([1, 1, 2, 2, 3, 3, 4])
-    print(f"refusals: {edges.check()} calls at the edges, each as it has to be")
+    seed = sys.argv[3] if len(sys.argv) > 3 else "nakwemol reading"
+    draw, yards = (Draw(name).with_models([1, 1, 2, 2, 3, 3, 4]) for name in (seed, seed + ", one yard"))
+    print(f"refusals: {edge_checks.check()} calls at the edges, each as it has to be")
     different = compare("fits", draw, count, draw_fit, read_fit)
     different += compare("interpolations", draw, count // 4, draw_interpolate, read_interpolate)
     different += compare("semivariograms", draw, count // 4, draw_calculate, read_calculate)
     different += compare_trends(draw, count // 4)
+    different += compare("fits with a same-spot distance", yards, count, lambda draw: spotted_fit(draw, draw_fit(draw)), read_fit)
+    different += compare("interpolations with one", yards, count // 4, lambda draw: spotted_query(draw, draw_interpolate(draw)), read_interpolate)
     return 1 if different else 0
 
 

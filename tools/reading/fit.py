@@ -1,4 +1,4 @@
-"""Paper 01, "One fit, followed through", and paper 02, "Trend slopes on the report"."""
+"""Paper 01, "One fit, followed through", and paper 02, "Trend slopes on the report" and "Two wells in one yard"."""
 from typing import NamedTuple
 
 from tools.reading import refusals
@@ -22,7 +22,7 @@ class Areas(NamedTuple):
 
 
 def tests(survey, areas):
-    """"The lowest applying number wins in a fit"."""
+    """"The lowest applying number wins in a fit"; 22 "straight after 11"."""
     n, m, p, k, s = survey.n, survey.m, survey.p, survey.k, survey.s
     yield 1, len(survey.coords) != 2 * n
     yield 2, len(survey.nodes) % 2 != 0
@@ -35,6 +35,7 @@ def tests(survey, areas):
     yield 9, n > refusals.MOST_WELLS or p > refusals.MOST_COLUMNS or m > refusals.MOST_NODES
     yield 10, refusals.negative_or_not_finite(survey.t)
     yield 11, refusals.some_not_finite(survey.judged())
+    yield 22, survey.variogram.wrong_spot()
     yield 12, survey.variogram.without_range()
     yield 17, len(areas.work) < 2 * s * s
     lengths = [(areas.figures, m), (areas.variances, m), (areas.verdicts, m), (areas.weights, n * m), (areas.multipliers, p), (areas.trend, p)]

@@ -45,13 +45,14 @@ class Areas(NamedTuple):
 
 
 def tests(query, areas):
-    """"Interpolator: 13, 1, 2, 9, 11, 12, 17, 18, 19"."""
+    """"Interpolator: 13, 1, 2, 9, 11, 12, 17, 18, 19"; 22 "straight after 11"."""
     d, n = query.d, query.n
     yield 13, d not in (1, 2, 3) or (d == 1 and query.kind == UNIVERSAL)
     yield 1, len(query.coords) != n * d
     yield 2, len(query.targets) % d != 0
     yield 9, n > refusals.MOST_WELLS or query.m > refusals.MOST_NODES
     yield 11, refusals.some_not_finite([*query.variogram.numbers(), *query.values, *query.coords, *query.targets])
+    yield 22, query.variogram.wrong_spot()
     yield 12, query.variogram.without_range()
     yield 17, len(areas.work) < 2 * query.s * query.s
     yield 18, refusals.too_short([(areas.figures, query.m), (areas.variances, query.m)])

@@ -8,8 +8,7 @@ from tools.reading.refusals import KINDS
 
 def asked(survey):
     """The call of the oracle for a survey: it takes no tolerance."""
-    model = survey.variogram
-    return line(Fit(*survey[:6], (model.model, *model.numbers()), survey.r).words())
+    return line(Fit(*survey[:6], tuple(survey.variogram), survey.r).words())
 
 
 def told(lines):

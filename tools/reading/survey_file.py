@@ -1,11 +1,11 @@
-"""Paper 01, "Survey file"."""
+"""Paper 01, "Survey file", and what paper 02, "Two wells in one yard", says of it."""
 import struct
 from typing import NamedTuple
 
 from tools.patterns import NAN, value
 from tools.reading import refusals
 from tools.reading.survey import EXTERNAL, Survey
-from tools.reading.variogram import Variogram
+from tools.reading.variogram import SAME_SPOT, Variogram
 
 TRAILER = "<IHHHBBH"
 TRAILER_LENGTH = 14
@@ -56,13 +56,15 @@ def file_length(survey):
 
 
 def writer_tests(survey, area):
-    """"refuses by 1, 2, 6, 8, 11 (r and t included), 16 (over 65,536 bytes or a count over 65,535), 18, in that order"."""
+    """"refuses by 1, 2, 6, 8, 11 (r and t included), 16 (over 65,536 bytes or a count over 65,535), 18, in that order"; "Survey files don't carry it and
+    take 2^-52; a writer handed any other refuses by 22", "straight after 11"."""
     n, m, k = survey.n, survey.m, survey.k
     yield 1, len(survey.coords) != 2 * n
     yield 2, len(survey.nodes) % 2 != 0
     yield 6, len(survey.external) != k * n
     yield 8, k > 0 and len(survey.node_external) != k * m
     yield 11, refusals.some_not_finite([*survey.judged(), survey.r, survey.t])
+    yield 22, survey.variogram.same_spot != SAME_SPOT
     yield 16, file_length(survey) > MOST_BYTES or max(n, m, len(survey.codes)) > MOST_COUNT
     yield 18, len(area) < file_length(survey)
 
@@ -95,14 +97,14 @@ def malformed(data):
 
 
 def parsed(data):
-    """The survey in a file that is well formed."""
+    """The survey in a file that is well formed: its same-spot distance is 2^-52."""
     start, n, m, c, model, _, _ = struct.unpack(TRAILER, data[-TRAILER_LENGTH:])
     end = len(data) - TRAILER_LENGTH
     codes = list(data[end - c:end])
     numbers = iter(unpacked(data[start:end - c]))
     nugget, sill, span, r, t = (next(numbers) for _ in range(5))
     values, coords, external, nodes, node_external = ([next(numbers) for _ in range(count)] for count in lengths(n, m, codes.count(EXTERNAL)))
-    return Survey(values, coords, codes, external, nodes, node_external, Variogram(model, nugget, sill, span), r, t)
+    return Survey(values, coords, codes, external, nodes, node_external, Variogram(model, nugget, sill, span, SAME_SPOT), r, t)
 
 
 def read(data, areas):

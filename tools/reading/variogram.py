@@ -1,10 +1,12 @@
-"""Paper 01, "Distance" and "Variogram", with the models of slip 1."""
+"""Paper 01, "Distance" and "Variogram", with the models of slip 1 and the same-spot distance of slip 5."""
 from typing import NamedTuple
 
 from tools.reading.exponential import exp_neg
-from tools.reading.floats import div, root, running_sum
+from tools.reading.floats import div, is_finite, root, running_sum
 
 SPHERICAL, EXPONENTIAL, GAUSSIAN, LINEAR = 1, 2, 3, 4
+# slip 5: "`new` sets it to 2^-52"
+SAME_SPOT = 2.0**-52
 
 
 def distance(a, b):
@@ -18,11 +20,14 @@ class Variogram(NamedTuple):
     nugget: float
     sill: float
     range: float
+    same_spot: float = SAME_SPOT
 
     def evaluate(self, h):
-        """"0 if h < 2^-52"."""
-        if h < 2.0**-52:
-            return 0.0
+        """Slip 5: "the variogram is 0 below it instead of below 2^-52"; "A distance equal to the field is not the same spot"."""
+        return 0.0 if h < self.same_spot else self.by_formula(h)
+
+    def by_formula(self, h):
+        """The model's value at a distance that is not the same spot."""
         by_model = {SPHERICAL: self.spherical, EXPONENTIAL: self.exponential, GAUSSIAN: self.gaussian, LINEAR: self.linear}
         return by_model[self.model](h)
 
@@ -49,5 +54,10 @@ class Variogram(NamedTuple):
         """Slip 1: "12 now means an Exponential survey whose range is not above zero, and nothing else"."""
         return self.model == EXPONENTIAL and not self.range > 0.0
 
+    def wrong_spot(self):
+        """Slip 5: "22 same-spot distance not finite or below 2^-52"."""
+        return not is_finite(self.same_spot) or self.same_spot < 2.0**-52
+
     def numbers(self):
+        """Those that 11 judges and a survey file has."""
         return [self.nugget, self.sill, self.range]

@@ -8,13 +8,13 @@ use Rattle.vectors.specs.Tallied.{oneMore}
 
 -- where the counts have the number that a call ended by, the places that are not to be written, and all that differ
 abbrev pub numbers : ℕ
-numbers = 20
+numbers = 30
 
 abbrev pub untouched : ℕ
-untouched = 22
+untouched = 32
 
 abbrev pub differences : ℕ
-differences = 24
+differences = 34
 
 -- one more at a place; past the end of the counts there is none
 unfoldable pub countedAt : ℕ → List ℕ → List ℕ

@@ -7,7 +7,7 @@ use lib.Ieee.{Float, binary64, ofBits}
 use Rattle.variogram.specs.declared.VariogramModel.{VariogramModel}
 use Rattle.variogram.specs.declared.VariogramModel.the-variants.{Spherical, Exponential, Gaussian, Linear}
 use Rattle.variogram.specs.declared.Variogram.{Variogram}
-use Rattle.variogram.specs.Model.{variogram}
+use Rattle.variogram.specs.Model.{variogram, withSameSpot}
 use Rattle.vectors.specs.declared.Input.{Input}
 
 -- a word as it comes in: past the input's end it is 0
@@ -30,14 +30,16 @@ EndIn start end = (n : ℕ) × SizeIn n × (end ≡ (start + n) % 2 ^ 64)
 abbrev pub modelIn : ℕ → VariogramModel
 modelIn number = cond (eqb number 1) Spherical (cond (eqb number 2) Exponential (cond (eqb number 3) Gaussian Linear))
 
--- a model's number, and then nugget, sill and range
+-- a model's number, and then nugget, sill, range and same-spot distance
 pub record VariogramIn (v : Variogram) : Type 0 where
   pub model : ℕ
   pub nugget : Float
   pub sill : Float
   pub range : Float
+  pub same-spot : Float
   pub model-came : SizeIn model
   pub nugget-came : FloatIn nugget
   pub sill-came : FloatIn sill
   pub range-came : FloatIn range
-  pub is : v ≡ variogram (modelIn model) nugget sill range
+  pub same-spot-came : FloatIn same-spot
+  pub is : v ≡ withSameSpot (variogram (modelIn model) nugget sill range) same-spot

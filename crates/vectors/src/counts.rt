@@ -6,16 +6,16 @@ ghost use lib.ListN.{getD};
 ghost use Rattle.vectors.specs.Tallied.{oneMore};
 ghost use Rattle.vectors.specs.Counted.{countedAt, comparedIn, endedBy, differences};
 
-// The counts: at 0 to 19 the calls that ended by that number, and then two places for each part, how many were compared and how many of them differ.
+// The counts: at 0 to 29 the calls that ended by that number, and then two places for each part, how many were compared and how many of them differ.
 // The first parts are the same for each program, the number that a call ended by and the places that are not to be written; then all that differ, in one
 // place, and from PARTS on the program's own.
-pub const NUMBER: usize = 20;
+pub const NUMBER: usize = 30;
 
-pub const UNTOUCHED: usize = 22;
+pub const UNTOUCHED: usize = 32;
 
-const DIFFERENCES: usize = 24;
+const DIFFERENCES: usize = 34;
 
-pub const PARTS: usize = 25;
+pub const PARTS: usize = 35;
 
 // One more at a place of the counts.
 pub fn count(counts: &mut [u64], at: usize)

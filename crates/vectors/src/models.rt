@@ -16,12 +16,14 @@ fn model(number: u64) -> VariogramModel
     }
 }
 
-// The model's number, and then nugget, sill and range.
+// The model's number, and then nugget, sill, range and same-spot distance.
 pub fn next_variogram() -> Variogram
     ensures { λ r. ⌜ VariogramIn r ⌝ }
 {
     let model = model(crate::next_word().value);
     let nugget = crate::next_float();
     let sill = crate::next_float();
-    Variogram::new(model, nugget, sill, crate::next_float())
+    let range = crate::next_float();
+    let same_spot = crate::next_float();
+    Variogram::new(model, nugget, sill, range).with_same_spot(same_spot)
 }

@@ -23,7 +23,7 @@ use vectors::counts::ended_by;
 use vectors::next_size;
 
 // How many words there are for how a call ended.
-const ENDING: usize = 10;
+const ENDING: usize = 11;
 
 // How much of each area is lent.
 pub struct Lent {
@@ -61,7 +61,8 @@ fn model_number(model: VariogramModel) -> u64 {
     }
 }
 
-// How a call ended that read a file, as words: the number 0, wells, nodes, codes, model, nugget, sill, range, r and t.
+// How a call ended that read a file, as words: the number 0, wells, nodes, codes, model, nugget, sill, range, same-spot distance, r
+// and t.
 fn header_words(header: Header) -> [u64; ENDING] {
     let options: UniversalKrigingOptions = header.options;
     let v = options.variogram;
@@ -75,6 +76,7 @@ fn header_words(header: Header) -> [u64; ENDING] {
         patterns::pattern(v.nugget),
         patterns::pattern(v.sill),
         patterns::pattern(v.range),
+        patterns::pattern(v.same_spot),
         patterns::pattern(options.regularization),
         patterns::pattern(header.tolerance),
     ]
@@ -84,7 +86,7 @@ fn header_words(header: Header) -> [u64; ENDING] {
 fn ending_words(answer: Read) -> [u64; ENDING] {
     match answer {
         Read::Done(header) => header_words(header),
-        Read::Refused(refusal) => [error::number(refusal) as u64, 0, 0, 0, 0, 0, 0, 0, 0, 0],
+        Read::Refused(refusal) => [error::number(refusal) as u64, 0, 0, 0, 0, 0, 0, 0, 0, 0, 0],
     }
 }
 

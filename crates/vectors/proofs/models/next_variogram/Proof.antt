@@ -1,8 +1,9 @@
--- `vectors::models::next_variogram` meets its contract: a word, and then three numbers.
+-- `vectors::models::next_variogram` meets its contract: a word, and then four numbers.
 use mathlib.Core.Path.{refl, ap, _∙_}
 use borrow.Author.Needs.{needs}
+use Rattle.variogram.specs.declared.Variogram.{Variogram}
 use Rattle.variogram.specs.declared.VariogramModel.{VariogramModel}
-use Rattle.variogram.specs.Model.{variogram}
+use Rattle.variogram.specs.Model.{variogram, withSameSpot}
 use Rattle.vectors.proofs.models.next_variogram.Statement.{statement}
 use Rattle.vectors.proofs.models.next_variogram.Tie as tie
 
@@ -21,12 +22,20 @@ next-float-requires-2 c κs = search needs
 next-float-requires-3 : tie.Need-next-float-requires-3
 next-float-requires-3 c κs = search needs
 
+next-float-requires-4 : tie.Need-next-float-requires-4
+next-float-requires-4 c κs = search needs
+
 new-requires : tie.Need-new-requires
 new-requires c κs = search needs
 
+with-same-spot-requires : tie.Need-with-same-spot-requires
+with-same-spot-requires c κs = search needs
+
 returns : tie.Need-returns
 returns c =
-    let third = c .before in
+    let made = c .before in
+    let fourth = made .before in
+    let third = fourth .before in
     let second = third .before in
     let first = second .before in
     let named = first .before in
@@ -36,14 +45,19 @@ returns c =
       nugget = first .next-float .result;
       sill = second .next-float2 .result;
       range = third .next-float3 .result;
+      same-spot = fourth .next-float4 .result;
       model-came = (word .result, word .ensures, refl);
       nugget-came = first .next-float .ensures;
       sill-came = second .next-float2 .ensures;
       range-came = third .next-float3 .ensures;
+      same-spot-came = fourth .next-float4 .ensures;
       is =
-          c .new .ensures
+          c .with-same-spot .ensures
+          ∙ ap
+          (λ (v : Variogram). withSameSpot v (fourth .next-float4 .result))
+          (made .new .ensures
           ∙ ap (λ (m : VariogramModel). variogram m (first .next-float .result) (second .next-float2 .result) (third .next-float3 .result))
-          (named .model .ensures);
+          (named .model .ensures));
     }
 
 pub next-variogram-spec : {M : Type 1} → statement M
@@ -55,5 +69,7 @@ next-variogram-spec =
     next-float-requires
     next-float-requires-2
     next-float-requires-3
+    next-float-requires-4
     new-requires
+    with-same-spot-requires
     returns)

@@ -7,10 +7,10 @@ use Rattle.vectors_file.proofs.reading.compare_ending.Statement.{statem
 use Rattle.vectors_file.proofs.reading.compare_ending.Tie as tie
 
 abbrev Inv-loop : tie.InvT-loop
-Inv-loop ending counts₀ at₀ counts at = (length counts ≡ length counts₀) × (at ≤ 10)
+Inv-loop ending counts₀ at₀ counts at = (length counts ≡ length counts₀) × (at ≤ 11)
 
 abbrev μ-loop : tie.MeasureT-loop
-μ-loop ending counts₀ at₀ counts at = 10 - at
+μ-loop ending counts₀ at₀ counts at = 11 - at
 
 -- ended_by(counts, ending[0], vectors::next_word().value);
 element-copy-out-ended-by : tie.Need-element-copy-out-ended-by Inv-loop μ-loop
