@@ -2,9 +2,9 @@
 -- two, so that nothing is rounded.
 use Prim.Native.Nat.{ℕ}
 use mathlib.Core.Path.{_≡_}
-use mathlib.Core.List.{List, [], _∷_}
+use mathlib.Core.List.{[], _∷_}
 use lib.ListN.{replicate}
-use lib.Ieee.{Float, nan}
+use lib.Ieee.{nan}
 use Rattle.ieee.specs.Floats.{zeroFloat}
 use Rattle.variogram.specs.Model.{variogram, withSameSpot, semivariance}
 use Rattle.variogram.specs.declared.Variogram.{Variogram}
@@ -16,7 +16,7 @@ use Rattle.kriging_theory.specs.Refusals as Fit
 use Rattle.interpolator_theory.specs.declared.KrigingType.the-variants.{Ordinary}
 use Rattle.interpolator_theory.specs.Call.{Query}
 use Rattle.interpolator_theory.specs.Refusals as Interpolation
-use Rattle.cases.specs.FitCases.{f, fs, areasOf, answerOf, Answers}
+use Rattle.cases.specs.FitCases.{f, fs, answerOf, Answers}
 
 -- 0.5, the f64 just below it, and 0.25
 abbrev pub half : ℕ

@@ -1,11 +1,12 @@
 -- f64 by their patterns: from one pattern without a sign to the next the number rises, up to infinity.
-use Prim.Native.Nat.{ℕ, zero, suc, _+_, _-_, _*_, _/_, _%_, _^_, _<_}
-use native.Mathlib.Nat.{mul-lt-mul-of-pos-right, lt-of-mul-lt-mul-right, mul-right-comm, two-pow-succ}
+use Prim.Native.Nat.{ℕ, zero, suc, _+_, _-_, _*_, _/_, _%_, _^_, _≤_, _<_}
+use native.Mathlib.Nat.{lt-trans, mul-le-mul-right, mul-lt-mul-of-pos-right, lt-of-mul-lt-mul-right, mul-right-comm, two-pow-succ}
 use native.Mathlib.Decide.{decLt}
 use native.Mathlib.Omega.{arith}
 use mathlib.Core.Path.{_≡_, ap, sym, _∙_, subst}
 use mathlib.Core.Bool.{Bool, true, false, true≢false}
-use borrow.Author.Tests.{lt-leb, lt-ltb}
+use lib.Ieee.Order.{transfer}
+use borrow.Author.Tests.{le-ltb, lt-leb, lt-ltb}
 use lib.Dec.{leb}
 use lib.Pow.{pow-pos}
 use lib.Ieee.{Float, nan, inf, fin, binary64, up, down, lt, ofBits, ofFields}
@@ -79,3 +80,35 @@ pub pattern-rises : (b : ℕ) → suc b < 2047 * 2 ^ 52 → lt (ofBits binary64 
 pattern-rises b h =
     below-of-values (ofBits binary64 b) (ofBits binary64 (suc b)) (patternMultiple b) (patternMultiple (suc b)) (2 ^ 1074) (bits-multiple b (omega arith))
     (bits-multiple (suc b) h) (multiple-rises b)
+
+-- ---- and so from any pattern to any later one
+climb : (d a b : ℕ) → b ≡ a + suc d → patternMultiple a < patternMultiple b
+climb zero a b e = let next : suc a ≡ b = omega arith in subst (λ (n : ℕ). patternMultiple a < patternMultiple n) next (multiple-rises a)
+climb (suc d) a b e = let first = multiple-rises a in let rest = climb d (suc a) b (omega arith) in lt-trans first rest
+
+pub patterns-rise : (a b : ℕ) → a < b → b < 2047 * 2 ^ 52 → lt (ofBits binary64 a) (ofBits binary64 b) ≡ true
+patterns-rise a b l h =
+    below-of-values (ofBits binary64 a) (ofBits binary64 b) (patternMultiple a) (patternMultiple b) (2 ^ 1074) (bits-multiple a (omega arith)) (bits-multiple b h)
+    (climb (b - suc a) a b (omega arith))
+
+pub not-below-of-values : (x y : Float) (a b c : ℕ) → 0 < c → HasValue x false a c → HasValue y false b c → b ≤ a → lt x y ≡ false
+unfolding lt
+not-below-of-values nan y a b c C hx hy l = absurd hx
+not-below-of-values (inf s) y a b c C hx hy l = absurd hx
+not-below-of-values (fin s m e) nan a b c C hx hy l = absurd hy
+not-below-of-values (fin s m e) (inf t) a b c C hx hy l = absurd hy
+not-below-of-values (fin true m e) (fin t n d) a b c C hx hy l = absurd (true≢false (hx .0))
+not-below-of-values (fin false m e) (fin true n d) a b c C hx hy l = absurd (true≢false (hy .0))
+not-below-of-values (fin false m e) (fin false n d) a b c C hx hy l =
+    le-ltb (m * up e * down d) (n * up d * down e)
+    (transfer (n * up d) (m * up e) (down d) (down e) b a c c C C (hy .1) (hx .1) (mul-le-mul-right c l))
+
+-- a pattern is not below an earlier one, nor below itself
+pub not-below-earlier : (a b : ℕ) → a ≤ b → b < 2047 * 2 ^ 52 → lt (ofBits binary64 b) (ofBits binary64 a) ≡ false
+not-below-earlier a b l h =
+    not-below-of-values (ofBits binary64 b) (ofBits binary64 a) (patternMultiple b) (patternMultiple a) (2 ^ 1074) (pow-pos 1074) (bits-multiple b h)
+    (bits-multiple a (omega arith))
+    (elim (decLt a b) [
+      | yes q ↦ let r = climb (b - suc a) a b (omega arith) in omega arith
+      | no q ↦ let same : a ≡ b = omega arith in rw same (omega arith)
+    ])

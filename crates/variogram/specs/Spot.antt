@@ -1,7 +1,7 @@
 -- The same-spot distance by the bits of an f64, apart from the test that the variogram makes: paper 02, "Two wells in one yard".
-use Prim.Native.Nat.{ℕ, suc, _^_, _*_, _≤_, _<_}
+use Prim.Native.Nat.{ℕ, suc, _≤_, _<_}
 use mathlib.Core.Path.{_≡_}
-use lib.Ieee.{Float, binary64, ofBits}
+use lib.Ieee.{binary64, ofBits}
 use Rattle.ieee.specs.Floats.{zeroFloat}
 use Rattle.exponential.specs.Exponential.{expNeg}
 use Rattle.variogram.specs.declared.Variogram.{Variogram}

@@ -1,7 +1,6 @@
 -- `nakwemol::codes::variogram_of` meets its contract: what `new` makes, with the other same-spot distance.
 use mathlib.Core.Path.{ap, _∙_}
 use borrow.Author.Needs.{needs}
-use lib.Ieee.{Float}
 use Rattle.variogram.specs.declared.Variogram.{Variogram}
 use Rattle.variogram.specs.Model.{withSameSpot}
 use Rattle.nakwemol.proofs.codes.variogram_of.Statement.{statement}

@@ -1,5 +1,5 @@
 -- `survey_checks::refusals::spot_refusal` meets its contract: not finite, or below 2^-52.
-use mathlib.Core.Path.{_≡_, sym, ap, _∙_}
+use mathlib.Core.Path.{sym, ap, _∙_}
 use mathlib.Core.Bool.{not}
 use borrow.Author.Needs.{needs}
 use Rattle.error.proofs.First.{here, past, none, one, other}
