@@ -13,7 +13,7 @@ from tools.reading.variogram import EXPONENTIAL, LINEAR, SAME_SPOT, SPHERICAL, V
 from tools.reading.wrong_spots import BY_NAME, OF_A_FIT, outcomes
 
 LINE = Variogram(LINEAR, 0.0, 1.0, 1.0, 0.5)
-HALF = Survey([2.0, 6.0], [0.0, 0.0, 0.5, 0.0], [CONSTANT], [], [1.0, 0.0], [], LINE, 0.0, 2.0**-52)
+HALF = Survey([2.0, 6.0], [0.0, 0.0, 0.5, 0.0], [CONSTANT], [], [0.25, 0.0], [], LINE, 0.0, 0.0)
 JUST_BELOW = math.nextafter(0.5, 0.0)
 # two wells in one yard and a third 5 away from the first, the field: nodes 0.25, 5 and 6.25 away from the first
 YARD = Survey(
@@ -43,6 +43,10 @@ def number_of(survey):
     return of_fit(survey)["number"][0]
 
 
+def parts(outcome):
+    return [outcome[name] for name in ("number", "figures", "variances", "weights", "multipliers", "trend")]
+
+
 def print_told(right, sentences, module, outcome_of, call, never):
     """What each wrong sentence changes; those that this call cannot tell are named apart."""
     told = dict(outcomes(sentences, module, outcome_of, call))
@@ -55,8 +59,11 @@ def print_half():
     values = [LINE.evaluate(h) for h in (JUST_BELOW, 0.5)]
     assert list(map(bits, values)) == [0, bits(0.5)]
     outcome = print_case(HALF)
-    assert outcome["number"] == [0]
-    case_text.wrong(outcome, {"the field is the same spot too": dict(outcomes(OF_A_FIT, fit, of_fit, HALF))["the field is the same spot too"]})
+    # by hand: the node is at one spot with both wells, and these are not with each other
+    assert parts(outcome) == [[0], [4.0], [0.0], [0.5, 0.5], [-0.25], [4.0]] and outcome["verdicts"] == [0]
+    told = ["the field is the same spot too", "2^-52 in place of the field", "the field between wells alone", "distances counted from the field"]
+    case_text.wrong(outcome, {name: other for name, other in outcomes(OF_A_FIT, fit, of_fit, HALF) if name in told})
+    assert parts(of_fit(at(HALF, SAME_SPOT))) == [[0], [4.0], [0.25], [0.5, 0.5], [0.0], [4.0]]
     assert [number_of(apart(JUST_BELOW)), number_of(apart(0.25, 2.0**-52)), number_of(apart(0.25, 2.0**-53))] == [19, 0, 19]
     print("one step nearer 19; 0.25 apart with r = 2^-52 an answer, with 2^-53 19")
 
