@@ -15,7 +15,7 @@ BYTES = [POINTER(c_uint8), c_size_t]
 COUNTS = [POINTER(c_size_t), c_size_t]
 WELLS = [*NUMBERS, *NUMBERS, *BYTES, *NUMBERS]
 NODES = [*NUMBERS, *NUMBERS]
-VARIOGRAM = [c_uint8, c_double, c_double, c_double]
+VARIOGRAM = [c_uint8, c_double, c_double, c_double, c_double]  # model, nugget, sill, range, same-spot distance
 SURVEY = [*WELLS, *VARIOGRAM, c_double, *NODES, c_double]
 
 PARAMETERS = {
