@@ -108,7 +108,8 @@ class Made:
             raise self.refused(9)
         spots, least = len({(well.x, well.y) for well in self.wells}), len(columns(options.trend, None))
         if options.same_spot is not None and spots < least:
-            raise Stop(f'The {options.trend} trend needs wells at {least} spots, and --same-spot leaves {spots}. Measure more wells, or choose a simpler trend.')
+            raise Stop(f'The {options.trend} trend needs wells at {least} spots, and --same-spot leaves {spots}. Measure more wells, or choose a simpler '
+                       '--trend.')
 
     def places(self, options):
         """The grid or None, the nodes, and their external numbers."""

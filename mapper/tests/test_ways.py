@@ -152,7 +152,7 @@ class OnTheMap(Folder):
     """Valley: no two wells are within a tenth of a millimetre, and no node lies so near to a well, so that the call has to give the program's figures."""
 
     def rows_of(self, *words):
-        self.made(SAMPLES / 'valley.csv', '--out', self.folder, '--grid', '23x17', *words)
+        self.made(SAMPLES / 'valley.csv', '--out', self.folder, '--grid', '13x9', *words)
         return self.rows('valley.map.csv')
 
     def test_figures_are_the_same(self):
