@@ -45,9 +45,15 @@ def joined_wells(wells, below, moved=AS_ENTERED, external=None):
             staying.append(well)
             found.append(well)
         else:
-            found.append(replace(well, x=to.x, y=to.y, entered=(well.x, well.y), more={**well.more, **({external: to.more[external]} if external else {})}))
+            found.append(at_the_spot(well, to, external))
             joins.append(Join(well, to, distance(well, to)))
     return found, joins
+
+
+def at_the_spot(well, to, external):
+    """A well at the place of another, with that one's number in the external column."""
+    more = {**well.more, external: to.more[external]} if external else well.more
+    return replace(well, x=to.x, y=to.y, entered=(well.x, well.y), more=more)
 
 
 def join_note(joins, below):

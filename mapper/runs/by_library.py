@@ -16,7 +16,6 @@ class ByLibrary:
 
     def __init__(self, path, nakwemol):
         self.path, self.nakwemol = path, nakwemol
-        self.see_that_it_takes_the_distance()
 
     def answer(self, sheets, sheet):
         """A sheet's answer. Raises Refused."""
@@ -38,20 +37,6 @@ class ByLibrary:
     def damaged(self, of, why):
         """What ends a run where the answer for something is none."""
         return Stop(f'{self.path} gave no answer for {of}: {why}. Remove it, and it is built anew.')
-
-    def see_that_it_takes_the_distance(self):
-        """Ends the run where the library is older than the same-spot distance: it would take the distance for r, and r for t, without a word.
-
-        A library that knows the distance refuses one of 0, by 22.
-        """
-        wrong = self.nakwemol.Variogram(MODELS['spherical'], 0.0, 1.0, 1.0, 0.0)
-        try:
-            self.nakwemol.universal_kriging_fit([0, 0], [1], self.nakwemol.UniversalKrigingOptions(variogram=wrong), [], tolerance=0.0)
-        except self.nakwemol.Refused as refused:
-            if refused.number == 22:
-                return
-        raise Stop(f'{self.path} is older than this map, and does not know the same-spot distance. Remove it and the archive beside it, and they are '
-                   'built anew.')
 
 
 def one_nan(numbers):

@@ -1,6 +1,7 @@
 """The library's proved calls, by bindings/python."""
 import sys
 
+from mapper.errors import Stop
 from mapper.runs.building import ROOT, library
 
 
@@ -10,5 +11,8 @@ def library_calls(tell, progress, without_compiler):
     calls = str(ROOT / 'bindings' / 'python')
     if calls not in sys.path:
         sys.path.append(calls)
-    import nakwemol
+    try:
+        import nakwemol
+    except OSError as error:  # it is no shared object, or of before the same-spot distance
+        raise Stop(f'{error}. Remove it, and the archive beside it, and both are built anew by the next run.')
     return path, nakwemol

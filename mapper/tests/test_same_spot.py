@@ -9,8 +9,6 @@ from mapper.options import options
 from mapper.records import Variogram, Well
 from mapper.runs.lost_digits import drawn_map
 from mapper.runs.survey import Survey
-from mapper.runs.telling_apart import powers
-from mapper.runs.trials import spread_over
 from mapper.tests.support import FOUR, NUMBERS, SAMPLES, Folder
 
 YARD = SAMPLES / 'yard.csv'
@@ -117,30 +115,6 @@ class Doubted(Folder):
             self.assertIn(f'of its own; if it is one well that was read more than once, --same-spot {advised} takes it as one spot.', said)
             self.assertIn('B (line 6) at that of B (line 3), ', self.made(wells, *MODEL, '--grid', '2x2', '--same-spot', advised))
         self.assertNotIn('--same-spot', self.made(self.file(FOUR + 'B,101,0,11.1\n'), *MODEL, '--grid', '2x2'))
-
-
-class Regularization(Folder):
-    def test_the_least_that_helps(self):
-        """With a quadratic trend a millionth of a thousandth is too little in the yard: what is taken has every node pass, and a tenth of it not."""
-        words = (YARD, '--same-spot', '0.01', '--trend', 'quadratic', '--origin', 'moved')
-        m = mapped(*words)
-        self.assertEqual((m.runs[0].failed, m.regularization), (0, 1e-6))
-        self.assertGreater(mapped(*words, '--regularization', '1e-7').runs[0].failed, 10)
-
-    def test_never_more_than_the_map_would_doubt(self):
-        """A hundredth of what the model rises to."""
-        for trend, top, tried in (('constant', 1.0, [-6, -5, -4, -3, -2]), ('linear', 0.5, [-5, -4, -3]), ('quadratic', 0.02, [-5, -4]),
-                                  ('constant', 3e-9, [-14, -13, -12, -11])):
-            self.assertEqual(list(powers(Survey([], trend, None, Variogram('spherical', 0.0, top, 9.0), 0.0, 0.0))), tried)
-
-    def test_nodes_that_are_tried(self):
-        """All of a few; of a grid of 100 by 100, or of 20 columns, nodes in nearly all columns and rows."""
-        self.assertEqual(list(spread_over(range(100))), list(range(100)))
-        for count, columns in ((10000, 100), (2000, 20), (144, 12)):
-            found = spread_over(range(count))
-            self.assertLessEqual(len(found), 100)
-            self.assertGreater(len({i % columns for i in found}), 0.8 * columns)
-            self.assertGreater(len({i // columns for i in found}), 0.8 * count // columns)
 
 
 class Yard(Folder):

@@ -2,9 +2,9 @@
 import hashlib
 import math
 import os
+import subprocess
 import unittest
 from array import array
-from types import SimpleNamespace
 from unittest import mock
 
 from mapper.errors import Refused, Stop
@@ -25,7 +25,7 @@ from mapper.runs.sheets import Sheets
 from mapper.runs.survey import SAME_SPOT, Survey
 from mapper.runs.survey_file import packed
 from mapper.runs.ways import BY_CALL, way_of
-from mapper.tests.support import FOUR, NUMBERS, SAMPLES, Folder, nakwemol
+from mapper.tests.support import FOUR, NUMBERS, ROOT, SAMPLES, Folder, nakwemol
 from mapper.tests.test_sheets import read
 
 TRENDS, MODELS = ('constant', 'linear', 'quadratic'), ('spherical', 'exponential', 'gaussian', 'linear')
@@ -114,17 +114,13 @@ class WhichWay(Folder):
         with self.assertRaises(ValueError):
             Sheets(self.survey(0.01), NODE, array('d'), AS_ENTERED)[0]
 
-    def test_library_of_before(self):
-        """Which takes the distance for r: what should be refused by 22 is answered, or refused by another number."""
-        def refusing(number):
-            def fit(*_, **__):
-                raise nakwemol.Refused(number)
-            return fit
-        for fit in (lambda *_, **__: None, refusing(17)):
-            old = SimpleNamespace(**{**vars(nakwemol), 'universal_kriging_fit': fit})
-            with self.assertRaises(Stop) as stopped:
-                ByLibrary('old.so', old)
-            self.assertIn('old.so is older than this map, and does not know the same-spot distance. Remove it', str(stopped.exception))
+    def test_library_that_is_none(self):
+        """What cannot be loaded, as one that is older than the distance: said in a sentence."""
+        words = [str(ROOT / 'map'), self.file(FOUR), *NUMBERS, '--same-spot', '0.01']
+        environment = {**os.environ, 'NAKWEMOL_LIBRARY': self.file('no library', 'none.so'), 'PYTHONDONTWRITEBYTECODE': '1'}
+        ended = subprocess.run(words, stdout=subprocess.PIPE, stderr=subprocess.PIPE, env=environment)
+        self.assertEqual(ended.returncode, 1)
+        self.assertRegex(ended.stderr.decode(), r'^map: .*/none\.so: .*\. Remove it, and the archive beside it, and both are built anew by the next run\.\n$')
 
     def test_answers_that_do_not_go_together(self):
         """Two sheets, the second with another trend."""
