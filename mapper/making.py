@@ -59,7 +59,7 @@ class Made:
     def read(self, options):
         """Reads the list, and ends the run where what is in it cannot be a water table."""
         named = {role: getattr(options, role) for role in ROLES if getattr(options, role) is not None}
-        found = read_wells(options.wells, ListOptions(options.external, named, options.skip_unreadable, options.readings))
+        found = read_wells(options.wells, ListOptions(options.external, named, options.skip_unreadable, options.readings, options.same_spot is not None))
         self.wells, self.external, self.ground = found.wells, found.external, found.ground
         for note in found.notes:
             self.say(note)

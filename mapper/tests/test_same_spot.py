@@ -102,6 +102,15 @@ class Doubted(Folder):
                                                    '--regularization out beside --same-spot, or give 1e-06 or more.')
         self.assertEqual(made(self.file(FOUR), *MODEL, '--same-spot', '0.01', '--regularization', '0').doubts, [])
 
+    def test_readings_at_the_very_same_place(self):
+        """Without it such a list is refused, as nothing says which reading counts; with it both do, as those a few millimetres apart. A choice is kept."""
+        wells = self.file(FOUR + 'B,100,0,11.2\nB,100.003,0,11.3\n')
+        self.assertIn('Choose by --readings first, last or average', self.refused(wells, *MODEL, '--at', '50,50'))
+        said = self.made(wells, *MODEL, '--at', '50,50', '--same-spot', '0.01')
+        self.assertIn('B (line 6) at that of B (line 3), at the same place and B (line 7) at that of B (line 3), 0.003 m away.', said)
+        chosen = self.made(wells, *MODEL, '--at', '50,50', '--same-spot', '0.01', '--readings', 'last')
+        self.assertIn('B stands in the list with 2 readings; the last is taken.\n1 well is taken to be at the spot of another', chosen)
+
     def test_too_few_spots_for_the_trend(self):
         wells = self.file('name,x,y,level\nA,0,0,10\nB,100,0,11\nC,0.001,0,12.5\n')
         self.assertIn('The linear trend needs wells at 3 spots, and --same-spot leaves 2. Measure more wells, or choose a simpler --trend.',
