@@ -5,6 +5,7 @@ import re
 import sys
 
 from mapper.lists.grid import MOST
+from mapper.runs.survey import SAME_SPOT
 from mapper.runs.survey_file import CODES, MODELS
 
 ROLES = {
@@ -19,6 +20,12 @@ ROLES = {
 READINGS = ('newest', 'first', 'last', 'average')
 BESIDE_COLLECT = ('collect', 'out', 'jobs', 'progress')
 NOT_BESIDE_AT = ('nodes', 'grid', 'sheets', 'survey', 'out')
+# What a survey file, which does not carry a same-spot distance, would have to say.
+NOT_BESIDE_SAME_SPOT = {
+    'survey': 'leave out --survey, or --same-spot',
+    'listing': 'so the figures come from a call, which prints no lines: leave out --listing, or --same-spot',
+    'sheets': 'leave out --sheets, and all sheets are run here, --jobs of them side by side; or leave out --same-spot',
+}
 USE = '''map wells.csv [options]
        map wells.csv --at X,Y[,GROUND] [options]
        map wells.csv --sheets DIR [options]
@@ -49,6 +56,17 @@ def above(least, what):
             raise argparse.ArgumentTypeError(f'{text} is not a number {what} {least:g}{"; it is too large" if value > least else ""}')
         return value
     return number
+
+
+def same_spot(text):
+    """A distance in metres, no shorter than the proved call takes it."""
+    try:
+        value = float(text)
+    except ValueError:
+        value = float('nan')
+    if not SAME_SPOT <= value < float('inf'):
+        raise argparse.ArgumentTypeError(f'{text} is no distance; say how many metres, a number above 0, such as 0.01 for a centimetre')
+    return value
 
 
 def numbers(text, counts, example):
@@ -97,7 +115,8 @@ def parser():
     add('--sill', type=above(0, 'above'), help='what the model rises to; fitted where it is not given')
     add('--range', type=above(0, 'above'), help='the distance at which it is there, or a third (exponential) or 1/√3 (gaussian) of where it nearly is; '
         'fitted where it is not given')
-    add('--regularization', type=float, default=1e-10, help='what is added on the diagonal (1e-10)')
+    add('--same-spot', type=same_spot, metavar='METRES', help='takes wells nearer to each other than that as one spot, such as one well read twice')
+    add('--regularization', type=float, help='what is added on the diagonal (1e-10; where --same-spot joins wells, what tells them apart)')
     add('--tolerance', type=float, default=1e-9, help='what the audit allows (1e-9)')
     add('--origin', choices=('auto', 'as-entered', 'moved'), default='auto', help='where coordinates are counted from; auto moves the origin where nodes fail')
     add('--survey', metavar='FILE', help='keeps the survey file; over 100 nodes a file for each sheet, numbered before its ending')
@@ -142,6 +161,9 @@ def wrong_use(found, given):
         return f'--collect DIR takes all of the map from DIR; leave out {named(others)}' if others else None
     if found.wells is None:
         return 'name the list of wells, such as samples/valley.csv'
+    filed = next((name for name in NOT_BESIDE_SAME_SPOT if name in given and found.same_spot is not None), None)
+    if filed:
+        return f'--{filed} needs survey files, which do not carry the same-spot distance; {NOT_BESIDE_SAME_SPOT[filed]}'
     if found.at:
         return wrong_places(found, [name for name in given if name in NOT_BESIDE_AT])
     if found.nodes is not None and found.grid is not None:

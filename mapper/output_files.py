@@ -47,9 +47,14 @@ def figures(level, variance):
     return shown(level), shown(variance), '' if found is None else shown(found)
 
 
+def by_words(m):
+    """Which proved code the figures come from, where that is known."""
+    return [f'Worked out by {m.source.by}.'] if m.source else []
+
+
 def table(m):
-    """The lines of the map's table: both judgements as comments, then a line a node. A node that failed has no level: there is none to use."""
-    for line in [*(f'# {line}' for line in judgement_lines(m)), HEADER]:
+    """The lines of the map's table: both judgements, and by what, as comments, then a line a node. A node that failed has no level: there is none to use."""
+    for line in [*(f'# {line}' for line in judgement_lines(m) + by_words(m)), HEADER]:
         yield (line + '\n').encode()
     says = {number: quoted(said(number, m.columns)) for number in set(m.nodes.verdict)}
     nodes, where = m.nodes, where_of(m.wells)

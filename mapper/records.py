@@ -8,13 +8,19 @@ from mapper.model.variogram_models import rise
 
 @dataclass
 class Well:
-    """A measured well, as it stands in the list."""
+    """A measured well, as it stands in the list; but one that --same-spot has joined to another stands at that one's place."""
     name: str
     x: float
     y: float
     level: float
     more: Dict[str, float] = field(default_factory=dict)  # further columns, by their header
     line: int = field(default=0, compare=False)           # where it stands in the list; 0 where that is not known
+    entered: Optional[Tuple[float, float]] = None         # its place in the list, where it was joined to another well
+
+    @property
+    def listed_place(self):
+        """x and y as the list has them."""
+        return self.entered or (self.x, self.y)
 
 
 @dataclass
@@ -36,8 +42,9 @@ class Source:
     """Where a map comes from, for its foot: what was read, by what, and when."""
     list_name: str    # of the list of wells, with its ending
     checksum: str     # SHA-256 of the list, 64 hexadecimal digits
-    program: str      # SHA-256 of the program that was run
+    program: str      # SHA-256 of the file that was run: the program's, or the library's
     made: str         # the day, such as 2026-11-17
+    by: str = 'wellmap'  # the proved code that the figures come from, in words
 
 
 @dataclass
@@ -140,3 +147,4 @@ class Map:
     doubts: List[Doubt] = field(default_factory=list)
     left_out: List[LeftOut] = field(default_factory=list)  # one for each well; none where there are too few to leave one out
     source: Optional[Source] = None
+    same_spot: Optional[float] = None  # metres below which two places are one spot, where it was asked for

@@ -1,4 +1,4 @@
-"""Where a map comes from: checksums of the list and of the program, and the day."""
+"""Where a map comes from: checksums of the list and of what was run, and the day."""
 import hashlib
 from datetime import date
 from pathlib import Path
@@ -15,6 +15,6 @@ def checksum(path):
         raise Stop(f'{path} cannot be read: {error.strerror}.')
 
 
-def source_of(wells, program):
-    """The list of wells, the program that was run, and the day by the local clock."""
-    return Source(Path(wells).name, checksum(wells), checksum(program), date.today().isoformat())
+def source_of(wells, way):
+    """The list of wells, the way that its sheets were run (runs/ways.py), and the day by the local clock."""
+    return Source(Path(wells).name, checksum(wells), checksum(way.path), date.today().isoformat(), way.called)

@@ -59,9 +59,20 @@ def valley_nodes():
             yield f'{chr(65 + row)}{column + 1},{EAST + x:.0f},{NORTH + y:.0f},{ground(x, y):.1f}'
 
 
+def yard():
+    """14 wells in and around a works yard, placed by a logger to the millimetre; three of them were read twice, and the second time placed a little off."""
+    draw = random.Random('yard.csv')
+    yield 'name,x,y,level'
+    wells = [(f'Y{i + 1}', x + draw.uniform(0, 0.1), y + draw.uniform(0, 0.1)) for i, (x, y) in enumerate(apart(draw, 14, 400, 300, 45))]
+    again = [(name, x + draw.uniform(-0.004, 0.004), y + draw.uniform(-0.004, 0.004)) for name, x, y in (wells[i] for i in (2, 6, 11))]
+    for name, x, y in wells + again:
+        level = 96.4 - 0.004 * x + 0.002 * y + 0.12 * math.sin(x / 90) + draw.gauss(0, 0.02)
+        yield f'{name},{EAST + x:.3f},{NORTH + y:.3f},{level:.2f}'
+
+
 def main(arguments):
     different = 0
-    for name, lines in (('plain.csv', plain()), ('valley.csv', valley()), ('valley_nodes.csv', valley_nodes())):
+    for name, lines in (('plain.csv', plain()), ('valley.csv', valley()), ('valley_nodes.csv', valley_nodes()), ('yard.csv', yard())):
         path, text = SAMPLES / name, ''.join(line + '\n' for line in lines)
         same = path.exists() and path.read_text() == text
         different += not same

@@ -1,34 +1,33 @@
-"""Each well held to the others: its level as they tell it, by the proved program, with the well itself left out of the list."""
+"""Each well held to the others: its level as they tell it, by the proved code, with the well itself left out of the list."""
 import math
 from array import array
 from concurrent.futures import ThreadPoolExecutor
 from dataclasses import replace
 
-from mapper.errors import Refused, Stop
+from mapper.errors import Refused
 from mapper.lists.nodes import unanswered
 from mapper.records import LeftOut
-from mapper.runs.listing import Damaged, parsed
-from mapper.runs.running import answer
+from mapper.runs.answers import Damaged
 from mapper.runs.sheets import Sheets
 from mapper.runs.survey_file import columns
 
 
 class Others:
-    """What wells say of another well: by this program, with a survey's trend and model, from an origin, so many at once."""
+    """What wells say of another well: by a way (runs/ways.py), with a survey's trend and model, from an origin, so many at once."""
 
-    def __init__(self, program, survey, origin, jobs):
-        self.program, self.survey, self.origin, self.jobs = program, survey, origin, jobs
+    def __init__(self, way, survey, origin, jobs):
+        self.way, self.survey, self.origin, self.jobs = way, survey, origin, jobs
 
     def say_of(self, well, others):
         """What these others say of a well; nothing where they settle no level there, as two of them at one spot may not."""
         node = unanswered(array('d', [well.x]), array('d', [well.y]))
         outside = array('d', [] if self.survey.external is None else [well.more[self.survey.external]])
         try:
-            found = parsed(answer(self.program, Sheets(replace(self.survey, wells=others), node, outside, self.origin)[0]), 1)
+            found = self.way.answer(Sheets(replace(self.survey, wells=others), node, outside, self.origin), 0)
         except Refused:
             return LeftOut(None)
         except Damaged as damaged:
-            raise Stop(f'{self.program} printed no listing for the wells without {well.name}: {damaged}. Remove it, and it is built anew.')
+            raise self.way.damaged(f'the wells without {well.name}', damaged)
         level, variance = found.levels[0], found.variances[0]
         if found.verdicts[0] or not math.isfinite(level + variance):
             return LeftOut(None)
@@ -36,10 +35,17 @@ class Others:
 
     def left_out(self, wells):
         """What the others of these wells say of each; nothing where they are too few to settle the trend and have something left over."""
-        if len(wells) - 1 <= len(columns(self.survey.trend, self.survey.external)):
+        others = [self.others_of(wells, i) for i in range(len(wells))]
+        if min(map(len, others), default=0) <= len(columns(self.survey.trend, self.survey.external)):
             return []
         with ThreadPoolExecutor(self.jobs) as pool:
-            return list(pool.map(lambda i: self.say_of(wells[i], wells[:i] + wells[i + 1:]), range(len(wells))))
+            return list(pool.map(self.say_of, wells, others))
+
+    def others_of(self, wells, i):
+        """The other wells. Those that --same-spot has at its very spot are readings of the well itself, and are left out with it."""
+        if self.survey.same_spot is None:
+            return wells[:i] + wells[i + 1:]
+        return [well for well in wells if (well.x, well.y) != (wells[i].x, wells[i].y)]
 
 
 def errors(m):

@@ -20,7 +20,7 @@ def slope_doubts(wells):
 def plane_slope(wells):
     """The slope of the plane that goes best through the wells, by least squares; None where they stand on one line and settle none."""
     long, narrow = sides(wells)
-    if len(wells) < 3 or narrow < NARROW * long:
+    if len(wells) < 3 or narrow <= NARROW * long:
         return None
     count = len(wells)
     x, y, z = (math.fsum(getattr(well, name) for well in wells) / count for name in ('x', 'y', 'level'))

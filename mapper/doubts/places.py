@@ -6,6 +6,7 @@ from statistics import median
 from mapper.doubts.degrees import degree_doubts
 from mapper.doubts.well_words import length
 from mapper.naming import called, several
+from mapper.numbers import shown
 from mapper.records import Doubt
 
 # Times as far from the middle as half of the wells are; and times as far from the nearest other as all the others reach. A well for comparison that is
@@ -15,6 +16,7 @@ ONE_WAY_FAR, ONE_WAY_APART, SOME = 5, 1.2, 10
 FAR_OF_FEW, FEW = 100, 4
 ONE_IN = 10
 NARROW = 0.01     # of the long side: the narrow side of wells on one line
+YARD = 1.0        # metres: nobody drills two wells nearer to each other, but a well is placed so far off
 
 
 def place_doubts(wells):
@@ -99,4 +101,12 @@ def name_doubts(wells):
         named.setdefault(well.name, []).append(well)
     twice = [same for same in named.values() if len({(well.x, well.y) for well in same}) > 1]
     return [Doubt(f'{same[0].name} is the name of {len(same)} wells at different places, in lines {several(str(well.line) for well in same)}. '
-                  'Correct the place that is wrong, or give each well a name of its own.') for same in twice]
+                  f'Correct the place that is wrong, or give each well a name of its own{one_spot(same)}.') for same in twice]
+
+
+def one_spot(same):
+    """What else may help where wells of one name stand within a yard: the round distance above the longest way from the first of them."""
+    away = max(math.hypot(well.x - same[0].x, well.y - same[0].y) for well in same)
+    if away >= YARD:
+        return ''
+    return f'; if it is one well that was read more than once, --same-spot {shown(float(f"1e{math.floor(math.log10(away)) + 1}"))} takes it as one spot'

@@ -14,7 +14,7 @@ def setting_doubts(survey):
                      f'or give {TOLERANCE:g} at most.')
     if survey.regularization > SHARE * variogram.top:
         found.append(f'The regularization, {shown(survey.regularization)}, is more than a hundredth of what the model rises to, {shown(variogram.top)}: '
-                     'it smooths the levels at the wells away. Leave --regularization out, which is 1e-10, or give a smaller one.')
+                     'it smooths the levels at the wells away. Leave --regularization out, or give a smaller one.')
     if variogram.nugget > variogram.top:
         found.append(f'The nugget, {shown(variogram.nugget)}, is above the sill, {shown(variogram.sill)}: near wells count less than far ones then. '
                      'Give a --sill above the --nugget, or leave both out to have them fitted.')

@@ -7,7 +7,7 @@ docs/DECISIONS.md, "The map", has how often that is right.
 """
 import math
 
-from mapper.doubts.spots import spots_of
+from mapper.doubts.spots import are_joined, spots_of
 from mapper.doubts.well_words import level, listed
 from mapper.naming import called
 from mapper.records import Doubt
@@ -34,14 +34,17 @@ def usual(wells, told):
 
 
 def set_apart(wells, left_out, others):
-    """The suspects, the wells that are left, and what these say of each other. Of wells that share a spot none is one: they are doubted elsewhere."""
-    shared = {(well.x, well.y) for same in spots_of(wells) for well in same}
+    """The suspects, the wells that are left, and what these say of each other. Of wells that share a spot none is one: they are doubted elsewhere; but
+    where they were joined they are readings of one well, which go together."""
+    shared = {(same[0].x, same[0].y) for same in spots_of(wells) if not are_joined(same)}
     suspects, rest, told = [], list(wells), left_out
     for _ in range(min(SUSPECTS, max(1, len(wells) // SHARE))):
         errors = [-1.0 if (well.x, well.y) in shared else off_by(well, each) for well, each in zip(rest, told)]
         if not errors or max(errors) <= 0:
             break
-        suspects.append(rest.pop(errors.index(max(errors))))
+        worst = rest[errors.index(max(errors))]
+        suspects.append(worst)
+        rest = [well for well in rest if (well.x, well.y) != (worst.x, worst.y)]
         told = others.left_out(rest)
     return suspects, rest, told
 

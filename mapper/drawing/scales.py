@@ -3,6 +3,7 @@ import math
 
 THIN = '\u202f'   # a thin space at which a line is not broken
 MINUS = '\u2212'
+MOST_PLACES = 9   # figures after the point; a number that needs more is told by its power of ten
 
 
 def round_step(span, most):
@@ -54,7 +55,7 @@ def fixed(value, places):
         return 'not a number'
     if math.isinf(value):
         return (MINUS if value < 0 else '') + '∞'
-    if abs(value) >= 1e12 or places > 9:
+    if abs(value) >= 1e12 or places > MOST_PLACES:
         return power_form(value, 7)
     text = '%.*f' % (places, value)
     sign = ''
@@ -75,20 +76,20 @@ def power_form(value, figures):
     return (head + ('e%d' % power if power else '')).replace('-', MINUS)
 
 
-def plain(value, figures=7):
-    """`value` to so many figures, without zeros at the end."""
+def plain(value, figures=7, most=math.inf):
+    """`value` to so many figures, and at most so many after the point, without zeros at the end."""
     if value == 0 or not math.isfinite(value):
         return '0' if value == 0 else fixed(value, 0)
     size = math.floor(math.log10(abs(value)))
     if size < -5 or size >= 12:
         return power_form(value, figures)
-    text = fixed(value, max(0, figures - 1 - size))
+    text = fixed(value, min(most, max(0, figures - 1 - size)))
     return text.rstrip('0').rstrip('.') if '.' in text else text
 
 
 def alike(values, figures=10):
     """Numbers of a column with as many figures after the point as the one that needs most."""
-    texts = [plain(v, figures) for v in values]
+    texts = [plain(v, figures, MOST_PLACES) for v in values]
     if any('e' in t or not math.isfinite(v) for t, v in zip(texts, values)):
         return texts
     places = max((len(t.partition('.')[2]) for t in texts), default=0)

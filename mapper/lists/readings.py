@@ -24,10 +24,11 @@ def lines(wells):
 
 
 class Readings:
-    """The wells of a list, each as often as it was read. `dates` are the fields of the date column, one for each well; None where there is no such column."""
+    """The wells of a list, each as often as it was read. `dates` are the fields of the date column, one for each well; None where there is no such column.
+    Where neither they nor the choice tell which is taken the list is refused, unless `all_stay`."""
 
-    def __init__(self, path, wells, dates, choice):
-        self.path, self.wells, self.dates, self.choice = path, wells, dates, choice
+    def __init__(self, path, wells, dates, choice, all_stay=False):
+        self.path, self.wells, self.dates, self.choice, self.all_stay = path, wells, dates, choice, all_stay
         self.groups = [group for group in groups(wells) if self.differ(group)]
         self.orders = orders(dates or ())
         self.days = []  # of the readings that were taken
@@ -40,9 +41,10 @@ class Readings:
         """The wells, one for each that was read more than once, and a sentence about it, None where there is nothing to say."""
         if self.choice == 'newest' and self.dates is None:
             raise Stop(f'{self.path} has no column with the day of each reading for --readings newest. Name it by --date COLUMN, or say {CHOICES}.')
-        if not self.groups:
+        undecided = self.choice is None and self.dates is None
+        if not self.groups or undecided and self.all_stay:
             return self.wells, None
-        if self.choice is None and self.dates is None:
+        if undecided:
             raise Stop(self.undated())
         choose = {'first': self.first, 'last': self.last, 'average': self.average}.get(self.choice, self.newest)
         instead = {i: choose(group) if i == group[0] else None for group in self.groups for i in group}

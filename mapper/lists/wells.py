@@ -22,6 +22,7 @@ class ListOptions:
     columns: Dict[str, str] = field(default_factory=dict)  # a role, 'name', 'x', 'y', 'level', 'depth', 'ground' or 'date', and the header asked for
     skip_unreadable: bool = False                          # lines that cannot be read are left out, and listed
     readings: Optional[str] = None                         # which of several readings of a well: 'newest', 'first', 'last' or 'average'
+    all_stay: bool = False                                 # where nothing chooses among readings all of them stay: --same-spot takes them as one spot
 
 
 @dataclass
@@ -126,12 +127,12 @@ class Reader:
     def taken(self, rows, wells):
         """One well for each that was read several times."""
         dates = None if self.date is None else [row.fields[self.date] for row in rows.rows]
-        readings = Readings(self.path, wells, dates, self.options.readings)
+        readings = Readings(self.path, wells, dates, self.options.readings, self.options.all_stay)
         if self.options.skip_unreadable and readings.unreadable():
             left = set(readings.unreadable())
             rows.leave_out(sorted(left), lambda row: f'{self.header(self.date)} is no day: {row.fields[self.date]}')
             readings = Readings(self.path, [well for i, well in enumerate(wells) if i not in left],
-                                [row.fields[self.date] for row in rows.rows], self.options.readings)
+                                [row.fields[self.date] for row in rows.rows], self.options.readings, self.options.all_stay)
         taken, said = readings.taken()
         self.notes += [said] if said else []
         return taken

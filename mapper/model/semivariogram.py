@@ -1,16 +1,16 @@
 """The semivariogram of the wells, worked out by the proved call."""
 import math
-import sys
 
 from mapper.errors import Refused
 from mapper.records import Bin
-from mapper.runs.building import ROOT, library
+from mapper.runs.library_calls import library_calls
 
 MOST_BINS = 16
 PAIRS_A_BIN = 10
 LEAST_BINS = 4     # where there are as many pairs
 NEARER = 0.5       # of the greatest distance: pairs farther apart say little, so that the model is fitted to the nearer ones
 LEAST_FITTED = 3
+NO_COMPILER = 'Install one, or give --nugget, --sill and --range yourself.'
 
 
 def bin_count(wells):
@@ -25,11 +25,7 @@ def greatest_distance(wells):
 
 def bins_of(wells, levels, tell, progress=False):
     """The bins of these levels at the wells. Raises Refused."""
-    library(tell, progress)
-    calls = str(ROOT / 'bindings' / 'python')
-    if calls not in sys.path:
-        sys.path.append(calls)
-    import nakwemol
+    _, nakwemol = library_calls(tell, progress, NO_COMPILER)
     try:
         found = nakwemol.SemivariogramCalculator.calculate([(well.x, well.y) for well in wells], levels, bin_count(len(wells)))
     except nakwemol.Refused as refused:

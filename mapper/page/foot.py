@@ -9,9 +9,9 @@ def checksum(digits):
 
 
 def foot(m):
-    """The day, the list and its checksum, and the program's; nothing where they are not known."""
+    """The day, the list and its checksum, and what was run with its own; nothing where they are not known."""
     source = m.source
     if source is None:
         return ''
-    return '<footer><p>Made on %s from %s (SHA-256 %s) by wellmap (SHA-256 %s).</p></footer>' % (
-        escape(source.made), escape(source.list_name), checksum(source.checksum), checksum(source.program))
+    return '<footer><p>Made on %s from %s (SHA-256 %s) by %s (SHA-256 %s).</p></footer>' % (
+        escape(source.made), escape(source.list_name), checksum(source.checksum), escape(source.by), checksum(source.program))

@@ -48,6 +48,8 @@ def left_out_words(m):
         return 'The other wells say nothing that can be shown of any well.'
     of = '' if told == len(m.wells) else f' of {len(m.wells)}'
     words = f'Each of {counted(told, "well")}{of} was left out once and told by the others: they miss its level by {metres(error)} m (root of the mean square).'
+    if any(well.entered for well in m.wells):
+        words += ' Wells that are one spot were left out together.'
     if is_grave(m):
         return words + ' What that says of the ± means nothing while the list cannot be one of a water table.'
     if any(doubted_wells(m)):

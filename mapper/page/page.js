@@ -54,8 +54,13 @@
     line('the arithmetic held (' + data.words[0] + ')');
   }
 
-  function tellWell(well) {
+  // All wells at a place: several may be taken to be at one spot.
+  function tellWells(at) {
     box.textContent = '';
+    data.wells.forEach(function (well) { if (well[0] === at[0] && well[1] === at[1]) tellWell(well); });
+  }
+
+  function tellWell(well) {
     line('Well ' + well[2], 'strong');
     line('level in the list ' + well[3] + ' m');
     if (well[4]) line('the other wells say ' + well[4] + ' m');
@@ -92,7 +97,7 @@
     if (x < 0 || x > 1 || y < 0 || y > 1) return hide(svg);
     var well = closest(data.wells.map(function (w) { return w[0]; }), data.wells.map(function (w) { return w[1]; }), x, y, frame);
     if (well.distance < 7) {
-      tellWell(data.wells[well.at]);
+      tellWells(data.wells[well.at]);
       return put(svg, frame, data.wells[well.at][0], data.wells[well.at][1]);
     }
     if (!data.x.length) return hide(svg);

@@ -6,7 +6,7 @@ too much rather than too little.
 import math
 from dataclasses import dataclass
 
-from mapper.page.well_table import pieces, table_words
+from mapper.page.well_table import joined_marks, pieces, table_words
 from mapper.runs.trend_words import trend_sentence
 from mapper.runs.verdicts import verdict_advice, verdict_words
 
@@ -48,7 +48,7 @@ def refused(m):
 
 def wells(m):
     """The wells in their pieces side by side, where a long name takes more than one line; and the page's foot."""
-    rows = [lines(well.name, 9) for well in m.wells]
+    rows = [lines(f'{well.name} {mark}'.strip(), 9) for well, mark in zip(m.wells, joined_marks(m))]
     length = math.ceil(len(rows) / pieces(m)) or 1
     longest = max((sum(rows[k:k + length]) for k in range(0, len(rows), length)), default=0)
     return 12 + LINE * (2 + longest + lines(table_words(m)))

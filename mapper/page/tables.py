@@ -91,6 +91,12 @@ def area_words(m):
     return '%s by %s, %s' % (length_words(broad, 4), length_words(high, 4), size)
 
 
+def same_spot_row(m):
+    """The distance below which places are one spot, where one was asked for, and how many wells it joined to others."""
+    joined = sum(well.entered is not None for well in m.wells)
+    return [] if m.same_spot is None else [('Same spot', 'nearer than %s, %s joined' % (length_words(m.same_spot, 4), counted(joined, 'well')))]
+
+
 def numbers(m, made):
     """The survey in numbers: pairs of what and how much."""
     levels = [v for v, ok in zip(m.nodes.level, made.good) if ok]
@@ -107,6 +113,7 @@ def numbers(m, made):
         ('Trend', in_short(m)),
         ('External column', m.external or 'none'),
         ('Model', model_words(m.variogram).rstrip('.')),
+        *same_spot_row(m),
         ('Regularization', plain(m.regularization)),
         ('Tolerance', plain(m.tolerance))]
 

@@ -12,6 +12,7 @@ OTHERS = (('others n', 'Others say, m', 'the level that the other wells give at 
 SAYS = ("Others say: the level that the other wells give at the well when it is left out. Off by: the list's level less that, in metres and counted in "
         'standard deviations (±).')
 NAMED = ' A well marked ! is named by a doubt.'
+JOINED = ' A well marked = #1 is taken to be at the spot of well #1; its x and y are as the list has them.'
 NOTHING = '–'
 
 
@@ -37,9 +38,12 @@ def others_cells(well, left):
     return [fixed(left.level, 2) if abs(left.level) < 1e5 else power_form(left.level, 4), signed(off, 2) if math.isfinite(off) else NOTHING, spread]
 
 
-def row(heads, cells, doubted):
-    mark = '<b class="named" title="a doubt names this well">!</b> ' if doubted else ''
-    inner = ''.join('<td class="%s">%s%s</td>' % (kind, mark if kind == 'name' else '', escape(cell)) for (kind, _, _), cell in zip(heads, cells))
+def row(heads, cells, doubted, joined):
+    """A well's cells; beside its name stand that a doubt names it, and which well's spot it is taken at."""
+    before = '<b class="named" title="a doubt names this well">!</b> ' if doubted else ''
+    after = ' <span class="joined" title="taken to be at the spot of this well">%s</span>' % escape(joined) if joined else ''
+    inner = ''.join('<td class="%s">%s</td>' % (kind, before + escape(cell) + after if kind == 'name' else escape(cell))
+                    for (kind, _, _), cell in zip(heads, cells))
     return '<tr%s>%s</tr>' % (' class="doubted"' if doubted else '', inner)
 
 
@@ -49,8 +53,16 @@ def head(heads):
 
 
 def columns_of(m):
-    """The wells' places and levels as they are shown."""
-    return [alike([of(w) for w in m.wells]) for of in (lambda w: w.x, lambda w: w.y, lambda w: w.level)]
+    """The wells' places and levels as they are shown: as the list has them."""
+    return [alike([of(w) for w in m.wells]) for of in (lambda w: w.listed_place[0], lambda w: w.listed_place[1], lambda w: w.level)]
+
+
+def joined_marks(m):
+    """For each well that is joined to another the number of that one, '= #3'; else nothing."""
+    first = {}
+    for k, well in enumerate(m.wells, 1):
+        first.setdefault((well.x, well.y), k)
+    return ['= #%d' % first[well.x, well.y] if well.entered else '' for well in m.wells]
 
 
 def place_letters(m):
@@ -61,8 +73,8 @@ def place_letters(m):
 def well_rows(m, heads):
     columns = columns_of(m)
     others = [others_cells(well, left) for well, left in zip(m.wells, m.left_out)] or [[]] * len(m.wells)
-    return [row(heads, ['#%d' % k, well.name, x, y, level, *more], doubted)
-            for k, (well, x, y, level, more, doubted) in enumerate(zip(m.wells, *columns, others, doubted_wells(m)), 1)]
+    return [row(heads, ['#%d' % k, well.name, x, y, level, *more], doubted, joined)
+            for k, (well, x, y, level, more, doubted, joined) in enumerate(zip(m.wells, *columns, others, doubted_wells(m), joined_marks(m)), 1)]
 
 
 def pieces(m):
@@ -82,7 +94,7 @@ def well_table(m):
 
 def table_words(m):
     """What the columns are; why there are none of the others."""
-    return (SAYS if m.left_out else TOO_FEW) + (NAMED if any(doubted_wells(m)) else '')
+    return (SAYS if m.left_out else TOO_FEW) + (NAMED if any(doubted_wells(m)) else '') + (JOINED if any(joined_marks(m)) else '')
 
 
 def well_part(m):

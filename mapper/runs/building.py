@@ -14,7 +14,7 @@ PROGRAM, STAMPS = Path('target/bin/wellmap'), Path('target/stamp')
 ARCHIVE, SHARED = Path('target/staticlib/libnakwemol.a'), Path('target/staticlib/libnakwemol.so')
 # Crates that are proved at once, on average: rt uses four cores at most, and begins the next crates only when all that it has begun are done.
 AT_ONCE = max(1.0, 0.7 * min(os.cpu_count() or 1, 4))
-NO_COMPILER = 'There is no C compiler (cc) to link the proved semivariogram with. Install one, or give --nugget, --sill and --range yourself.'
+NO_COMPILER = 'There is no C compiler (cc) to link the library of the proved calls with. '
 
 
 def program(tell, progress=False):
@@ -29,13 +29,14 @@ def program(tell, progress=False):
     return str(ROOT / PROGRAM)
 
 
-def library(tell, progress=False):
-    """Makes the shared object that bindings/python loads, where it is not there, and the program with it. NAKWEMOL_LIBRARY names another."""
-    if library_there():
-        return
-    if shutil.which(os.environ.get('CC', 'cc')) is None:
-        raise Stop(NO_COMPILER)
-    build(tell, progress, *([] if os.environ.get('NAKWEMOL_WELLMAP') else [PROGRAM]), ARCHIVE, SHARED)
+def library(tell, progress=False, without_compiler='Install one.'):
+    """The path of the shared object that bindings/python loads, which is made where it is not there, and the program with it; NAKWEMOL_LIBRARY names
+    another. It says what to do where there is no compiler to link it with."""
+    if not library_there():
+        if shutil.which(os.environ.get('CC', 'cc')) is None:
+            raise Stop(NO_COMPILER + without_compiler)
+        build(tell, progress, *([] if os.environ.get('NAKWEMOL_WELLMAP') else [PROGRAM]), ARCHIVE, SHARED)
+    return os.environ.get('NAKWEMOL_LIBRARY') or str(ROOT / SHARED)
 
 
 def library_there():
@@ -106,8 +107,8 @@ def proved_by(steps):
 
 def not_built(with_program, with_archive):
     if with_program and with_archive:
-        return 'The program and the proved semivariogram are not built yet'
-    return f'The {"program" if with_program else "proved semivariogram"} is not built yet'
+        return 'The program and the library of the proved calls are not built yet'
+    return f'The {"program" if with_program else "library of the proved calls"} is not built yet'
 
 
 def no_toolchain(lacking):

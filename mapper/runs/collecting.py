@@ -7,14 +7,14 @@ from mapper.errors import Refused, Stop
 from mapper.naming import several
 from mapper.numbers import counted
 from mapper.progress import Bar
+from mapper.runs.answers import Damaged
 from mapper.runs.building import program
 from mapper.runs.kept_map import KeptMap
-from mapper.runs.listing import Damaged
+from mapper.runs.listing import parsed
 from mapper.runs.refusals import refusal
 from mapper.runs.reruns import held_to_the_program
 from mapper.runs.running import fill, tally
 from mapper.runs.sheet_folder import name
-
 
 
 def collected(folder, progress=False, jobs=os.cpu_count() or 1, tell=print):
@@ -45,7 +45,8 @@ def take(path, sheets, sheet, sums):
     try:
         listing = path.read_bytes()
         found = hashlib.sha256(listing).digest()
-        fill(sheets, sheet, listing)
+        first, end = sheets.span(sheet)
+        fill(sheets, sheet, parsed(listing, end - first))
     except Damaged as damaged:
         other = f'; it is the same byte for byte as {name(sums.index(found), "listing")}' if found in sums else ''
         raise Stop(f'{path} is not whole: {damaged}{other}. Run its sheet again.')

@@ -2,16 +2,16 @@
 from dataclasses import dataclass
 from typing import List
 
-from mapper.doubts.spots import option, spots_of
+from mapper.doubts.spots import is_enough, option, spots_of
 from mapper.errors import Refused
 from mapper.lists.nodes import unanswered
 from mapper.numbers import counted, shown
 from mapper.records import Nodes, Run
-from mapper.runs.origin import AS_ENTERED, corner
+from mapper.runs.origin import AS_ENTERED
 from mapper.runs.refusals import refusal
 
 SIMPLER = 'a simpler --trend may help, or one well in place of several close together'
-ONE_OF_THEM = 'keep one of the wells that share a spot, or give %s'
+ONE_OF_THEM = 'keep one of the wells that share a spot, or %s'
 NUGGET = ', or a larger --nugget, without which a gaussian model hardly tells near wells apart'
 
 
@@ -45,7 +45,7 @@ def drawn_map(made):
 
 def attempts_of(made):
     """The attempt that `--origin` names; else the one as entered, and where that leaves something to mend the moved one."""
-    wanted, to = made.options.origin, corner(made.wells)
+    wanted, to = made.options.origin, made.corner
     if wanted == 'moved':
         return [attempt(made, to, 'moved', False)]
     mendable = wanted == 'auto' and to != AS_ENTERED
@@ -87,7 +87,7 @@ def told(runs, drawn, wanted, helps):
 def what_helps(survey):
     """What may mend nodes that fail: of wells at one spot one is enough, whatever the trend and the model."""
     if spots_of(survey.wells):
-        return ONE_OF_THEM % option(survey)
+        return ONE_OF_THEM % ('take a simpler --trend' if is_enough(survey) and survey.trend != 'constant' else f'give {option(survey)}')
     return SIMPLER + (NUGGET if survey.variogram.model == 'gaussian' else '')
 
 

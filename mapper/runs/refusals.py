@@ -29,6 +29,7 @@ REFUSALS = {
     17: 'The program was lent too little room to work in. This should not happen with this tool; build the program anew, and report it.',
     18: 'The program was lent too little room for its answers. This should not happen with this tool; build the program anew, and report it.',
     19: 'The wells do not settle the map: the equations have no single answer.',
+    22: 'The same-spot distance is not a number of metres above 0. Give --same-spot in metres, such as 0.01 for a centimetre, or leave it out.',
     100: 'A call named a model or a kind of kriging that there is none of. Choose --model spherical, exponential, gaussian or linear.',
 }
 

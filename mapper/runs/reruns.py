@@ -11,7 +11,7 @@ from mapper.errors import Stop
 from mapper.naming import several
 from mapper.numbers import counted
 from mapper.progress import Bar
-from mapper.runs.running import answer
+from mapper.runs.by_program import printed
 from mapper.runs.sheet_folder import name
 
 LEAST = 3     # sheets that are run again, where there are as many
@@ -56,8 +56,8 @@ def different(sheets, chosen, sums, program, jobs, progress):
     """Those of the chosen sheets for which the program prints something else."""
     wrong = []
     with Bar('run again', sum(end - first for first, end in map(sheets.span, chosen)), progress) as bar, ThreadPoolExecutor(jobs) as pool:
-        for sheet, printed in zip(chosen, pool.map(lambda k: answer(program, sheets[k]), chosen)):
-            if hashlib.sha256(printed).digest() != sums[sheet]:
+        for sheet, listing in zip(chosen, pool.map(lambda k: printed(program, sheets[k]), chosen)):
+            if hashlib.sha256(listing).digest() != sums[sheet]:
                 wrong.append(sheet)
             first, end = sheets.span(sheet)
             bar.step(end - first)

@@ -2,19 +2,15 @@
 import json
 import os
 import shutil
-from array import array
 from pathlib import Path
 
-from mapper.errors import Refused, Stop
-from mapper.lists.nodes import unanswered
+from mapper.errors import Stop
 from mapper.numbers import counted
 from mapper.progress import Bar
 from mapper.runs.kept_map import KEPT, LIST, kept, listed
 from mapper.runs.lost_digits import as_asked, named
-from mapper.runs.origin import AS_ENTERED, corner
-from mapper.runs.survey_file import NODES
-
-REFUSED = -1
+from mapper.runs.origin import AS_ENTERED
+from mapper.runs.trials import REFUSED, spread_over, tried
 
 
 def name(sheet, ending):
@@ -50,13 +46,13 @@ def write_sheets(made, folder):
 
 def origin_of(made):
     """Where the sheets' coordinates are counted from: as asked, else by one sheet of nodes spread over the map."""
-    to = corner(made.wells)
+    to = made.corner
     if made.options.origin == 'as-entered':
         return AS_ENTERED
     if made.options.origin == 'moved':
         made.say(as_asked(to))
         return to
-    spread = range(0, len(made.nodes), -(-len(made.nodes) // NODES))
+    spread = spread_over(made.nodes)
     entered = tried(made, AS_ENTERED, spread)
     moved = tried(made, to, spread) if entered != len(spread) and to != AS_ENTERED else None
     if max(entered, REFUSED if moved is None else moved) == REFUSED:
@@ -66,15 +62,3 @@ def origin_of(made):
     said += '' if moved is None else f', {max(moved, 0)} with the origin moved to {named(to)}'
     (made.tell if moved is None else made.say)(f'{said}. On the sheets: {"as entered" if which == AS_ENTERED else "moved"}.')
     return which
-
-
-def tried(made, origin, spread):
-    """How many of a few nodes pass; REFUSED where the run is refused by 19, which another origin may mend. Other refusals end all."""
-    nodes = unanswered(array('d', (made.nodes.x[i] for i in spread)), array('d', (made.nodes.y[i] for i in spread)))
-    outside = array('d', (made.outside[i] for i in spread)) if made.outside else made.outside
-    try:
-        return made.through(made.sheets(origin, nodes, outside), 'trial').passed
-    except Refused as refused:
-        if refused.number != 19:
-            raise made.refused(refused.number)
-        return REFUSED

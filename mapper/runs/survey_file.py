@@ -1,6 +1,8 @@
 """The survey file that the proved program reads: docs/REFERENCE.md, section 12."""
 import struct
 
+from mapper.runs.survey import SAME_SPOT
+
 CODES = {'constant': 1, 'linear': 2, 'quadratic': 3}
 EXTERNAL = 4
 MODELS = {'spherical': 1, 'exponential': 2, 'gaussian': 3, 'linear': 4}
@@ -8,6 +10,11 @@ COLUMNS = {'constant': ['1'], 'linear': ['1', 'x', 'y'], 'quadratic': ['1', 'x',
 VERSION = 1
 NODES = 100  # at most in a file that the program answers
 WELLS, DRIFT = 48, 12
+
+
+def can_say(survey):
+    """Whether a survey file says all of a survey: it has no place for a same-spot distance, and is read with the plain one."""
+    return survey.same_spot in (None, SAME_SPOT)
 
 
 def columns(trend, external):

@@ -113,7 +113,7 @@ class Library(Built):
         self.tool(RT % 'while [ ! -f target/staticlib/libnakwemol.a ]; do sleep 0.01; done')
         built.library(self.said.append)
         self.assertEqual(self.asked(), ['check wellmap low high', 'staticlib nakwemol'])
-        self.assertIn('The program and the proved semivariogram are not built yet: ', self.said[0])
+        self.assertIn('The program and the library of the proved calls are not built yet: ', self.said[0])
         self.assertIn(': `rt check` and `rt staticlib nakwemol` prove and build them now, which takes some ', self.said[0])
         self.assertTrue(built.library_there())
         self.assertEqual(built.program(self.said.append), f'{self.folder}/target/bin/wellmap')
@@ -132,7 +132,7 @@ class Library(Built):
         with mock.patch.dict(os.environ, {'NAKWEMOL_WELLMAP': sys.executable}):
             built.library(self.said.append)
         self.assertEqual(self.asked(), ['check low high', 'staticlib nakwemol'])
-        self.assertIn('The proved semivariogram is not built yet: `rt check` and `rt staticlib nakwemol` prove and build it now', self.said[0])
+        self.assertIn('The library of the proved calls is not built yet: `rt check` and `rt staticlib nakwemol` prove and build it now', self.said[0])
 
     def test_linked_alone(self):
         """The archive is there: no toolchain is needed, and nothing is said."""
@@ -151,7 +151,8 @@ class Library(Built):
         """Which is said before minutes of proofs, and not after."""
         self.tool(RT % '')
         with mock.patch.dict(os.environ, {'CC': 'no-such-compiler'}):
-            self.assertIn('give --nugget, --sill and --range yourself', self.stopped(built.library))
+            self.assertIn('There is no C compiler (cc) to link the library of the proved calls with. Or do without it.',
+                          self.stopped(lambda tell: built.library(tell, False, 'Or do without it.')))
         self.assertFalse((self.folder / 'asked').exists())
 
     def test_archive_that_fails_ends_the_rest(self):

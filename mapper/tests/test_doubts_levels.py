@@ -31,6 +31,7 @@ class Slopes(Folder):
     def test_of_none(self):
         self.assertIsNone(plane_slope(wells_of(lambda x, y: x, ((0, 0), (50, 0), (100, 0)))))
         self.assertIsNone(plane_slope(wells_of(lambda x, y: x, ((0, 0), (50, 9)))))
+        self.assertIsNone(plane_slope(wells_of(lambda x, y: x, ((7, 8), (7, 8), (7, 8)))))
         self.assertIsNone(plane_slope(wells_of(lambda x, y: x, ((0, 0), (1000, 0), (1000, 9), (0, 9)))))
 
     def test_limit(self):

@@ -58,8 +58,8 @@ class Table(unittest.TestCase):
     def test_comments_before_the_header(self):
         m = samples.grid_map(3, 3)
         m.doubts = [LIGHT]
-        self.assertEqual(self.lines(m)[:3], ['# The arithmetic held at 9 of 9 nodes.', '# Doubtful: Two columns could be the level.',
-                                             'node,x,y,level,variance,verdict,says,deviation,where'])
+        self.assertEqual(self.lines(m)[:4], ['# The arithmetic held at 9 of 9 nodes.', '# Doubtful: Two columns could be the level.',
+                                             '# Worked out by wellmap.', 'node,x,y,level,variance,verdict,says,deviation,where'])
 
     def test_deviation_and_where(self):
         """A node in the middle of four wells, one on their edge, one beside them; variances of 4, of 0 less rounding and of less than nothing."""
@@ -87,7 +87,7 @@ class ARun(Folder):
         self.assertEqual(out.splitlines()[0], '1 line was left out: line 7.')
         self.assertEqual(out.splitlines()[-2], 'Doubtful: Two columns could be the level.')
         self.assertTrue(out.splitlines()[-1].startswith('The arithmetic held at 9 of 9 nodes; 1 doubt about the list, above and on the page: '))
-        self.assertEqual(self.judgements(), ['The arithmetic held at 9 of 9 nodes.', 'Doubtful: Two columns could be the level.'])
+        self.assertEqual(self.judgements(), ['The arithmetic held at 9 of 9 nodes.', 'Doubtful: Two columns could be the level.', 'Worked out by wellmap.'])
         self.assertIn('1 line was left out: line 7.', (self.folder / 'wells.html').read_text())
 
     def test_a_grave_one(self):
@@ -105,7 +105,7 @@ class ARun(Folder):
         status, out, _ = self.run_with(GRAVE, words=('--anyway',))
         self.assertEqual(status, 0)
         self.assertIn('Doubtful: ' + GRAVE.sentence, out)
-        self.assertEqual(self.judgements()[1:], ['Doubtful: ' + GRAVE.sentence])
+        self.assertEqual(self.judgements()[1:-1], ['Doubtful: ' + GRAVE.sentence])
 
     def test_sheets_tell_their_doubts(self):
         told = self.made(self.file(FOUR + 'B,40,50,11.5\n'), *NUMBERS, '--grid', '3x3', '--sheets', self.folder / 'sheets')

@@ -8,6 +8,7 @@ from mapper.making import Made
 from mapper.options import options
 from mapper.records import LeftOut, Variogram, Well
 from mapper.runs.building import program
+from mapper.runs.by_program import ByProgram
 from mapper.runs.lost_digits import drawn_map
 from mapper.runs.survey import Survey
 from mapper.tests import samples
@@ -17,7 +18,7 @@ ONE = Variogram('spherical', 0.0, 1.0, 1.0, 'given')  # a sill of 1 from 1 m on
 
 
 def left(wells, trend='constant', external=None, variogram=ONE, regularization=0.0, origin=(0.0, 0.0)):
-    return Others(program(print), Survey(wells, trend, external, variogram, regularization, 1e-9), origin, 2).left_out(wells)
+    return Others(ByProgram(program(print)), Survey(wells, trend, external, variogram, regularization, 1e-9), origin, 2).left_out(wells)
 
 
 class ByTheProgram(Folder):
@@ -60,7 +61,7 @@ class ByTheProgram(Folder):
         self.assertEqual([each.level and round(each.level, 9) for each in found], [3, 2, None, None])
 
     def test_listing_that_is_none(self):
-        with mock.patch('mapper.doubts.leave_one_out.answer', lambda *_: b'nodes 1\n'), self.assertRaises(Stop) as stopped:
+        with mock.patch('mapper.runs.by_program.printed', lambda *_: b'nodes 1\n'), self.assertRaises(Stop) as stopped:
             left([Well('A', 0, 0, 2), Well('B', 2, 0, 6), Well('C', 0, 3, 10)])
         self.assertIn('printed no listing for the wells without A: it does not have 1 nodes. Remove it', str(stopped.exception))
 

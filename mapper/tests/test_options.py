@@ -39,7 +39,7 @@ class Options(Folder):
 
     def test_model_and_its_numbers(self):
         found = self.survey('--model', 'linear', '--nugget', '0.25', '--sill', '1.5', '--range', '333')
-        self.assertEqual(found.variogram, (4, 0.25, 1.5, 333))
+        self.assertEqual(found.variogram, (4, 0.25, 1.5, 333, 2.0 ** -52))
 
     @unittest.skipIf(sys.version_info < (3, 10), 'tools/reading asks for Python 3.10')
     def test_every_model(self):

@@ -12,9 +12,9 @@ from mapper.options import options
 from mapper.records import Doubt, LeftOut, Source
 from mapper.runs import reruns
 from mapper.runs.building import program
+from mapper.runs.by_program import printed
 from mapper.runs.collecting import collected
 from mapper.runs.kept_map import KeptMap, listed, read_listed
-from mapper.runs.running import answer
 from mapper.runs.sheet_folder import write_sheets
 from mapper.tests.support import FOUR, NUMBERS, SAMPLES, Folder, nakwemol
 
@@ -156,7 +156,7 @@ class Kept(Folder):
         made.source = Source('wells.csv', '0' * 64, 'f' * 64, '2026-11-17')
         folder = self.folder / 'sheets'
         write_sheets(made, folder)
-        (folder / '000001.listing').write_bytes(answer(program(print), (folder / '000001.survey').read_bytes()))
+        (folder / '000001.listing').write_bytes(printed(program(print), (folder / '000001.survey').read_bytes()))
         m = collected(folder, tell=lambda sentence: None)
         self.assertEqual((m.doubts, m.left_out, m.source), (made.doubts, made.left_out, made.source))
         self.assertEqual(m.variogram, made.survey.variogram)

@@ -67,16 +67,16 @@ class SheetFolder(Folder):
         self.assertFalse((self.folder / 'wells.html').exists())
 
     def test_origin_is_tried_on_one_sheet(self):
-        """The valley loses its digits as entered: 96 of its 768 nodes, every eighth, are asked."""
+        """The valley loses its digits as entered: 100 of its 768 nodes are asked."""
         wells = self.file((SAMPLES / 'valley.csv').read_bytes(), 'valley.csv')
         folder, said = self.sheets('--trend', 'quadratic', wells=wells)
-        self.assertIn('0 of 96 nodes spread over the map pass as entered, 96 with the origin moved to (4512300, 5403200). On the sheets: moved.', said)
+        self.assertIn('0 of 100 nodes spread over the map pass as entered, 100 with the origin moved to (4512300, 5403200). On the sheets: moved.', said)
         self.assertLess(max(nakwemol.read_survey((folder / '000001.survey').read_bytes()).coords), 1000)
         self.assertEqual(json.loads((folder / 'map.json').read_text())['origin'], [4512300, 5403200])
 
     def test_origin_as_entered_where_that_passes(self):
         _, said = self.sheets(*GRID, wells=self.file(FAR))
-        self.assertIn('75 of 75 nodes spread over the map pass as entered. On the sheets: as entered.', said)
+        self.assertIn('100 of 100 nodes spread over the map pass as entered. On the sheets: as entered.', said)
 
     def test_no_node_is_tried_where_the_origin_is_named(self):
         with mock.patch('mapper.making.run', side_effect=AssertionError):

@@ -7,8 +7,10 @@ from mapper.errors import Refused
 from mapper.lists.nodes import unanswered
 from mapper.records import Variogram, Well
 from mapper.runs.building import program
-from mapper.runs.listing import Damaged, parsed
-from mapper.runs.running import answer, fill, run, tally
+from mapper.runs.answers import Answer, Damaged
+from mapper.runs.by_program import printed
+from mapper.runs.listing import parsed
+from mapper.runs.running import fill, run, tally
 from mapper.runs.sheets import Sheets
 from mapper.runs.survey import Survey
 from mapper.runs.survey_file import MODELS
@@ -24,7 +26,7 @@ def read(name):
     more = [{column: value} if column else {} for value in (s.external or s.values)]
     wells = [Well(str(i), *s.coords[2 * i:2 * i + 2], level, more[i]) for i, level in enumerate(s.values)]
     model = {code: word for word, code in MODELS.items()}[s.variogram.model]
-    survey = Survey(wells, TRENDS[s.bases[0]], column, Variogram(model, *s.variogram[1:]), s.regularization, s.tolerance)
+    survey = Survey(wells, TRENDS[s.bases[0]], column, Variogram(model, *s.variogram[1:4]), s.regularization, s.tolerance)
     return s, survey, unanswered(array('d', s.nodes[::2]), array('d', s.nodes[1::2])), array('d', s.node_external)
 
 
@@ -66,15 +68,13 @@ class Bounded(Folder):
         nodes = unanswered(*(array('d', bytes(8 * 30000)) for _ in 'xy'))
         made, taken, most = [], [], []
 
-        class Counted(Sheets):
-            def __getitem__(self, sheet):
+        class Counted:
+            """A way that counts the sheets which are under way."""
+            def answer(self, sheets, sheet):
                 made.append(sheet)
                 most.append(len(made) - len(taken))
-                return b''
-        nodes_of = b''.join(b'%d 4010000000000000 3ff8000000000000 0\n' % (i + 1) for i in range(100))
-        listing = b'nodes 100\n' + nodes_of + 3 * b'coef 3fe0000000000000\n' + 3 * b'trend 3fe0000000000000\n'
-        with mock.patch('mapper.runs.running.answer', lambda program, survey: listing):
-            found = run('none', Counted(read('plain')[1], nodes, array('d'), (0.0, 0.0)), 2, taken.append)
+                return Answer((4.0,) * 100, (1.5,) * 100, bytes(100), (0.5,) * 3, (0.5,) * 3)
+        found = run(Counted(), Sheets(read('plain')[1], nodes, array('d'), (0.0, 0.0)), 2, taken.append)
         self.assertEqual((found.verdicts, len(made), sum(taken)), ({0: 30000}, 300, 30000))
         self.assertLessEqual(max(most), 8)
         self.assertEqual((set(nodes.level), set(nodes.variance), found.estimate), ({4.0}, {1.5}, (0.5, 0.5, 0.5)))
@@ -86,12 +86,12 @@ B = ONE + b'coef 3fe0000000000000\ntrend 4010000000000000\n'  # the scope's case
 
 class Listings(Folder):
     def test_what_the_reference_shows(self):
-        self.assertEqual(parsed(B, 1), ((4.0,), (1.5,), b'\0', (4.0,)))
+        self.assertEqual(parsed(B, 1), ((4.0,), (1.5,), b'\0', (0.5,), (4.0,), B))
 
     def test_a_sample(self):
-        levels, variances, verdicts, trend = parsed((SAMPLES / 'plain.listing').read_bytes(), 25)
+        levels, variances, verdicts, multipliers, trend, _ = parsed((SAMPLES / 'plain.listing').read_bytes(), 25)
         self.assertEqual((levels[1], variances[1]), (bits('4047ad1b9da6fb2f'), bits('3fd1c3668bfd78d9')))
-        self.assertEqual((verdicts, len(trend)), (bytes(25), 3))
+        self.assertEqual((verdicts, len(multipliers), len(trend)), (bytes(25), 3, 3))
         self.assertEqual(set(parsed((SAMPLES / 'seven_figures.listing').read_bytes(), 25).verdicts), {1})
 
     def test_trend_in_the_order_of_the_columns(self):
@@ -103,7 +103,7 @@ class Listings(Folder):
     def test_program_prints_what_is_stored(self):
         for name in ('plain', 'valley', 'seven_figures', 'singular'):
             sheet = Sheets(*read(name)[1:], (0.0, 0.0))[0]
-            self.assertEqual(answer(program(print), sheet), (SAMPLES / f'{name}.listing').read_bytes(), name)
+            self.assertEqual(printed(program(print), sheet), (SAMPLES / f'{name}.listing').read_bytes(), name)
 
     def test_refusal(self):
         with self.assertRaises(Refused) as refused:
@@ -149,7 +149,7 @@ class OneTrend(Folder):
         """The run of sheets with these patterns as their trend."""
         sheets = self.sheets()
         for sheet, trend in enumerate(trends):
-            fill(sheets, sheet, B.replace(b'trend 4010000000000000\n', trend))
+            fill(sheets, sheet, parsed(B.replace(b'trend 4010000000000000\n', trend), 1))
         return tally(sheets)
 
     def test_the_same(self):
@@ -169,5 +169,5 @@ class OneTrend(Folder):
     def test_of_another_survey(self):
         linear = ONE + 3 * b'coef 3fe0000000000000\n' + 3 * b'trend 3fe0000000000000\n'
         with self.assertRaises(Damaged) as damaged:
-            fill(self.sheets(), 0, linear)
+            fill(self.sheets(), 0, parsed(linear, 1))
         self.assertEqual(str(damaged.exception), 'its trend has 3 columns, and that of the survey 1')

@@ -15,7 +15,7 @@ BYTES = [POINTER(c_uint8), c_size_t]
 COUNTS = [POINTER(c_size_t), c_size_t]
 WELLS = [*NUMBERS, *NUMBERS, *BYTES, *NUMBERS]
 NODES = [*NUMBERS, *NUMBERS]
-VARIOGRAM = [c_uint8, c_double, c_double, c_double]
+VARIOGRAM = [c_uint8, c_double, c_double, c_double, c_double]  # model, nugget, sill, range, same-spot distance
 SURVEY = [*WELLS, *VARIOGRAM, c_double, *NODES, c_double]
 
 PARAMETERS = {
@@ -36,10 +36,17 @@ def load():
     for name, parameters in PARAMETERS.items():
         getattr(library, name).argtypes = parameters
         getattr(library, name).restype = c_uint8
+    if not takes_same_spot(library):
+        raise OSError(f"{path} is older than the same-spot distance, and would take it for r: make it anew by `rt staticlib nakwemol` and "
+                      "`bindings/python/link`")
     return library
 
 
-library = load()
+def takes_same_spot(library):
+    """Whether a shared object takes the same-spot distance after the range: one of 0 is refused by 22 then. One of before takes that 0 for r, and goes on to
+    the work area, which is lent too short: 17."""
+    wells, nodes, areas = (numbers([1]), numbers([0, 0]), codes([1]), area(0)), (area(0), area(0)), [area(0) if at != 3 else codes([]) for at in range(7)]
+    return library.nakwemol_fit(*handed(*wells, 1, 0.0, 1.0, 1.0, 0.0, 0.0, *nodes, 0.0, *areas)) == 22
 
 
 def numbers(xs):
@@ -65,9 +72,14 @@ def area(length):
     return (c_double * length)()
 
 
+def handed(*arguments):
+    """What a function takes: an array as a pointer and its length, all else as it is."""
+    return [part for argument in arguments for part in ((argument, len(argument)) if isinstance(argument, ctypes.Array) else (argument,))]
+
+
 def call(name, *arguments):
-    """Calls a function: an array goes as a pointer and its length, all else as it is."""
-    handed = []
-    for argument in arguments:
-        handed += [argument, len(argument)] if isinstance(argument, ctypes.Array) else [argument]
-    return getattr(library, name)(*handed)
+    """Calls a function."""
+    return getattr(library, name)(*handed(*arguments))
+
+
+library = load()

@@ -30,6 +30,7 @@ TOLD = {
     17: (ADDED, "Lend a longer one; 7,200 numbers serve every fit."),
     18: (ADDED, "Lend areas of the lengths in sections 1, 10, 11 and 12."),
     19: (MATRIX, "Look for two wells at one place (leave one out, or raise r) and for columns that say the same at every well (leave one out)."),
+    22: (ADDED, "Give the same-spot distance in metres, 2^-52 or more; to write a survey file leave it at 2^-52."),
     100: (ADDED, "Name a model by 1 to 4, and a kriging type by 1 or 2."),
 }
 

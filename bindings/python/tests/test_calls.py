@@ -78,7 +78,7 @@ class Calls(unittest.TestCase):
         def fit(model, lent):
             work, predicted, variance, weights, multipliers, trend = (calls.numbers([-1.0] * length) for length in (18, 2, 2, 2, 2, lent))
             areas = work, predicted, variance, calls.codes([99] * 2), weights, multipliers, trend
-            number = calls.call("nakwemol_fit", *wells, model, 0.0, 1.0, 1.0, 0.0, *nodes, 0.0, *areas)
+            number = calls.call("nakwemol_fit", *wells, model, 0.0, 1.0, 1.0, 2.0 ** -52, 0.0, *nodes, 0.0, *areas)
             return number, predicted[0], list(multipliers), list(trend)
 
         self.assertEqual(fit(1, 2), (0, 4.0, [0.5, -1.0], [4.0, -1.0]))

@@ -16,7 +16,7 @@ class Record(NamedTuple):
     node_external: list
     codes: list
     model: int
-    options: list
+    options: list  # nugget, sill, range, same-spot distance, r and t
     lent: list
     number: int
     written: list
@@ -25,7 +25,7 @@ class Record(NamedTuple):
 
 def next_record(words):
     *lengths, codes = words.take(6)
-    model, options, lent = words.word(), words.numbers(5), words.take(7)
+    model, options, lent = words.word(), words.numbers(6), words.take(7)
     lists = [words.numbers(length) for length in lengths]
     codes, number, written, told = words.take(codes), words.word(), words.take(7), words.word()
     areas = [words.take(length) for length in (told, *written[1:])]
@@ -42,9 +42,9 @@ def exported_agrees(r):
         calls.codes(r.codes),
         calls.numbers(r.external),
         r.model,
-        *r.options[:4],
+        *r.options[:5],
         *map(calls.numbers, (r.nodes, r.node_external)),
-        r.options[4],
+        r.options[5],
         work,
         predicted,
         variance,

@@ -15,7 +15,7 @@ def ended(call, *arguments):
 
 
 def interpolation_agrees(words):
-    lengths, (kind, d, model), variogram, lent = words.take(3), words.take(3), words.numbers(3), words.take(3)
+    lengths, (kind, d, model), variogram, lent = words.take(3), words.take(3), words.numbers(4), words.take(3)
     values, points, targets = map(words.numbers, lengths)
     number, written, told = words.word(), words.take(3), words.word()
     told = [words.take(count) for count in (told, *written[1:])]
