@@ -1,13 +1,13 @@
 -- The cases of survey files, each computed by the definitions.
 use mathlib.Core.Path.{refl}
-use lib.Ieee.{ofBits}
+use lib.Ieee.{eq, ofBits}
 use Rattle.survey_file_theory.specs.Refusals.{readerRefusal, writerRefusal}
 use Rattle.survey_file_theory.specs.Reader.{reader}
 use Rattle.survey_file_theory.specs.Writer.{writer}
 use Rattle.cases.specs.FileCases.{FileCases}
 
 pub file-cases : FileCases
-unfolding reader writer readerRefusal writerRefusal ofBits
+unfolding reader writer readerRefusal writerRefusal eq ofBits
 file-cases = record {
   written = refl;
   read = refl;
