@@ -63,10 +63,11 @@ def standing_out_doubts(wells, left_out, others):
     if usual_error is None:
         return []
     found = [(well, others.say_of(well, rest)) for well in suspects]
-    found = [(off_by(well, each), well) for well, each in found if stands_out(well, each, len(wells), usual_error)]
+    found = [(off_by(well, each), well, each) for well, each in found if stands_out(well, each, len(wells), usual_error)]
     if not found:
         return []
-    well = max(found, key=lambda each: each[0])[1]
-    said = left_out[wells.index(well)].level
+    _, well, told = max(found, key=lambda each: each[0])
+    by_all = left_out[wells.index(well)].level
+    said = told.level if by_all is None else by_all  # with the other suspects among them the others may have settled none
     return [Doubt(f'Look at {called(well)} first: its neighbours say {level(said)} m, the list says {listed(well.level)} m. '
                   'Read or measure it again; correct the list, or take the well out.')]

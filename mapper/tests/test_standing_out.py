@@ -138,6 +138,16 @@ class Rule(unittest.TestCase):
         self.assertEqual(standing_out_doubts(self.WELLS, [LeftOut(None)] * 25, Fake({name: LeftOut(None) for name in said})), [])
         self.assertEqual(standing_out_doubts(self.WELLS, [], Fake(said)), [])
 
+    def test_one_that_all_others_say_nothing_of(self):
+        """Without the first suspect they do say something of it."""
+        class Later(Fake):
+            def left_out(self, wells):
+                return [LeftOut(None) if len(wells) == 25 and well.name == 'N' else self.said[well.name] for well in wells]
+        said = {well.name: LeftOut(10.01, 0.08) for well in self.WELLS}
+        said.update(N=LeftOut(14.0, 0.08), C=LeftOut(11.0, 0.08))
+        (doubt,) = standing_out_doubts(self.WELLS, Later(said).left_out(self.WELLS), Later(said))
+        self.assertIn('Look at N first: its neighbours say 14 m, the list says 10 m.', doubt.sentence)
+
     def test_limits(self):
         """Of 16 wells an error is large beyond 2.8 deviations; of 4 beyond 1.4; of 48 beyond 3."""
         off = lambda deviations: LeftOut(10 - deviations, 0.98)
