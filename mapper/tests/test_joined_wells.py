@@ -7,7 +7,7 @@ from mapper.joined_wells import distance, join_note, joined_wells
 from mapper.page.well_table import joined_marks
 from mapper.records import Well
 from mapper.runs.origin import AS_ENTERED, corner
-from mapper.tests.support import SAMPLES, Folder, nakwemol
+from mapper.tests.support import Folder, nakwemol
 
 # Two readings of one well, 5 mm apart, and three wells around them.
 FIVE = 'name,x,y,level\nA,0,0,10\nA2,0.005,0,10.2\nB,100,20,11\nC,40,90,9\nD,200,150,12\n'
@@ -138,7 +138,7 @@ class OnThePage(Folder):
         wells, _ = joined_wells(at((0, 0), (9, 9), (9, 9.001), (0, 0), (5, 5)), 0.01)
         self.assertEqual(joined_marks(type('M', (), {'wells': wells})), ['', '', '= #2', '= #1', ''])
 
-    def test_the_table_of_nodes_is_another_list_s_no_more(self):
+    def test_a_node_within_the_distance_of_a_well(self):
         """A node 3 mm beside a well is at its spot: with the distance it has the well's level and no deviation, and without it some."""
         wells = self.file('name,x,y,level\nA,0,0,10\nB,100,20,11\nC,40,90,9\nD,200,150,12\n')
         nodes = self.file('x,y\n100.003,20\n', 'nodes.csv')

@@ -9,7 +9,7 @@ from mapper.options import options
 from mapper.records import Variogram, Well
 from mapper.runs.lost_digits import drawn_map
 from mapper.runs.survey import Survey
-from mapper.tests.support import FOUR, NUMBERS, SAMPLES, Folder
+from mapper.tests.support import FOUR, SAMPLES, Folder
 
 YARD = SAMPLES / 'yard.csv'
 TWICE = FOUR + 'A,0.004,0.002,10.1\n'

@@ -1,7 +1,6 @@
 """The survey's bytes, held to the proved reader and to samples/, whose bytes and listings another reading made."""
 import math
 from array import array
-from unittest import mock
 
 from mapper.errors import Refused
 from mapper.lists.nodes import unanswered
