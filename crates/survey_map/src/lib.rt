@@ -79,7 +79,8 @@ fn print_answer(
     )
 }
 
-// The fit of a survey, and its listing or its refusal as text. The fit has areas of its own, as long as it can need, so that 17 and 18 never show.
+// The fit of a survey, and its listing or its refusal as text. The options carry the same-spot distance, and 22 shows where it is wrong. The fit has areas
+// of its own, as long as it can need, so that 17 and 18 never show.
 pub fn print_fit(
     values: &[f64],
     coords: &[f64],
@@ -178,7 +179,7 @@ fn print_read(
     )
 }
 
-// A survey file's text: the listing of its fit, or why there is none.
+// A survey file's text: the listing of its fit, or why there is none. A file is read with a same-spot distance of 2^-52, so that 22 never shows.
 pub fn print_survey(bytes: &[u8], text: &mut [u8]) -> Printed
     ensures equation { λ r. ⌜ outcomeOf r (now (text .exit)) ≡ printed (fileText (now (bytes .entry))) (now (text .entry)) ⌝ }
     ensures longest { λ _. ⌜ length (fileText (now (bytes .entry))) ≤ longest ⌝ }
