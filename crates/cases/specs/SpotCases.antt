@@ -16,7 +16,7 @@ use Rattle.kriging_theory.specs.Refusals as Fit
 use Rattle.interpolator_theory.specs.declared.KrigingType.the-variants.{Ordinary}
 use Rattle.interpolator_theory.specs.Call.{Query}
 use Rattle.interpolator_theory.specs.Refusals as Interpolation
-use Rattle.cases.specs.FitCases.{f, fs, answerOf, Answers}
+use Rattle.cases.specs.FitCases.{f, fs, areasOf, answerOf, Answers}
 
 -- 0.5, the f64 just below it, and 0.25
 abbrev pub half : ℕ
@@ -52,9 +52,10 @@ yard x v r = record {
   tolerance = zeroFloat;
 }
 
--- 22 of a fit that has nothing else against it, by the same-spot distance alone
+-- what refuses a fit that has nothing else against it, by the same-spot distance alone
 abbrev pub spotNumber : ℕ → ℕ
-spotNumber spot = answerOf (yard half (linear spot) 0) .number
+unfolding Fit.refusal
+spotNumber spot = let s = yard half (linear spot) 0 in Fit.refusal base s (areasOf s)
 
 -- what refuses a fit of a model with sill, range and same-spot distance, t, and an empty work area
 abbrev pub refusedBy : VariogramModel → ℕ → ℕ → ℕ → ℕ → ℕ
@@ -114,7 +115,7 @@ pub record SpotCases : Type 0 where
   pub not-told-apart : answerOf (yard quarter (linear half) halfEpsilonBits) .number ≡ 19
   -- "22 same-spot distance not finite or below 2^-52": 2^-52 and the greatest f64 are neither
   pub least : spotNumber epsilonBits ≡ 0
-  pub greatest : spotNumber 0x7fef_ffff_ffff_ffff ≡ 19
+  pub greatest : spotNumber 0x7fef_ffff_ffff_ffff ≡ 0
   pub step-below : spotNumber 0x3caf_ffff_ffff_ffff ≡ 22
   pub nothing : spotNumber 0 ≡ 22
   pub minus-nothing : spotNumber 0x8000_0000_0000_0000 ≡ 22
