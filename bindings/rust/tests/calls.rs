@@ -100,9 +100,8 @@ fn same_spot_distance() {
     let linear = |spot| fit(VariogramModel::Linear, 2.0, spot);
     assert_eq!(linear(1.0).unwrap().variance, [0.5]);
     assert_eq!(linear(1.0 + f64::EPSILON).unwrap().variance, [0.0]);
-    for spot in [2f64.powi(-52), f64::MAX] {
-        assert_eq!(number(linear(spot)), 0);
-    }
+    // Both are taken; the greatest has the two wells at one spot, and nothing tells them apart.
+    assert_eq!((number(linear(2f64.powi(-52))), number(linear(f64::MAX))), (0, 19));
     for spot in [f64::from_bits(2f64.powi(-52).to_bits() - 1), 0.0, -0.0, -1.0, f64::INFINITY, f64::NAN] {
         assert_eq!(number(linear(spot)), 22);
         let variogram = Variogram::new(VariogramModel::Linear, 0.0, 1.0, 2.0).with_same_spot(spot);
