@@ -7,7 +7,7 @@ use mathlib.Core.Option.{some}
 use lib.ListN.{replicate, drop}
 use lib.Ieee.{nan}
 use Rattle.variogram.specs.declared.VariogramModel.the-variants.{Spherical, Exponential, Gaussian, Linear}
-use Rattle.survey.specs.Limits.{base}
+use Rattle.survey.specs.Limits.{library}
 use Rattle.semivariogram_theory.specs.Call.{Samples}
 use Rattle.semivariogram_theory.specs.Semivariogram.{calculated}
 use Rattle.survey_file_theory.specs.File.{baseVersion, writerFile}
@@ -34,7 +34,7 @@ fourSamples = record {
 -- four bins are kept, at 1, 5, 7 and 9; the last place is as it was
 abbrev pub FourBins : Type 0
 FourBins =
-    calculated base fourSamples (record { distances = replicate 5 nan; semivariances = replicate 5 nan; counts = replicate 5 7 })
+    calculated library fourSamples (record { distances = replicate 5 nan; semivariances = replicate 5 nan; counts = replicate 5 7 })
     ≡ record {
       number = 0;
       kept = 4;

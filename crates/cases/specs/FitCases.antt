@@ -10,7 +10,7 @@ use Rattle.ieee.specs.Floats.{zeroFloat}
 use Rattle.variogram.specs.Model.{variogram}
 use Rattle.variogram.specs.declared.VariogramModel.the-variants.{Spherical}
 use Rattle.error.specs.Outcome.{Outcome, outcome}
-use Rattle.survey.specs.Limits.{base}
+use Rattle.survey.specs.Limits.{library}
 use Rattle.survey.specs.Survey.{Survey, wells, nodeCount, columns, size}
 use Rattle.kriging_theory.specs.Areas.{Areas}
 use Rattle.kriging_theory.specs.Fit.{fitted}
@@ -35,7 +35,7 @@ areasOf s = record {
 }
 
 abbrev pub answerOf : Survey → Outcome Areas
-answerOf s = fitted base s (areasOf s)
+answerOf s = fitted library s (areasOf s)
 
 -- what is looked at: the number, figures, variances, verdicts, weights, multipliers and the trend
 abbrev pub answer : ℕ → List Float → List Float → List ℕ → List Float → List Float → List Float → Outcome Areas

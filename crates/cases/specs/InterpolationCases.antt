@@ -8,7 +8,7 @@ use lib.Ieee.{Float, nan}
 use Rattle.variogram.specs.Model.{variogram}
 use Rattle.variogram.specs.declared.VariogramModel.the-variants.{Spherical}
 use Rattle.error.specs.Outcome.{Outcome, outcome}
-use Rattle.survey.specs.Limits.{base}
+use Rattle.survey.specs.Limits.{library}
 use Rattle.interpolator_theory.specs.declared.KrigingType.{KrigingType}
 use Rattle.interpolator_theory.specs.declared.KrigingType.the-variants.{Ordinary, Universal}
 use Rattle.interpolator_theory.specs.Call.{Query, Areas, nodeCount, size}
@@ -28,7 +28,7 @@ queryOf kind d values points targets = record {
 
 -- in areas of NaNs of just the lengths that the query asks for
 abbrev pub answerOf : Query → Outcome Areas
-answerOf q = interpolated base q (record {
+answerOf q = interpolated library q (record {
   work = replicate (2 * size q * size q) nan;
   figures = replicate (nodeCount q) nan;
   variances = replicate (nodeCount q) nan;

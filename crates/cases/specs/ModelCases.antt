@@ -10,7 +10,7 @@ use Rattle.variogram.specs.Model.{variogram}
 use Rattle.variogram.specs.declared.VariogramModel.{VariogramModel}
 use Rattle.variogram.specs.declared.VariogramModel.the-variants.{Exponential, Gaussian}
 use Rattle.error.specs.Outcome.{outcome}
-use Rattle.survey.specs.Limits.{base}
+use Rattle.survey.specs.Limits.{library}
 use Rattle.survey.specs.Survey.{Survey}
 use Rattle.interpolator_theory.specs.declared.KrigingType.the-variants.{Ordinary}
 use Rattle.interpolator_theory.specs.Call.{Query}
@@ -41,7 +41,7 @@ RefusedBy12 s = answerOf s ≡ outcome 12 (areasOf s)
 
 -- the same well and node for the interpolator: what refuses it before it eliminates
 abbrev pub queryRefusal : VariogramModel → ℕ → ℕ
-queryRefusal model range = refusal base q (record { work = replicate 8 nan; figures = nan ∷ []; variances = nan ∷ [] })
+queryRefusal model range = refusal library q (record { work = replicate 8 nan; figures = nan ∷ []; variances = nan ∷ [] })
   where
     q : Query
     q = record {

@@ -10,7 +10,7 @@ use Rattle.variogram.specs.Model.{variogram, withSameSpot, semivariance}
 use Rattle.variogram.specs.declared.Variogram.{Variogram}
 use Rattle.variogram.specs.declared.VariogramModel.{VariogramModel}
 use Rattle.variogram.specs.declared.VariogramModel.the-variants.{Exponential, Linear}
-use Rattle.survey.specs.Limits.{base}
+use Rattle.survey.specs.Limits.{library}
 use Rattle.survey.specs.Survey.{Survey}
 use Rattle.kriging_theory.specs.Refusals as Fit
 use Rattle.interpolator_theory.specs.declared.KrigingType.the-variants.{Ordinary}
@@ -55,7 +55,7 @@ yard x v r = record {
 -- what refuses a fit that has nothing else against it, by the same-spot distance alone
 abbrev pub spotNumber : ℕ → ℕ
 unfolding Fit.refusal
-spotNumber spot = let s = yard half (linear spot) 0 in Fit.refusal base s (areasOf s)
+spotNumber spot = let s = yard half (linear spot) 0 in Fit.refusal library s (areasOf s)
 
 -- what refuses a fit of a model with sill, range and same-spot distance, t, and an empty work area
 abbrev pub refusedBy : VariogramModel → ℕ → ℕ → ℕ → ℕ → ℕ
@@ -72,7 +72,7 @@ refusedBy model sill range spot t =
       options = yard half v 0 .options;
       tolerance = f t;
     } in
-    Fit.refusal base s (record {
+    Fit.refusal library s (record {
       work = [];
       predicted = [];
       variance = [];
@@ -85,7 +85,7 @@ refusedBy model sill range spot t =
 -- what refuses an interpolation over d axes with a same-spot distance
 abbrev pub querySpot : ℕ → ℕ → ℕ
 unfolding Interpolation.refusal
-querySpot d spot = Interpolation.refusal base q (record { work = replicate 18 nan; figures = nan ∷ []; variances = nan ∷ [] })
+querySpot d spot = Interpolation.refusal library q (record { work = replicate 18 nan; figures = nan ∷ []; variances = nan ∷ [] })
   where
     q : Query
     q = record {

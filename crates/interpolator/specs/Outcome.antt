@@ -5,7 +5,7 @@ use lib.Ieee.{Float}
 use Rattle.error.specs.Numbers.{numberOf}
 use Rattle.error.specs.Outcome.{Outcome, outcome}
 use Rattle.variogram.specs.declared.Variogram.{Variogram}
-use Rattle.survey.specs.Limits.{base}
+use Rattle.survey.specs.Limits.{library}
 use Rattle.interpolator_theory.specs.declared.KrigingType.{KrigingType}
 use Rattle.interpolator_theory.specs.declared.KrigingType.the-variants.{Universal}
 use Rattle.interpolator_theory.specs.Call.{Query, Areas, added}
@@ -31,9 +31,9 @@ queryOf interpolator values points targets d = record {
 abbrev pub known : KrigingInterpolator → List Float → List Float → ℕ → Query
 known interpolator values points d = queryOf interpolator values points [] d
 
--- the size of the greatest system: "n > 48" is refused, and "Universal 1, x, y, xy (s = n + 4)"
+-- the size of the greatest system: "n > 96" is refused, and "Universal 1, x, y, xy (s = n + 4)"
 abbrev pub mostSize : ℕ
-mostSize = base .wells + added Universal
+mostSize = library .wells + added Universal
 
 -- The number of each answer: "a refusal carries only its number".
 abbrev pub outcomeOf : Interpolation → Areas → Outcome Areas

@@ -11,7 +11,7 @@ use interpolator_theory::KrigingType;
 use survey::Limits;
 use variogram::Variogram;
 ghost use mathlib.Core.Path.{_≡_};
-ghost use Rattle.survey.specs.Limits.{base};
+ghost use Rattle.survey.specs.Limits.{library};
 ghost use Rattle.interpolator_theory.specs.Call.{areasOf};
 ghost use Rattle.interpolator.specs.Outcome.{interpolator, queryOf, outcomeOf};
 ghost use Rattle.interpolator_theory.specs.Interpolation.{interpolated};
@@ -54,14 +54,14 @@ impl KrigingInterpolator {
         variances: &mut [f64],
     ) -> Interpolation
         ensures equation { λ r. ⌜ outcomeOf r (areasOf (now (work .exit)) (now (figures .exit)) (now (variances .exit)))
-            ≡ interpolated base (queryOf self (now (values .entry)) (now (points .entry)) (now (targets .entry)) d)
+            ≡ interpolated library (queryOf self (now (values .entry)) (now (points .entry)) (now (targets .entry)) d)
             (areasOf (now (work .entry)) (now (figures .entry)) (now (variances .entry))) ⌝ }
-        ensures promise { λ r. ⌜ Promise base (queryOf self (now (values .entry)) (now (points .entry)) (now (targets .entry)) d)
+        ensures promise { λ r. ⌜ Promise library (queryOf self (now (values .entry)) (now (points .entry)) (now (targets .entry)) d)
             (areasOf (now (work .entry)) (now (figures .entry)) (now (variances .entry)))
             (outcomeOf r (areasOf (now (work .exit)) (now (figures .exit)) (now (variances .exit)))) ⌝ }
     {
         let judgement = refusals::interpolation_refusal(
-            Limits::base(),
+            Limits::library(),
             self,
             values,
             points,

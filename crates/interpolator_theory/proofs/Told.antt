@@ -12,7 +12,7 @@ use Rattle.error.proofs.Short.{short-told}
 use Rattle.error.proofs.Rules.{joined}
 use Rattle.elimination.proofs.Call.{work-told}
 use Rattle.survey.specs.declared.Limits.{Limits}
-use Rattle.survey.specs.Limits.{base}
+use Rattle.survey.specs.Limits.{library}
 use Rattle.survey.proofs.Told.{variogram-told, variogram-rules-told}
 use Rattle.interpolator_theory.specs.declared.KrigingType.{KrigingType}
 use Rattle.interpolator_theory.specs.declared.KrigingType.the-variants.{Ordinary, Universal}
@@ -49,6 +49,6 @@ all-told limits q a =
 pub order : (limits : Limits) (q : Query) (a : Areas) → numbersOf (rules limits q a) ≡ 13 ∷ 1 ∷ 2 ∷ 9 ∷ 11 ∷ 22 ∷ 12 ∷ 17 ∷ 18 ∷ []
 order limits q a = refl
 
--- "9 n > 48 .. or m > 100": by the limits of the base
-pub base-limits : (q : Query) → TooMany base q ↔ ((48 < wells q) ⊎ (100 < nodeCount q))
-base-limits q = (λ h. h, λ h. h)
+-- "9 n > 48 .. or m > 100", with "n > 96 in place of n > 48 in the library calls"
+pub library-limits : (q : Query) → TooMany library q ↔ ((96 < wells q) ⊎ (100 < nodeCount q))
+library-limits q = (λ h. h, λ h. h)

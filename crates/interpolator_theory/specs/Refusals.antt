@@ -32,7 +32,7 @@ wrongPoints q = differ (length (q .points)) (wells q * q .dimension)
 abbrev pub wrongTargets : Query → Bool
 wrongTargets q = differ (length (q .targets) % q .dimension) 0
 
--- 9: "n > 48 .. or m > 100", or above what the limits say
+-- 9: "n > 48 .. or m > 100", with "n > 96 in place of n > 48": what the limits say
 abbrev pub tooMany : Limits → Query → Bool
 tooMany limits q = ltb (limits .wells) (wells q) || ltb (limits .nodes) (nodeCount q)
 

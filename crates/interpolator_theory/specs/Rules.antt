@@ -26,7 +26,7 @@ WrongPoints q = length (q .points) ≢ wells q * q .dimension
 abbrev pub WrongTargets : Query → Type 0
 WrongTargets q = length (q .targets) % q .dimension ≢ 0
 
--- 9: "n > 48 .. or m > 100", or above what the limits say
+-- 9: "n > 48 .. or m > 100", with "n > 96 in place of n > 48": what the limits say
 abbrev pub TooMany : Limits → Query → Type 0
 TooMany limits q = (limits .wells < wells q) ⊎ (limits .nodes < nodeCount q)
 

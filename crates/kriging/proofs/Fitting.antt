@@ -21,7 +21,7 @@ use Rattle.elimination.proofs.Laid.{same-laid}
 use Rattle.solution.specs.Slopes.{estimated}
 use Rattle.system_theory.specs.Slopes.{slope}
 use Rattle.solution.proofs.Room.{estimated-is}
-use Rattle.survey.specs.Limits.{base}
+use Rattle.survey.specs.Limits.{library}
 use Rattle.survey.specs.Survey.{Survey, wells, columns, size}
 use Rattle.kriging_theory.specs.Areas.{Areas, areasOf}
 use Rattle.kriging_theory.specs.Drift.{DriftIn, drift}
@@ -78,12 +78,12 @@ module _ (s : Survey) where
 
 module _ (s : Survey) (a : Areas) where
   -- turned away
-  pub refused-there : (r : Refusal) → numberOf r ≡ refusal base s a → outcome (numberOf r) a ≡ fitted base s a
+  pub refused-there : (r : Refusal) → numberOf r ≡ refusal library s a → outcome (numberOf r) a ≡ fitted library s a
   unfolding fitted
-  refused-there r e = Call.refused-there (fitCall base s a) r e
+  refused-there r e = Call.refused-there (fitCall library s a) r e
 
   -- taken, and eliminated
-  pub taken-there : (r : Elimination) (xs : List Float) → refusal base s a ≡ 0 → outcomeOf r xs ≡ eliminated true (size s) (assembled s (a .work))
-      → afterElimination (fitCall base s a) r xs ≡ fitted base s a
+  pub taken-there : (r : Elimination) (xs : List Float) → refusal library s a ≡ 0 → outcomeOf r xs ≡ eliminated true (size s) (assembled s (a .work))
+      → afterElimination (fitCall library s a) r xs ≡ fitted library s a
   unfolding fitted
-  taken-there r xs e h = Call.eliminated-there (fitCall base s a) r xs e h
+  taken-there r xs e h = Call.eliminated-there (fitCall library s a) r xs e h

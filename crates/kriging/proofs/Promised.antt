@@ -7,7 +7,7 @@ use lib.Dec.{lit≤}
 use Rattle.error.specs.Rules.{Ruled, NoneApplies}
 use Rattle.error.specs.Outcome.{Outcome}
 use Rattle.elimination.specs.Elimination.{stepped, StopsAt, Through}
-use Rattle.survey.specs.Limits.{base}
+use Rattle.survey.specs.Limits.{library}
 use Rattle.survey.specs.Survey.{Survey, size}
 use Rattle.kriging_theory.specs.Areas.{Areas, withWork}
 use Rattle.kriging_theory.specs.Assembly.{assembled}
@@ -23,17 +23,17 @@ module _ (s : Survey) (a : Areas) where
   -- equation, ruled, stopped, accepted, kept, kriged, bounded
   abbrev Parts : Outcome Areas → Type 0
   Parts e =
-      (e ≡ fitted base s a)
-      × (((k : ℕ) → k ≢ 0 → k ≢ 19 → (e .number ≡ k) ↔ Ruled (rules base s a) k) × (e .number ≢ 0 → e .number ≢ 19 → e .areas ≡ a))
-      × (((e .number ≡ 19) ↔ (NoneApplies (rules base s a) × ((i : ℕ) × StopsAt true (size s) i (assembled s (a .work)))))
+      (e ≡ fitted library s a)
+      × (((k : ℕ) → k ≢ 0 → k ≢ 19 → (e .number ≡ k) ↔ Ruled (rules library s a) k) × (e .number ≢ 0 → e .number ≢ 19 → e .areas ≡ a))
+      × (((e .number ≡ 19) ↔ (NoneApplies (rules library s a) × ((i : ℕ) × StopsAt true (size s) i (assembled s (a .work)))))
       × ((i : ℕ) → e .number ≡ 19 → StopsAt true (size s) i (assembled s (a .work))
       → e .areas ≡ withWork a (stepped true (size s) i (assembled s (a .work)))))
-      × ((e .number ≡ 0) ↔ (NoneApplies (rules base s a) × Through true (size s) (size s) (assembled s (a .work))))
+      × ((e .number ≡ 0) ↔ (NoneApplies (rules library s a) × Through true (size s) (size s) (assembled s (a .work))))
       × Untouched s a (e .areas)
       × (e .number ≡ 0 → Kriged s a (e .areas))
       × TrendKept s e
 
-  pub promised : {e : Outcome Areas} → e ≡ fitted base s a → Parts e
+  pub promised : {e : Outcome Areas} → e ≡ fitted library s a → Parts e
   promised {e} h =
-      let p : Promise base s a e = theory.promised base (lit≤ tt) s a h in
+      let p : Promise library s a e = theory.promised library (lit≤ tt) s a h in
       (p .equation, p .ruled, p .stopped, p .accepted, p .kept, p .kriged, p .bounded)

@@ -1,4 +1,4 @@
--- What a fit that no rule of the base turns away has been tested for, as its code uses it: the lengths of its lists and areas, and its counts.
+-- What a fit that no rule of the library turns away has been tested for, as its code uses it: the lengths of its lists and areas, and its counts.
 use Prim.Native.Nat.{ℕ, _+_, _*_, _^_, _≤_, _<_}
 use native.Mathlib.Decide.{decLt}
 use native.Mathlib.Omega.{arith}
@@ -9,7 +9,7 @@ use Rattle.error.specs.Rules.{NoneApplies, Condition}
 use Rattle.error.proofs.Tells.{stable, equal}
 use Rattle.error.proofs.Rules.{none-exactly, no-condition}
 use Rattle.error.proofs.Short.{areaAt, long-at}
-use Rattle.survey.specs.Limits.{base}
+use Rattle.survey.specs.Limits.{library}
 use Rattle.survey.specs.Survey.{Survey, wells, nodeCount, columns, externals, size, columnsHeld}
 use Rattle.survey.proofs.Codes.{held-exact}
 use Rattle.kriging_theory.specs.Areas.{Areas, answerAreas}
@@ -17,22 +17,22 @@ use Rattle.kriging_theory.specs.Rules.{rules}
 use Rattle.kriging_theory.specs.Refusals.{tests, refusal}
 use Rattle.kriging_theory.proofs.Endings.{told}
 
-module _ (s : Survey) (a : Areas) (taken : refusal base s a ≡ 0) where
-  none-applies : NoneApplies (rules base s a)
+module _ (s : Survey) (a : Areas) (taken : refusal library s a ≡ 0) where
+  none-applies : NoneApplies (rules library s a)
   unfolding refusal
-  none-applies = none-exactly (told base s a) tt .0 taken
+  none-applies = none-exactly (told library s a) tt .0 taken
 
-  none : (k : ℕ) → ¬ Condition (rules base s a) k
-  none = no-condition (rules base s a) none-applies
+  none : (k : ℕ) → ¬ Condition (rules library s a) k
+  none = no-condition (rules library s a) none-applies
 
   at-least : {m n : ℕ} → ¬ (n < m) → m ≤ n
   at-least h = omega arith
 
   -- ---- counts
-  pub few-wells : wells s ≤ base .wells
+  pub few-wells : wells s ≤ library .wells
   few-wells = at-least (λ l. none 9 (inl l))
 
-  pub few-columns : columns s ≤ base .columns
+  pub few-columns : columns s ≤ library .columns
   few-columns = at-least (λ l. none 9 (inr (inl l)))
 
   pub columns-counted : columnsHeld (s .bases) ≡ columns s

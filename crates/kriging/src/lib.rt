@@ -21,7 +21,7 @@ ghost use mathlib.Core.Bool.{true};
 ghost use Prim.Native.Nat.{ℕ};
 ghost use Rattle.error.specs.Rules.{Ruled, NoneApplies};
 ghost use Rattle.elimination.specs.Elimination.{stepped, StopsAt, Through};
-ghost use Rattle.survey.specs.Limits.{base};
+ghost use Rattle.survey.specs.Limits.{library};
 ghost use Rattle.survey.specs.Survey.{surveyOf, size};
 ghost use Rattle.kriging_theory.specs.Areas.{areasOf, withWork};
 ghost use Rattle.kriging_theory.specs.Assembly.{assembled};
@@ -72,14 +72,14 @@ pub fn universal_kriging_fit(
         (now (weights .exit)) (now (multipliers .exit)) (now (trend .exit))) in
         let matrix = assembled s (a .work) in
         -- the whole of it, refused calls too
-        let equation : Type 0 = e ≡ fitted base s a in
+        let equation : Type 0 = e ≡ fitted library s a in
         -- any number but 0 and 19 is that of the first rule that applies, and then nothing is written
-        let ruled : Type 0 = ((k : ℕ) → k ≢ 0 → k ≢ 19 → (e .number ≡ k) ↔ Ruled (rules base s a) k) × (e .number ≢ 0 → e .number ≢ 19 → e .areas ≡ a) in
+        let ruled : Type 0 = ((k : ℕ) → k ≢ 0 → k ≢ 19 → (e .number ≡ k) ↔ Ruled (rules library s a) k) × (e .number ≢ 0 → e .number ≢ 19 → e .areas ≡ a) in
         -- 19 exactly where no rule applies and some step holds a magnitude below 2^-52; the work area is then as it was before that step
-        let stopped : Type 0 = ((e .number ≡ 19) ↔ (NoneApplies (rules base s a) × ((i : ℕ) × StopsAt true (size s) i matrix)))
+        let stopped : Type 0 = ((e .number ≡ 19) ↔ (NoneApplies (rules library s a) × ((i : ℕ) × StopsAt true (size s) i matrix)))
         × ((i : ℕ) → e .number ≡ 19 → StopsAt true (size s) i matrix → e .areas ≡ withWork a (stepped true (size s) i matrix)) in
         -- 0 exactly where no rule applies and every step goes through
-        let accepted : Type 0 = (e .number ≡ 0) ↔ (NoneApplies (rules base s a) × Through true (size s) (size s) matrix) in
+        let accepted : Type 0 = (e .number ≡ 0) ↔ (NoneApplies (rules library s a) × Through true (size s) (size s) matrix) in
         -- past the named lengths every area is as it was, however the call ends
         let kept : Type 0 = Untouched s a (e .areas) in
         -- the matrix of an accepted fit is the kriging system's, and its areas hold the unknowns: weights, figures, variances, multipliers; and the trend,
@@ -90,7 +90,7 @@ pub fn universal_kriging_fit(
         ⌜ equation × ruled × stopped × accepted × kept × kriged × bounded ⌝ }
 {
     let judgement = fit_refusal(
-        Limits::base(),
+        Limits::library(),
         values,
         coords,
         drift_bases,
@@ -147,11 +147,11 @@ fn fit_taken(
     multipliers: &mut [f64],
     trend: &mut [f64],
 ) -> Fit
-    requires { ⌜ refusal base (surveyOf (now values) (now coords) (now bases) (now external) options (now nodes) (now «node_external») tolerance)
+    requires { ⌜ refusal library (surveyOf (now values) (now coords) (now bases) (now external) options (now nodes) (now «node_external») tolerance)
         (areasOf (now work) (now predicted) (now variance) (now verdicts) (now weights) (now multipliers) (now trend)) ≡ 0 ⌝ }
     ensures { λ r. ⌜ outcomeOf r (areasOf (now (work .exit)) (now (predicted .exit)) (now (variance .exit)) (now (verdicts .exit))
         (now (weights .exit)) (now (multipliers .exit)) (now (trend .exit)))
-        ≡ fitted base
+        ≡ fitted library
         (surveyOf (now (values .entry)) (now (coords .entry)) (now (bases .entry)) (now (external .entry))
         options (now (nodes .entry)) (now («node_external» .entry)) tolerance)
         (areasOf (now (work .entry)) (now (predicted .entry)) (now (variance .entry)) (now (verdicts .entry))

@@ -5,7 +5,7 @@ use mathlib.Core.Path.{_≡_, refl, sym, _∙_, subst}
 use lib.Dec.{lit≤}
 use lib.Ieee.{nan}
 use Rattle.survey.specs.declared.Limits.{Limits}
-use Rattle.survey.specs.Limits.{base}
+use Rattle.survey.specs.Limits.{library}
 use Rattle.survey.specs.Survey.{Survey, nodeCount}
 use Rattle.audit.specs.Audit.{Audited, verdictOf}
 use Rattle.audit.specs.Trend.{Verdict}
@@ -42,6 +42,6 @@ module _ (limits : Limits) (s : Survey) (a : Areas) where
     tolerance = finite-tolerance limits s a;
   }
 
--- DEMAND 3, of every fit of the base: every survey and whatever areas, with nothing asked
-pub trend-in-the-base : (s : Survey) (a : Areas) → TrendKept s (fitted base s a)
-trend-in-the-base s a = trend-kept base s a (lit≤ tt)
+-- DEMAND 3, of every fit of the library: every survey and whatever areas, with nothing asked
+pub trend-in-the-library : (s : Survey) (a : Areas) → TrendKept s (fitted library s a)
+trend-in-the-library s a = trend-kept library s a (lit≤ tt)

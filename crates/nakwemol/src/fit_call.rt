@@ -8,7 +8,7 @@ use kriging::universal_kriging_fit;
 use survey::UniversalKrigingOptions;
 ghost use mathlib.Core.Path.{_≡_};
 ghost use Rattle.error.specs.Outcome.{outcome};
-ghost use Rattle.survey.specs.Limits.{base};
+ghost use Rattle.survey.specs.Limits.{library};
 ghost use Rattle.survey.specs.Survey.{surveyOf};
 ghost use Rattle.kriging_theory.specs.Areas.{Areas, areasOf};
 ghost use Rattle.kriging_theory.specs.Fit.{fitted};
@@ -56,7 +56,7 @@ pub extern "C" fn nakwemol_fit(
         ⌜ outcome r (areasOf (now (work .exit)) (now (predicted .exit)) (now (variance .exit)) (now (verdicts .exit))
         (now (weights .exit)) (now (multipliers .exit)) (now (trend .exit)))
         ≡ byModel (modelOf model) (outcome unknownCode a)
-        (λ m. fitted base (surveyOf (now (values .entry)) (now (coords .entry)) (now (bases .entry)) (now (external .entry))
+        (λ m. fitted library (surveyOf (now (values .entry)) (now (coords .entry)) (now (bases .entry)) (now (external .entry))
         (optionsOf m nugget sill range «same_spot» regularization) (now (nodes .entry)) (now («node_external» .entry)) tolerance) a) ⌝ }
 {
     let coded = model_of(model);

@@ -9,7 +9,7 @@ use interpolator::Interpolation;
 use interpolator::KrigingInterpolator;
 ghost use mathlib.Core.Path.{_≡_};
 ghost use Rattle.error.specs.Outcome.{outcome};
-ghost use Rattle.survey.specs.Limits.{base};
+ghost use Rattle.survey.specs.Limits.{library};
 ghost use Rattle.interpolator_theory.specs.Call.{Areas, areasOf};
 ghost use Rattle.interpolator_theory.specs.Interpolation.{interpolated};
 ghost use Rattle.interpolator.specs.Outcome.{interpolator, queryOf, outcomeOf};
@@ -47,7 +47,7 @@ pub extern "C" fn nakwemol_interpolate(
         let a = areasOf (now (work .entry)) (now (figures .entry)) (now (variances .entry)) in
         ⌜ outcome r (areasOf (now (work .exit)) (now (figures .exit)) (now (variances .exit)))
         ≡ byType (typeOf «kriging_type») (outcome unknownCode a) (λ t. byModel (modelOf model) (outcome unknownCode a)
-        (λ m. interpolated base (queryOf (interpolator t (variogramOf m nugget sill range «same_spot»))
+        (λ m. interpolated library (queryOf (interpolator t (variogramOf m nugget sill range «same_spot»))
         (now (values .entry)) (now (points .entry)) (now (targets .entry)) d) a)) ⌝ }
 {
     let coded_type = type_of(kriging_type);

@@ -2,7 +2,7 @@
 use semivariogram::Semivariogram;
 use semivariogram::SemivariogramCalculator;
 ghost use mathlib.Core.Path.{_≡_};
-ghost use Rattle.survey.specs.Limits.{base};
+ghost use Rattle.survey.specs.Limits.{library};
 ghost use Rattle.semivariogram_theory.specs.Call.{Areas, samplesOf, areasOf};
 ghost use Rattle.semivariogram_theory.specs.Semivariogram.{calculated};
 ghost use Rattle.semivariogram.specs.Outcome.{outcomeOf};
@@ -34,7 +34,7 @@ pub extern "C" fn nakwemol_semivariogram(
     kept: &mut usize,
 ) -> u8
     ensures { λ r. ⌜ ending r (now (kept .exit)) (areasOf (now (distances .exit)) (now (semivariances .exit)) (now (counts .exit)))
-        ≡ binsTold (calculated base (samplesOf (now (points .entry)) (now (values .entry)) d «n_bins»)
+        ≡ binsTold (calculated library (samplesOf (now (points .entry)) (now (values .entry)) d «n_bins»)
         (areasOf (now (distances .entry)) (now (semivariances .entry)) (now (counts .entry)))) (now (kept .entry)) ⌝ }
 {
     let semivariogram = SemivariogramCalculator::calculate(

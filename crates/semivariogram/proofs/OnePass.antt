@@ -14,7 +14,7 @@ use lib.ListN.{length, getD, set}
 use lib.Seq.{getD-set-same, getD-set-other}
 use lib.Ieee.{Float, nan, binary64, add, div, toUnsigned}
 use Rattle.ieee.specs.Floats.{floorOf}
-use Rattle.survey.specs.Limits.{base}
+use Rattle.survey.specs.Limits.{library}
 use Rattle.semivariogram_theory.specs.Pairs.{Pair, pair, pairsFrom, pairs}
 use Rattle.semivariogram_theory.specs.Call.{Samples, samples}
 use Rattle.semivariogram_theory.specs.Bins.{lag, halfSquare, width, binOf, countIn, sumIn, count}
@@ -93,7 +93,7 @@ count-most q b (p ∷ ps) = go (eqb (binOf q p) b) (count-most q b ps)
     go false h = omega arith
 
 -- so that it fits a word
-pub count-fits : (q : Samples) (ps : List Pair) (sums : List Float) (counts : List ℕ) (b : ℕ) → samples q ≤ base .wells → b < q .bins → Left q ps sums counts
+pub count-fits : (q : Samples) (ps : List Pair) (sums : List Float) (counts : List ℕ) (b : ℕ) → samples q ≤ library .wells → b < q .bins → Left q ps sums counts
     → getD counts b 0 ≤ mostPairs
 unfolding count
 count-fits q ps sums counts b n l h = omega (arith, h .number b l, count-most q b (pairs (samples q)), few-pairs (samples q) n)

@@ -9,19 +9,23 @@ use mathlib.Core.List.{List, [], _∷_, _++_}
 use lib.ListN.{length, getD, set, drop, length-drop}
 use lib.Seq.{drop-cons, getD-set-same, getD-set-other}
 use lib.Ieee.{Float, nan}
-use Rattle.survey.specs.Limits.{base}
+use Rattle.survey.specs.Limits.{library}
 use Rattle.semivariogram_theory.specs.Pairs.{Pair, pair, pairsFrom, pairs}
 use Rattle.semivariogram_theory.proofs.Pairs.{twice}
 use Rattle.semivariogram.specs.Parts.{mostPairs, Reached, Stored}
 use Rattle.semivariogram.proofs.Passes.{laterFrom, next-sample, no-sample, next-later, no-later, all-pairs}
 
+-- the pairs of 96 samples
+pub most-pairs : mostPairs ≡ 4560
+most-pairs = refl
+
 -- fewer samples than the most have no more pairs
-pub few-pairs : (n : ℕ) → n ≤ base .wells → length (pairs n) ≤ mostPairs
+pub few-pairs : (n : ℕ) → n ≤ library .wells → length (pairs n) ≤ mostPairs
 unfolding pairs
 few-pairs zero h = let t = twice 0 0 in omega arith
 few-pairs (suc m) h =
-    let l : m ≤ base .wells - 1 = omega arith in
-    let k : suc m * m ≤ base .wells * (base .wells - 1) = mul-le-mul h l in
+    let l : m ≤ library .wells - 1 = omega arith in
+    let k : suc m * m ≤ library .wells * (library .wells - 1) = mul-le-mul h l in
     let s : suc m * suc m ≡ suc m * m + suc m = mul-suc (suc m) m in
     omega (arith, twice 0 (suc m))
 

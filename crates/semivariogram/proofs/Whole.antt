@@ -10,7 +10,7 @@ use Rattle.error.specs.declared.Refusal.{Refusal}
 use Rattle.error.proofs.First.{numbers}
 use Rattle.ieee.specs.Floats.{zeroFloat}
 use Rattle.survey.specs.declared.Limits.{Limits}
-use Rattle.survey.specs.Limits.{base}
+use Rattle.survey.specs.Limits.{library}
 use Rattle.semivariogram_theory.specs.Pairs.{pairs}
 use Rattle.semivariogram_theory.specs.Call.{Samples, Areas, Outcome, samples}
 use Rattle.semivariogram_theory.specs.Refusals.{mostBins, refusal}
@@ -23,7 +23,7 @@ use Rattle.semivariogram_theory.proofs.Calculated.{is-done, ends}
 
 -- ---- the start
 -- what is known of a call that is not refused
-pub taken-is : (q : Samples) (a : Areas) → Accepted q a → samples q ≤ base .wells → Taken q
+pub taken-is : (q : Samples) (a : Areas) → Accepted q a → samples q ≤ library .wells → Taken q
 taken-is q a k h = record { dimension = k .dimension; few = h; points = k .points; coordinates = k .coordinates; bins = k .bins }
 
 -- before the first pair all sums and counts are 0

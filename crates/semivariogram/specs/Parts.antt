@@ -11,20 +11,20 @@ use Rattle.ieee.specs.Floats.{zeroFloat, floorOf}
 use Rattle.ieee.specs.Root.{sqrtOf}
 use Rattle.ieee.specs.Values.{Signed}
 use Rattle.variogram.specs.Distance.{squares, axisFrom}
-use Rattle.survey.specs.Limits.{base}
+use Rattle.survey.specs.Limits.{library}
 use Rattle.semivariogram_theory.specs.Pairs.{Pair, pair, pairs}
 use Rattle.semivariogram_theory.specs.Call.{Samples, samples}
 use Rattle.semivariogram_theory.specs.Refusals.{mostBins}
 use Rattle.semivariogram_theory.specs.Bins.{countIn, sumIn, count}
 
--- "i < j": of the most samples, "n > 48" being refused, so many pairs
+-- "i < j": of the most samples, "n > 96" being refused, so many pairs
 abbrev pub mostPairs : ℕ
-mostPairs = base .wells * (base .wells - 1) / 2
+mostPairs = library .wells * (library .wells - 1) / 2
 
 -- what is known of a call that is not refused
 pub record Taken (q : Samples) : Type 0 where
   pub dimension : (1 ≤ q .dimension) × (q .dimension ≤ 3)
-  pub few : samples q ≤ base .wells
+  pub few : samples q ≤ library .wells
   pub points : length (q .points) ≡ samples q * q .dimension
   pub coordinates : (k : ℕ) → k < length (q .points) → T (finite (getD (q .points) k nan))
   pub bins : (1 ≤ q .bins) × (q .bins ≤ mostBins)

@@ -16,7 +16,7 @@ use survey::Limits;
 use survey::MOST_WELLS;
 ghost use mathlib.Core.Path.{_≡_};
 ghost use lib.ListN.{length};
-ghost use Rattle.survey.specs.Limits.{base};
+ghost use Rattle.survey.specs.Limits.{library};
 ghost use Rattle.semivariogram_theory.specs.Refusals.{refusal};
 ghost use Rattle.semivariogram_theory.specs.Bins.{keptBins, filled};
 ghost use Rattle.semivariogram_theory.specs.Call.{samplesOf, areasOf};
@@ -45,7 +45,7 @@ fn kept_bins(
     semivariances: &mut [f64],
     counts: &mut [usize],
 ) -> usize
-    requires { ⌜ refusal base (samplesOf (now points) (now values) d «n_bins») (areasOf (now distances) (now semivariances) (now counts)) ≡ 0 ⌝ }
+    requires { ⌜ refusal library (samplesOf (now points) (now values) d «n_bins») (areasOf (now distances) (now semivariances) (now counts)) ≡ 0 ⌝ }
     ensures { λ r. ⌜ (r ≡ length (keptBins (samplesOf (now (points .entry)) (now (values .entry)) d «n_bins»)))
         × (areasOf (now (distances .exit)) (now (semivariances .exit)) (now (counts .exit))
         ≡ filled (samplesOf (now (points .entry)) (now (values .entry)) d «n_bins»)
@@ -106,13 +106,13 @@ impl SemivariogramCalculator {
         counts: &mut [usize],
     ) -> Semivariogram
         ensures is { λ r. ⌜ outcomeOf r (areasOf (now (distances .exit)) (now (semivariances .exit)) (now (counts .exit)))
-            ≡ calculated base (samplesOf (now (points .entry)) (now (values .entry)) d «n_bins»)
+            ≡ calculated library (samplesOf (now (points .entry)) (now (values .entry)) d «n_bins»)
             (areasOf (now (distances .entry)) (now (semivariances .entry)) (now (counts .entry))) ⌝ }
-        ensures ends { λ r. ⌜ Ends base (samplesOf (now (points .entry)) (now (values .entry)) d «n_bins»)
+        ensures ends { λ r. ⌜ Ends library (samplesOf (now (points .entry)) (now (values .entry)) d «n_bins»)
             (areasOf (now (distances .entry)) (now (semivariances .entry)) (now (counts .entry)))
             (outcomeOf r (areasOf (now (distances .exit)) (now (semivariances .exit)) (now (counts .exit)))) ⌝ }
     {
-        let limits = Limits::base();
+        let limits = Limits::library();
         let judgement = calculate_refusal(
             limits,
             points,

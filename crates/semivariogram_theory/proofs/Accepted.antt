@@ -49,7 +49,7 @@ accepted limits q a h =
       counts = long 2;
     }
 
--- "n > 48" is refused by 9
+-- "n > 96" is refused by 9
 pub few-samples : (limits : Limits) (q : Samples) (a : Areas) → refusal limits q a ≡ 0 → samples q ≤ limits .wells
 few-samples limits q a h =
     let not : ¬ (limits .wells < samples q) = no-condition (rules limits q a) (accepted-exactly limits q a .0 h) 9 in

@@ -1,4 +1,4 @@
--- Each test of the semivariogram tells its rule's condition; and the limit of the base.
+-- Each test of the semivariogram tells its rule's condition; and the limit of the library.
 use Prim.Native.Nat.{_*_, _<_}
 use mathlib.Core.Path.{_≡_, refl}
 use mathlib.Core.Logic.{_↔_}
@@ -8,7 +8,7 @@ use Rattle.error.proofs.Tells.{either, different, below, some-not-finite}
 use Rattle.error.specs.Rules.{Told, no-more, tells, numbersOf}
 use Rattle.error.proofs.Short.{short-told}
 use Rattle.survey.specs.declared.Limits.{Limits}
-use Rattle.survey.specs.Limits.{base}
+use Rattle.survey.specs.Limits.{library}
 use Rattle.semivariogram_theory.specs.Call.{Samples, Areas, answerAreas, samples}
 use Rattle.semivariogram_theory.specs.Rules.{TooMany, rules}
 use Rattle.semivariogram_theory.specs.Refusals.{mostBins, tests}
@@ -27,6 +27,6 @@ told limits q a =
 pub order : (limits : Limits) (q : Samples) (a : Areas) → numbersOf (rules limits q a) ≡ 13 ∷ 1 ∷ 14 ∷ 15 ∷ 9 ∷ 11 ∷ 18 ∷ []
 order limits q a = refl
 
--- "9 n > 48": the limit of the base
-pub samples-limit : (q : Samples) → TooMany base q ↔ (48 < samples q)
+-- "9 n > 48", with "n > 96 in place of n > 48 in the library calls"
+pub samples-limit : (q : Samples) → TooMany library q ↔ (96 < samples q)
 samples-limit q = (λ h. h, λ h. h)

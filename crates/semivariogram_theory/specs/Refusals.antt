@@ -30,7 +30,7 @@ tooFew q = ltb (samples q) 2
 abbrev pub wrongBins : Samples → Bool
 wrongBins q = ltb (q .bins) 1 || ltb mostBins (q .bins)
 
--- 9: "n > 48"
+-- 9: "n > 48", with "n > 96 in place of n > 48": what the limits say
 abbrev pub tooMany : Limits → Samples → Bool
 tooMany limits q = ltb (limits .wells) (samples q)
 

@@ -25,7 +25,7 @@ TooFew q = samples q < 2
 abbrev pub WrongBins : Samples → Type 0
 WrongBins q = (q .bins < 1) ⊎ (64 < q .bins)
 
--- 9: "n > 48"
+-- 9: "n > 48", with "n > 96 in place of n > 48": what the limits say
 abbrev pub TooMany : Limits → Samples → Type 0
 TooMany limits q = limits .wells < samples q
 

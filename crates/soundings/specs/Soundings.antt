@@ -9,7 +9,7 @@ use Rattle.variogram.specs.Model.{variogram, semivariance}
 use Rattle.variogram.specs.declared.Variogram.{Variogram}
 use Rattle.variogram.specs.declared.VariogramModel.the-variants.{Spherical, Linear}
 use Rattle.error.specs.Outcome.{Outcome, outcome}
-use Rattle.survey.specs.Limits.{base}
+use Rattle.survey.specs.Limits.{library}
 use Rattle.survey.specs.Survey.{Survey}
 use Rattle.kriging_theory.specs.Areas.{Areas}
 use Rattle.kriging_theory.specs.Fit.{fitted}
@@ -82,15 +82,15 @@ areas n = record {
 
 -- "(0,0) value 5", with another variogram in C
 abbrev pub oneWell : Variogram → Outcome Areas
-oneWell v = fitted base (survey (n5 ∷ []) (n0 ∷ n0 ∷ []) v n0 n0) (areas 1)
+oneWell v = fitted library (survey (n5 ∷ []) (n0 ∷ n0 ∷ []) v n0 n0) (areas 1)
 
 -- "(0,0) .. and (2,0) ..": B, and D with its values and t
 abbrev pub twoWells : Float → Float → Float → Outcome Areas
-twoWells a b t = fitted base (survey (a ∷ b ∷ []) (n0 ∷ n0 ∷ n2 ∷ n0 ∷ []) plain n0 t) (areas 2)
+twoWells a b t = fitted library (survey (a ∷ b ∷ []) (n0 ∷ n0 ∷ n2 ∷ n0 ∷ []) plain n0 t) (areas 2)
 
 -- "two wells at (0,0)", with r
 abbrev pub oneSpot : Float → Outcome Areas
-oneSpot r = fitted base (survey (n2 ∷ n6 ∷ []) (n0 ∷ n0 ∷ n0 ∷ n0 ∷ []) plain r n0) (areas 2)
+oneSpot r = fitted library (survey (n2 ∷ n6 ∷ []) (n0 ∷ n0 ∷ n0 ∷ n0 ∷ []) plain r n0) (areas 2)
 
 -- B's wells for the interpolator
 abbrev pub query : interpolator.Query
@@ -138,9 +138,9 @@ pub record Soundings : Type 0 where
   pub A : Answer (oneWell plain) n5 n2 n1 n5 0
   -- "B: (0,0) 2 and (2,0) 6, node (1,0): 4, 1.5, coefficient 0.5, 0. Ordinary interpolation: 4, 1.5." And "B's listing gains `trend 4010000000000000`".
   pub B : Answer (twoWells n2 n6 n0) n4 n1½ n½ n4 0
-  pub B-accepted : interpolated base query queryAreas .number ≡ 0
-  pub B-figure : interpolated base query queryAreas .areas .figures ≡ n4 ∷ []
-  pub B-variance : interpolated base query queryAreas .areas .variances ≡ n1½ ∷ []
+  pub B-accepted : interpolated library query queryAreas .number ≡ 0
+  pub B-figure : interpolated library query queryAreas .areas .figures ≡ n4 ∷ []
+  pub B-variance : interpolated library query queryAreas .areas .variances ≡ n1½ ∷ []
   -- "C: A with Linear 0, 1, 0: figure NaN, variance +0, verdict 255." The trend reads no node: it is A's.
   pub C : Answer (oneWell (variogram Linear n0 n1 n0)) nan n0 nan n5 255
   -- "D: B with values 1 and 2^-60: figure 0.5; t = 2^-62 gives verdict 2, t = 2^-61 gives 0."
@@ -153,8 +153,8 @@ pub record Soundings : Type 0 where
   pub F-spherical : semivariance (variogram Spherical n0 n1 n2) n1 ≡ f 0x3fe6_0000_0000_0000
   pub F-linear : semivariance (variogram Linear n1 n4 n2) n2 ≡ n5
   -- "G: bins 2, d = 1, samples 0, 1, 2 with values 0, 2, 4: one bin, 1.5, 4, count 3."
-  pub G-kept : calculated base samples (bins (n0 ∷ n0 ∷ []) (n0 ∷ n0 ∷ []) (0 ∷ 0 ∷ [])) .kept ≡ 1
-  pub G : calculated base samples (bins (n0 ∷ n0 ∷ []) (n0 ∷ n0 ∷ []) (0 ∷ 0 ∷ [])) .areas ≡ bins (n1½ ∷ n0 ∷ []) (n4 ∷ n0 ∷ []) (3 ∷ 0 ∷ [])
+  pub G-kept : calculated library samples (bins (n0 ∷ n0 ∷ []) (n0 ∷ n0 ∷ []) (0 ∷ 0 ∷ [])) .kept ≡ 1
+  pub G : calculated library samples (bins (n0 ∷ n0 ∷ []) (n0 ∷ n0 ∷ []) (0 ∷ 0 ∷ [])) .areas ≡ bins (n1½ ∷ n0 ∷ []) (n4 ∷ n0 ∷ []) (3 ∷ 0 ∷ [])
   -- "H: root of 2: 3ff6a09e667f3bcd; of 2^-1074: 2^-537."
   pub H-two : sqrtOf n2 ≡ f 0x3ff6_a09e_667f_3bcd
   pub H-smallest : sqrtOf (f 1) ≡ below 537

@@ -49,7 +49,7 @@ tooFewWells s = ltb (wells s) (columns s)
 abbrev pub wrongNodeExternal : Survey → ℕ → List Float → Bool
 wrongNodeExternal s m e = ltb 0 (externals s) && differ (length e) (externals s * m)
 
--- 9: "n > 48, p > 12 or m > 100"
+-- 9: "n > 48, p > 12 or m > 100", by the limits of the library ("n > 96 in place of n > 48") or of the program
 abbrev pub tooMany : Limits → Survey → ℕ → Bool
 tooMany limits s m = ltb (limits .wells) (wells s) || (ltb (limits .columns) (columns s) || ltb (limits .nodes) m)
 

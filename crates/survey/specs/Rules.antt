@@ -54,7 +54,7 @@ TooFewWells s = wells s < columns s
 abbrev pub WrongNodeExternal : Survey → ℕ → List Float → Type 0
 WrongNodeExternal s m e = (0 < externals s) × (length e ≢ externals s * m)
 
--- 9: "n > 48, p > 12 or m > 100"
+-- 9: "n > 48, p > 12 or m > 100", by the limits of the library ("n > 96 in place of n > 48") or of the program
 abbrev pub TooMany : Limits → Survey → ℕ → Type 0
 TooMany limits s m = (limits .wells < wells s) ⊎ (limits .columns < columns s) ⊎ (limits .nodes < m)
 

@@ -5,10 +5,10 @@ use variogram::Variogram;
 use variogram::VariogramModel;
 ghost use mathlib.Core.Path.{_≡_};
 ghost use Rattle.survey.specs.Options.{defaultBases, defaultOptions};
-ghost use Rattle.survey.specs.Limits.{base};
+ghost use Rattle.survey.specs.Limits.{library, program};
 
-// What a call takes at most: wells, n. The capacities of every crate above are computed from these; specs/Limits has them for the contracts.
-pub const MOST_WELLS: usize = 48;
+// What a call of the library takes at most: wells, n. The capacities of every crate above are computed from these; specs/Limits has them for the contracts.
+pub const MOST_WELLS: usize = 96;
 
 // Drift columns, p.
 pub const MOST_COLUMNS: usize = 12;
@@ -21,6 +21,12 @@ pub const MOST_SIZE: usize = MOST_WELLS + MOST_COLUMNS;
 
 // How many numbers its drift columns have, n * p.
 pub const MOST_DRIFT: usize = MOST_WELLS * MOST_COLUMNS;
+
+// What the program takes at most of wells; of columns and nodes it takes what the library does.
+pub const PROGRAM_WELLS: usize = 48;
+
+// The size of its greatest kriging system.
+pub const PROGRAM_SIZE: usize = PROGRAM_WELLS + MOST_COLUMNS;
 
 // Options of a fit. Its drift bases, a list of codes, are lent beside them.
 pub struct UniversalKrigingOptions {
@@ -64,12 +70,23 @@ pub struct Limits {
 }
 
 impl Limits {
-    // The limits of every call of the base.
-    pub fn base() -> Self
-        ensures { λ r. ⌜ r ≡ base ⌝ }
+    // The limits of every call of the library.
+    pub fn library() -> Self
+        ensures { λ r. ⌜ r ≡ library ⌝ }
     {
         Self {
             wells: MOST_WELLS,
+            columns: MOST_COLUMNS,
+            nodes: MOST_NODES,
+        }
+    }
+
+    // The limits of the program.
+    pub fn program() -> Self
+        ensures { λ r. ⌜ r ≡ program ⌝ }
+    {
+        Self {
+            wells: PROGRAM_WELLS,
             columns: MOST_COLUMNS,
             nodes: MOST_NODES,
         }

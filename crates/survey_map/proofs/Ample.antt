@@ -11,7 +11,7 @@ use Rattle.error.specs.Rules.{First, rulesBefore}
 use Rattle.error.specs.Short.{TooShort}
 use Rattle.error.proofs.Rules.{ruled-exactly, no-condition}
 use Rattle.error.proofs.Short.{none-short}
-use Rattle.survey.specs.Limits.{base, mostSize}
+use Rattle.survey.specs.Limits.{program, programSize}
 use Rattle.survey.specs.Rules.{TooMany}
 use Rattle.survey.specs.Survey.{Survey, wells, nodeCount, columns, size}
 use Rattle.kriging_theory.specs.Areas.{Areas, answerAreas}
@@ -31,20 +31,20 @@ use Rattle.survey_map.proofs.Own.{lists-fit, own-work, own-predicted, o
 
 module _ (s : Survey) where
   -- a number that is given: its condition holds, and no rule before its own applies
-  pub first : (k : ℕ) → k ≢ 0 → k ≢ 19 → fitted base s ownAreas .number ≡ k → First (rules base s ownAreas) k
+  pub first : (k : ℕ) → k ≢ 0 → k ≢ 19 → fitted program s ownAreas .number ≡ k → First (rules program s ownAreas) k
   unfolding refusal
   first k z n e =
-      let r = fit-ends base s ownAreas .refused k z n .0 e in
-      first-in-a-fit base s ownAreas k .0 (ruled-exactly (told base s ownAreas) k .1 r, z)
+      let r = fit-ends program s ownAreas .refused k z n .0 e in
+      first-in-a-fit program s ownAreas k .0 (ruled-exactly (told program s ownAreas) k .1 r, z)
 
   -- past 9 the counts are those of the areas
-  work-fits : wells s ≤ base .wells → columns s ≤ base .columns → ¬ (length (ownAreas .work) < 2 * size s * size s)
+  work-fits : wells s ≤ program .wells → columns s ≤ program .columns → ¬ (length (ownAreas .work) < 2 * size s * size s)
   work-fits n p l =
-      let most : size s ≤ mostSize = omega arith in
+      let most : size s ≤ programSize = omega arith in
       let square = mul-le-mul most most in
       omega (arith, own-work)
 
-  answer-fits : wells s ≤ base .wells → columns s ≤ base .columns → nodeCount s ≤ base .nodes → ¬ TooShort (answerAreas s ownAreas)
+  answer-fits : wells s ≤ program .wells → columns s ≤ program .columns → nodeCount s ≤ program .nodes → ¬ TooShort (answerAreas s ownAreas)
   answer-fits n p m =
       let product = mul-le-mul n m in
       none-short (answerAreas s ownAreas) (
@@ -61,22 +61,22 @@ module _ (s : Survey) where
   at-most : {k most : ℕ} → ¬ (most < k) → k ≤ most
   at-most h = omega arith
 
-  never-17 : fitted base s ownAreas .number ≢ 17
+  never-17 : fitted program s ownAreas .number ≢ 17
   never-17 e =
       let l = first 17 (λ x. omega arith) (λ x. omega arith) e in
-      let few : ¬ TooMany base s (nodeCount s) = no-condition (rulesBefore 17 (rules base s ownAreas)) (l .none-before) 9 in
+      let few : ¬ TooMany program s (nodeCount s) = no-condition (rulesBefore 17 (rules program s ownAreas)) (l .none-before) 9 in
       work-fits (at-most (λ x. few (inl x))) (at-most (λ x. few (inr (inl x)))) (l .applies)
 
-  never-18 : fitted base s ownAreas .number ≢ 18
+  never-18 : fitted program s ownAreas .number ≢ 18
   never-18 e =
       let l = first 18 (λ x. omega arith) (λ x. omega arith) e in
-      let few : ¬ TooMany base s (nodeCount s) = no-condition (rulesBefore 18 (rules base s ownAreas)) (l .none-before) 9 in
+      let few : ¬ TooMany program s (nodeCount s) = no-condition (rulesBefore 18 (rules program s ownAreas)) (l .none-before) 9 in
       answer-fits (at-most (λ x. few (inl x))) (at-most (λ x. few (inr (inl x)))) (at-most (λ x. few (inr (inr x)))) (l .applies)
 
   -- so that neither is printed
-  pub apart : (k : ℕ) → fitted base s ownAreas .number ≢ k → surveyText s ≢ refusedText k
+  pub apart : (k : ℕ) → fitted program s ownAreas .number ≢ k → surveyText s ≢ refusedText k
   unfolding surveyText
-  apart k n = let o = fitted base s ownAreas in go (o .number) (o .areas) n
+  apart k n = let o = fitted program s ownAreas in go (o .number) (o .areas) n
     where
       go : (j : ℕ) (a : Areas) → j ≢ k → fitText j s a ≢ refusedText k
       go zero a d e = listing-apart _ _ _ _ _ k e

@@ -10,7 +10,7 @@ use Rattle.ieee.specs.Floats.{epsilon}
 use Rattle.ieee.specs.Finite.{NotFinite}
 use Rattle.ieee.proofs.FiniteLists.{not-finite}
 use Rattle.variogram.specs.Model.{WrongSpot}
-use Rattle.survey.specs.Limits.{base}
+use Rattle.survey.specs.Limits.{program}
 use Rattle.survey.specs.Survey.{Survey}
 use Rattle.kriging_theory.specs.Fit.{fitted}
 use Rattle.survey_file_theory.specs.Reader.{surveyIn}
@@ -31,7 +31,7 @@ plain : (s : Survey) → s .options .variogram .«same_spot» ≡ epsilon → ¬
 plain s e (inl x) = taken (subst NotFinite e x)
 plain s e (inr x) = not-below (subst (λ (f : Float). lt f epsilon ≡ true) e x)
 
-never-22 : (s : Survey) → s .options .variogram .«same_spot» ≡ epsilon → fitted base s ownAreas .number ≢ 22
+never-22 : (s : Survey) → s .options .variogram .«same_spot» ≡ epsilon → fitted program s ownAreas .number ≢ 22
 never-22 s e n = plain s e (first s 22 (λ x. omega arith) (λ x. omega arith) n .applies)
 
 of-file : (bytes : List ℕ) → surveyIn bytes .options .variogram .«same_spot» ≡ epsilon

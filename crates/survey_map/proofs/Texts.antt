@@ -12,7 +12,7 @@ use Rattle.error.specs.Outcome.{Outcome, outcome}
 use Rattle.error.specs.Rules.{Ruled}
 use Rattle.error.proofs.First.{numbers}
 use Rattle.error.proofs.Tells.{affirm, refute}
-use Rattle.survey.specs.Limits.{base}
+use Rattle.survey.specs.Limits.{program}
 use Rattle.survey.specs.Survey.{Survey}
 use Rattle.kriging_theory.specs.Areas.{Areas}
 use Rattle.kriging_theory.specs.Fit.{fitted}
@@ -44,11 +44,11 @@ listed-text figures variances verdicts multipliers trend area f v t e = e ∙ ev
 
 -- ---- a fit
 module _ (s : Survey) (a : Areas) where
-  pub done-text : outcome 0 a ≡ fitted base s ownAreas → fitText 0 s a ≡ surveyText s
+  pub done-text : outcome 0 a ≡ fitted program s ownAreas → fitText 0 s a ≡ surveyText s
   unfolding surveyText
   done-text e = ap (λ (o : Outcome Areas). fitText (o .number) s (o .areas)) e
 
-  pub refused-text : (r : Refusal) → outcome (numberOf r) a ≡ fitted base s ownAreas → refusedText (numberOf r) ≡ surveyText s
+  pub refused-text : (r : Refusal) → outcome (numberOf r) a ≡ fitted program s ownAreas → refusedText (numberOf r) ≡ surveyText s
   unfolding surveyText
   refused-text r e = go (numberOf r) (numbers r) ∙ ap (λ (o : Outcome Areas). fitText (o .number) s (o .areas)) e
     where

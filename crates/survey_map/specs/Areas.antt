@@ -2,7 +2,7 @@
 use Prim.Native.Nat.{ℕ, _*_, _≤_}
 use lib.ListN.{length, take, replicate}
 use Rattle.ieee.specs.Floats.{zeroFloat}
-use Rattle.survey.specs.Limits.{base, mostSize}
+use Rattle.survey.specs.Limits.{program, programSize}
 use Rattle.survey.specs.Survey.{Survey, surveyOf, externalCount}
 use Rattle.kriging_theory.specs.Areas as fit
 use Rattle.survey_file_theory.specs.Areas as file
@@ -23,20 +23,20 @@ ownLists =
     let numbers = replicate mostNumbers zeroFloat in
     reader.areasOf numbers numbers (replicate mostCodes 0) numbers numbers numbers
 
--- the most that a fit needs: "n > 48, p > 12 or m > 100" is refused
+-- the most that a fit of the program needs: "n > 48, p > 12 or m > 100" is refused
 abbrev pub mostNodes : ℕ
-mostNodes = base .nodes
+mostNodes = program .nodes
 
 abbrev pub mostColumns : ℕ
-mostColumns = base .columns
+mostColumns = program .columns
 
 -- "2·s·s numbers", where s = n + p
 abbrev pub mostWork : ℕ
-mostWork = 2 * mostSize * mostSize
+mostWork = 2 * programSize * programSize
 
 -- "n·m weights"
 abbrev pub mostWeights : ℕ
-mostWeights = base .wells * base .nodes
+mostWeights = program .wells * program .nodes
 
 -- zeros, as long as a fit can need
 unfoldable pub ownAreas : fit.Areas

@@ -5,7 +5,7 @@ use mathlib.Core.Logic.{_≢_}
 use mathlib.Core.Bool.{cond}
 use mathlib.Core.List.{List}
 use lib.ListN.{take}
-use Rattle.survey.specs.Limits.{base}
+use Rattle.survey.specs.Limits.{program}
 use Rattle.survey.specs.Survey.{Survey, nodeCount, columns}
 use Rattle.kriging_theory.specs.Areas.{Areas}
 use Rattle.kriging_theory.specs.Fit.{fitted}
@@ -26,7 +26,7 @@ fitText (suc k) s a = refusedText (suc k)
 -- of a survey
 unfoldable pub surveyText : Survey → List ℕ
 unfolding ownAreas fitted
-surveyText s = let o = fitted base s ownAreas in fitText (o .number) s (o .areas)
+surveyText s = let o = fitted program s ownAreas in fitText (o .number) s (o .areas)
 
 -- of a file: "16 comes before the fit's"
 unfoldable pub fileText : List ℕ → List ℕ
@@ -44,8 +44,8 @@ FirstBytes bytes = fileText (take bytesRead bytes) ≡ fileText bytes
 
 -- whatever the survey, the fit's own areas are long enough: 17 and 18 never show
 pub record AmpleForFit (s : Survey) : Type 0 where
-  pub work : fitted base s ownAreas .number ≢ 17
-  pub answer : fitted base s ownAreas .number ≢ 18
+  pub work : fitted program s ownAreas .number ≢ 17
+  pub answer : fitted program s ownAreas .number ≢ 18
   pub never-17 : surveyText s ≢ refusedText 17
   pub never-18 : surveyText s ≢ refusedText 18
 

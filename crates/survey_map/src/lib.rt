@@ -25,9 +25,9 @@ const NODES: usize = survey::MOST_NODES;
 
 const COLUMNS: usize = survey::MOST_COLUMNS;
 
-const WORK: usize = 2 * survey::MOST_SIZE * survey::MOST_SIZE;
+const WORK: usize = 2 * survey::PROGRAM_SIZE * survey::PROGRAM_SIZE;
 
-const WEIGHTS: usize = survey::MOST_WELLS * survey::MOST_NODES;
+const WEIGHTS: usize = survey::PROGRAM_WELLS * survey::MOST_NODES;
 
 // The numbers of a file's longest list: a file of 65,536 bytes has room for 8,190 numbers before its trailer, the first five are in no list, and a list of
 // nodes has an even count.

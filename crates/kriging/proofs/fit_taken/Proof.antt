@@ -17,7 +17,7 @@ use Rattle.elimination.specs.Inverse.{laid}
 use Rattle.elimination.specs.Call.{afterElimination}
 use Rattle.elimination.proofs.Laid.{kept-laid}
 use Rattle.elimination.proofs.Stops.{refused-exactly}
-use Rattle.survey.specs.Limits.{base, mostDrift}
+use Rattle.survey.specs.Limits.{library, mostDrift}
 use Rattle.survey.specs.Survey.{Survey, wells, columns, size}
 use Rattle.kriging_theory.specs.Drift.{DriftIn, drift}
 use Rattle.kriging_theory.specs.Assembly.{between, joined, entry, assembled}
@@ -42,8 +42,8 @@ fits c =
     let s = survey-of c in
     let n = few-wells s (areas-of c) (at-entry c .pre) in
     let p = few-columns s (areas-of c) (at-entry c .pre) in
-    let l : wells s < base .wells + 1 = omega arith in
-    omega (arith, row-end (columns s) (wells s) (base .wells + 1) l, p)
+    let l : wells s < library .wells + 1 = omega arith in
+    omega (arith, row-end (columns s) (wells s) (library .wells + 1) l, p)
 
 -- let p = survey_checks::counts::drift_columns(bases);
 drift-columns-requires : tie.Need-drift-columns-requires

@@ -3,7 +3,7 @@ use mathlib.Core.Path.{_≡_, ap, sym, _∙_}
 use borrow.Author.Needs.{needs}
 use Rattle.error.specs.Numbers.{judged}
 use Rattle.survey.specs.declared.Limits.{Limits}
-use Rattle.survey.specs.Limits.{base}
+use Rattle.survey.specs.Limits.{library}
 use Rattle.survey.specs.Survey.{Survey, surveyOf}
 use Rattle.kriging_theory.specs.Areas.{Areas, areasOf}
 use Rattle.kriging_theory.specs.Refusals.{refusal}
@@ -19,7 +19,7 @@ at-half-lent c = c .before .before .before
 abbrev at-second-lent : tie.After-fit-refusal → tie.After-fit-refusal-arg2
 at-second-lent c = at-half-lent c .before .before .before
 
-abbrev at-limits : tie.After-fit-refusal → tie.After-base
+abbrev at-limits : tie.After-fit-refusal → tie.After-library
 at-limits c = at-second-lent c .before .before
 
 -- the lists and the areas, each known by its elements
@@ -72,13 +72,13 @@ areas-of c =
     let a = at-entry c .args in
     areasOf (a .work .now) (a .predicted .now) (a .variance .now) (a .verdicts .now) (a .weights .now) (a .multipliers .now) (a .trend .now)
 
--- what the judgement says: the number of the refusal, with the limits of the base
-judgement : (c : tie.After-fit-refusal) → judged (c .fit-refusal .result) ≡ refusal base (survey-of c) (areas-of c)
-judgement c = c .fit-refusal .ensures ∙ ap (λ (l : Limits). refusal l (survey-of c) (areas-of c)) (at-limits c .base .ensures)
+-- what the judgement says: the number of the refusal, with the limits of the library
+judgement : (c : tie.After-fit-refusal) → judged (c .fit-refusal .result) ≡ refusal library (survey-of c) (areas-of c)
+judgement c = c .fit-refusal .ensures ∙ ap (λ (l : Limits). refusal l (survey-of c) (areas-of c)) (at-limits c .library .ensures)
 
--- Limits::base(),
-base-requires : tie.Need-base-requires
-base-requires c κs = search needs
+-- Limits::library(),
+library-requires : tie.Need-library-requires
+library-requires c κs = search needs
 
 -- let judgement = fit_refusal(
 fit-refusal-requires : tie.Need-fit-refusal-requires
@@ -158,7 +158,7 @@ pub universal-kriging-fit-spec : {M : Type 1} → statement M
 universal-kriging-fit-spec =
     tie.close
     (tie.spec
-    base-requires
+    library-requires
     fit-refusal-requires
     enum-known-judgement
     same-length

@@ -4,7 +4,7 @@ use mathlib.Core.Bool.{false}
 use native.Mathlib.Omega.{arith}
 use lib.Ieee.{binary64, div}
 use Rattle.ieee.specs.Values.{Signed}
-use Rattle.survey.specs.Limits.{base}
+use Rattle.survey.specs.Limits.{library}
 use Rattle.semivariogram_theory.specs.Call.{Samples, Areas, samplesOf, areasOf}
 use Rattle.semivariogram_theory.specs.Bins.{width}
 use Rattle.semivariogram_theory.proofs.Accepted.{Accepted, accepted, few-samples}
@@ -58,10 +58,10 @@ at-written c = let d = c .before .before .before in d .before .before .before
 
 -- the call is not refused
 is-accepted : (s : tie.Start) → Accepted (taken s) (lent s)
-is-accepted s = accepted base (taken s) (lent s) (s .pre)
+is-accepted s = accepted library (taken s) (lent s) (s .pre)
 
 is-taken : (s : tie.Start) → Taken (taken s)
-is-taken s = taken-is (taken s) (lent s) (is-accepted s) (few-samples base (taken s) (lent s) (s .pre))
+is-taken s = taken-is (taken s) (lent s) (is-accepted s) (few-samples library (taken s) (lent s) (s .pre))
 
 -- the width is that of the definition
 wide : (c : tie.After-nearest-u64-to-f64) → div binary64 (c .before .sqrt .result) (c .nearest-u64-to-f64 .result) ≡ width (taken (at-start c))

@@ -3,7 +3,7 @@ use mathlib.Core.Path.{_≡_, ap, sym, _∙_}
 use borrow.Author.Needs.{needs}
 use Rattle.error.specs.Numbers.{numberOf}
 use Rattle.error.specs.Outcome.{outcome}
-use Rattle.survey.specs.Limits.{base}
+use Rattle.survey.specs.Limits.{program}
 use Rattle.survey.specs.Survey.{Survey, surveyOf}
 use Rattle.kriging_theory.specs.Areas.{Areas, areasOf}
 use Rattle.kriging_theory.specs.Fit.{fitted}
@@ -54,15 +54,15 @@ left c =
     areasOf (work .0) (work .1 .0) (work .1 .1 .0) (verdicts .0) (verdicts .1 .0) (verdicts .1 .1 .0) (verdicts .1 .1 .1 .0)
 
 -- how the fit ended
-ended : (c : tie.After-universal-kriging-fit) → outcomeOf (c .universal-kriging-fit .result) (left c) ≡ fitted base (survey-of c) ownAreas
+ended : (c : tie.After-universal-kriging-fit) → outcomeOf (c .universal-kriging-fit .result) (left c) ≡ fitted program (survey-of c) ownAreas
 unfolding ownAreas
 ended c = c .universal-kriging-fit .ensures .0
 
-done : (c : tie.After-enum-told) → let f = at-fit (c .before .before) in outcome 0 (left f) ≡ fitted base (survey-of f) ownAreas
+done : (c : tie.After-enum-told) → let f = at-fit (c .before .before) in outcome 0 (left f) ≡ fitted program (survey-of f) ownAreas
 done c = let f = at-fit (c .before .before) in ap (λ (r : Fit). outcomeOf r (left f)) (sym (c .enum-told .given .1)) ∙ ended f
 
 refused : (c : tie.After-fit) → let f = at-fit (c .before .before) in
-    outcome (numberOf (c .fit .given .0 .0)) (left f) ≡ fitted base (survey-of f) ownAreas
+    outcome (numberOf (c .fit .given .0 .0)) (left f) ≡ fitted program (survey-of f) ownAreas
 refused c = let f = at-fit (c .before .before) in ap (λ (r : Fit). outcomeOf r (left f)) (sym (c .fit .given .1)) ∙ ended f
 
 -- &mut work,

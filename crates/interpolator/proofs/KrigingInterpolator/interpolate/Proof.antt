@@ -14,7 +14,7 @@ use Rattle.elimination.specs.declared.Elimination.{Elimination}
 use Rattle.elimination.specs.declared.Elimination.the-variants.{Done, TooShort}
 use Rattle.elimination.specs.Elimination.{eliminated, outcomeOf}
 use Rattle.survey.specs.declared.Limits.{Limits}
-use Rattle.survey.specs.Limits.{base}
+use Rattle.survey.specs.Limits.{library}
 use Rattle.interpolator_theory.specs.Call.{Query, Areas, areasOf, size}
 use Rattle.interpolator.specs.Outcome.{queryOf, known}
 use Rattle.interpolator_theory.specs.Rules.{rules}
@@ -38,22 +38,22 @@ abbrev areas : tie.Start → Areas
 areas c = let a = c .args in areasOf (a .work .now) (a .figures .now) (a .variances .now)
 
 -- the promise, from the equation
-both : (c : tie.Start) (o : Outcome Areas) → o ≡ interpolated base (query c) (areas c)
-    → (o ≡ interpolated base (query c) (areas c)) × Promise base (query c) (areas c) o
-both c o e = (e, subst (Promise base (query c) (areas c)) (sym e) (promise base (query c) (areas c)))
+both : (c : tie.Start) (o : Outcome Areas) → o ≡ interpolated library (query c) (areas c)
+    → (o ≡ interpolated library (query c) (areas c)) × Promise library (query c) (areas c) o
+both c o e = (e, subst (Promise library (query c) (areas c)) (sym e) (promise library (query c) (areas c)))
 
 -- The states that the needs look back to, in the order of the code: a name takes a later state back to its own.
 abbrev at-start : tie.After-shared-slice-known3 → tie.Start
 at-start c = c .before .before .before
 
-abbrev at-lent : tie.After-base → tie.After-slice-known
+abbrev at-lent : tie.After-library → tie.After-slice-known
 at-lent c = c .before .before .before
 
-abbrev at-base : tie.After-interpolation-refusal-arg3 → tie.After-base
-at-base c = c .before .before .before
+abbrev at-library : tie.After-interpolation-refusal-arg3 → tie.After-library
+at-library c = c .before .before .before
 
 abbrev at-entry : tie.After-interpolation-refusal → tie.Start
-at-entry c = at-start (at-lent (at-base (c .before)) .before)
+at-entry c = at-start (at-lent (at-library (c .before)) .before)
 
 abbrev at-judged : tie.After-enum-told → tie.After-interpolation-refusal
 at-judged c = c .before .before
@@ -83,20 +83,20 @@ abbrev at-figures : tie.After-slice-known7 → tie.After-figures
 at-figures c = c .before .before .before
 
 -- the judgement is the call's
-refusal-is : (c : tie.After-interpolation-refusal) → let s = at-entry c in judged (c .interpolation-refusal .result) ≡ refusal base (query s) (areas s)
+refusal-is : (c : tie.After-interpolation-refusal) → let s = at-entry c in judged (c .interpolation-refusal .result) ≡ refusal library (query s) (areas s)
 refusal-is c =
     let s = at-entry c in
-    c .interpolation-refusal .ensures ∙ ap (λ (l : Limits). refusal l (query s) (areas s)) (at-base (c .before) .base .ensures)
+    c .interpolation-refusal .ensures ∙ ap (λ (l : Limits). refusal l (query s) (areas s)) (at-library (c .before) .library .ensures)
 
 -- and past it the call is known to have what no rule refuses
-none-given : (c : tie.After-enum-told) → let s = at-entry (at-judged c) in refusal base (query s) (areas s) ≡ 0
+none-given : (c : tie.After-enum-told) → let s = at-entry (at-judged c) in refusal library (query s) (areas s) ≡ 0
 none-given c = sym (refusal-is (at-judged c)) ∙ ap judged (c .enum-told .given .1)
 
-none-applies : (c : tie.After-enum-told) → let s = at-entry (at-judged c) in NoneApplies (rules base (query s) (areas s))
-none-applies c = let s = at-entry (at-judged c) in not-turned-away base (query s) (areas s) (none-given c)
+none-applies : (c : tie.After-enum-told) → let s = at-entry (at-judged c) in NoneApplies (rules library (query s) (areas s))
+none-applies c = let s = at-entry (at-judged c) in not-turned-away library (query s) (areas s) (none-given c)
 
 known-of : (c : tie.After-trend-terms) → let s = at-accepted c in Accepted (query s) (areas s)
-known-of c = let s = at-accepted c in accepted base (query s) (areas s) (none-applies (c .before))
+known-of c = let s = at-accepted c in accepted library (query s) (areas s) (none-applies (c .before))
 
 -- the size at hand is the system's
 abbrev size-of : tie.After-trend-terms → ℕ
@@ -127,9 +127,9 @@ entries : (c : tie.After-trend-terms) → let a = at-accepted c .args in
     entry (known (a .self) (a .values .now) (a .points .now) (a .d)) ≡ entry (query (at-accepted c))
 entries c = let a = at-accepted c .args in entry-unread (a .self) (a .values .now) (a .points .now) (a .targets .now) (a .d)
 
--- let judgement = refusals::interpolation_refusal(Limits::base(), ..);
-base-requires : tie.Need-base-requires
-base-requires c κs = search needs
+-- let judgement = refusals::interpolation_refusal(Limits::library(), ..);
+library-requires : tie.Need-library-requires
+library-requires c κs = search needs
 
 interpolation-refusal-requires : tie.Need-interpolation-refusal-requires
 interpolation-refusal-requires c κs = search needs
@@ -152,7 +152,7 @@ returns c =
     let j = c .before .judgement .given in
     let h = c .before .before .before in
     let s = at-entry h in
-    both s _ (turned-away base (query s) (areas s) (j .0 .0) (sym (ap judged (j .1)) ∙ refusal-is h))
+    both s _ (turned-away library (query s) (areas s) (j .0 .0) (sym (ap judged (j .1)) ∙ refusal-is h))
 
 enum-told : tie.Need-enum-told
 enum-told c = search needs
@@ -191,7 +191,7 @@ interpolate-points-requires c κs =
     let t = at-terms v in
     let s = at-accepted t in
     let k = known-of t in
-    let few = few-wells base (query s) (areas s) (none-applies (t .before)) in
+    let few = few-wells library (query s) (areas s) (none-applies (t .before)) in
     let terms = added-few (s .args .self .«kriging_type») in
     let own = at-table v .fraction-table .ensures in
     (sized t, k .surface, k .axes, omega (arith, few, terms, t .trend-terms .ensures), omega (arith, work-long t, kept-long v), k .figures, k .variances, own)
@@ -222,7 +222,7 @@ returns-2 c =
     let t = at-terms v in
     let s = at-accepted t in
     both s _
-    (gone-through base (query s) (areas s) (none-given (t .before)) (size-of t) (sized t) _ (entries t) _ (finished v)
+    (gone-through library (query s) (areas s) (none-given (t .before)) (size-of t) (sized t) _ (entries t) _ (finished v)
     (at-matrix v .build-covariance-matrix .ensures) _ _ (ended v Done (d .enum-told2 .given .1)) (p .interpolate-points .ensures))
 
 -- Interpolation::Refused(Refusal::Singular)
@@ -242,7 +242,7 @@ returns-3 c =
     let s = at-accepted t in
     let g = c .enum-told3 .given in
     both s _
-    (stopped-at base (query s) (areas s) (none-given (t .before)) (size-of t) (sized t) _ (entries t) _ (finished v)
+    (stopped-at library (query s) (areas s) (none-given (t .before)) (size-of t) (sized t) _ (entries t) _ (finished v)
     (at-matrix v .build-covariance-matrix .ensures) _ (ended v _ (g .1)))
 
 -- Interpolation::Refused(Refusal::WorkArea): never
@@ -261,14 +261,14 @@ returns-4 c =
     let t = at-terms v in
     let s = at-accepted t in
     absurd
-    (never-short base (query s) (areas s) (none-given (t .before)) (size-of t) (sized t) _ (entries t) _ (finished v)
+    (never-short library (query s) (areas s) (none-given (t .before)) (size-of t) (sized t) _ (entries t) _ (finished v)
     (at-matrix v .build-covariance-matrix .ensures) (ended v TooShort (c .enum-told4 .given .1)))
 
 pub interpolate-spec : {M : Type 1} → statement M
 interpolate-spec =
     tie.close
     (tie.spec
-    base-requires
+    library-requires
     interpolation-refusal-requires
     enum-known-judgement
     same-length

@@ -6,7 +6,7 @@ use Rattle.error.specs.Outcome.{Outcome, outcome}
 use Rattle.variogram.specs.declared.Variogram.{Variogram}
 use Rattle.variogram.specs.declared.VariogramModel.{VariogramModel}
 use Rattle.survey.specs.declared.UniversalKrigingOptions.{UniversalKrigingOptions}
-use Rattle.survey.specs.Limits.{base}
+use Rattle.survey.specs.Limits.{library}
 use Rattle.survey.specs.Survey.{surveyOf}
 use Rattle.kriging_theory.specs.Areas.{Areas, areasOf}
 use Rattle.kriging_theory.specs.Fit.{fitted}
@@ -60,7 +60,7 @@ abbrev with-variogram : tie.Start → Variogram → Outcome Areas
 with-variogram c v =
     let a = c .args in
     let options : UniversalKrigingOptions = record { variogram = v; regularization = a .regularization } in
-    fitted base
+    fitted library
     (surveyOf (a .values .now) (a .coords .now) (a .bases .now) (a .external .now) options (a .nodes .now) (a .node-external .now) (a .tolerance))
     (lent c)
 

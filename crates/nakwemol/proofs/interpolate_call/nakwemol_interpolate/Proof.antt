@@ -5,7 +5,7 @@ use borrow.Author.Needs.{needs}
 use Rattle.error.specs.Outcome.{Outcome, outcome}
 use Rattle.variogram.specs.declared.Variogram.{Variogram}
 use Rattle.variogram.specs.declared.VariogramModel.{VariogramModel}
-use Rattle.survey.specs.Limits.{base}
+use Rattle.survey.specs.Limits.{library}
 use Rattle.interpolator_theory.specs.declared.KrigingType.{KrigingType}
 use Rattle.interpolator_theory.specs.Call.{Areas, areasOf}
 use Rattle.interpolator_theory.specs.Interpolation.{interpolated}
@@ -47,7 +47,7 @@ away c = let a = c .args in outcome unknownCode (areasOf (a .work .now) (a .figu
 abbrev by-interpolator : tie.Start → KrigingInterpolator → Outcome Areas
 by-interpolator c k =
     let a = c .args in
-    interpolated base (queryOf k (a .values .now) (a .points .now) (a .targets .now) (a .d)) (areasOf (a .work .now) (a .figures .now) (a .variances .now))
+    interpolated library (queryOf k (a .values .now) (a .points .now) (a .targets .now) (a .d)) (areasOf (a .work .now) (a .figures .now) (a .variances .now))
 
 abbrev with-model : tie.Start → KrigingType → VariogramModel → Outcome Areas
 with-model c t m = let a = c .args in by-interpolator c (interpolator t (variogramOf m (a .nugget) (a .sill) (a .range) (a .same-spot)))

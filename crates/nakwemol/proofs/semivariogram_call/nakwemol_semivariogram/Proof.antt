@@ -2,7 +2,7 @@
 use Prim.Native.Nat.{ℕ}
 use mathlib.Core.Path.{_≡_, ap, _∙_}
 use borrow.Author.Needs.{needs}
-use Rattle.survey.specs.Limits.{base}
+use Rattle.survey.specs.Limits.{library}
 use Rattle.semivariogram_theory.specs.Call.{Areas, Outcome, samplesOf, areasOf}
 use Rattle.semivariogram_theory.specs.Semivariogram.{calculated}
 use Rattle.semivariogram.specs.declared.Semivariogram.{Semivariogram}
@@ -28,7 +28,7 @@ at-call c =
 abbrev behind : tie.Start → Outcome
 behind c =
     let a = c .args in
-    calculated base (samplesOf (a .points .now) (a .values .now) (a .d) (a .n-bins)) (areasOf (a .distances .now) (a .semivariances .now) (a .counts .now))
+    calculated library (samplesOf (a .points .now) (a .values .now) (a .d) (a .n-bins)) (areasOf (a .distances .now) (a .semivariances .now) (a .counts .now))
 
 abbrev left : tie.After-calculate → Areas
 left c = let distances = c .calculate .last .1 .1 .1 .1 in areasOf (distances .0) (distances .1 .0) (distances .1 .1 .0)

@@ -2,7 +2,7 @@
 use mathlib.Core.Path.{_≡_, ap, sym, _∙_}
 use Rattle.error.specs.Numbers.{judged}
 use Rattle.survey.specs.declared.Limits.{Limits}
-use Rattle.survey.specs.Limits.{base}
+use Rattle.survey.specs.Limits.{library}
 use Rattle.semivariogram_theory.specs.Call.{Samples, Areas, samplesOf, areasOf}
 use Rattle.semivariogram_theory.specs.Refusals.{refusal}
 use Rattle.semivariogram.proofs.Whole.{refused-is, done-is, has-ends}
@@ -21,11 +21,11 @@ lent c = let a = c .args in areasOf (a .distances .now) (a .semivariances .now) 
 abbrev known-lists : tie.After-slice-known3 → tie.After-shared-slice-known2
 known-lists c = c .before .before .before
 
-abbrev at-base : tie.After-calculate-refusal → tie.After-base
-at-base c = let d = c .before .before in d .before .before
+abbrev at-library : tie.After-calculate-refusal → tie.After-library
+at-library c = let d = c .before .before in d .before .before
 
 abbrev at-entry : tie.After-calculate-refusal → tie.Start
-at-entry c = known-lists (at-base c .before) .before .before
+at-entry c = known-lists (at-library c .before) .before .before
 
 abbrev at-refusal : tie.After-enum-told → tie.After-calculate-refusal
 at-refusal c = c .before .before
@@ -33,18 +33,18 @@ at-refusal c = c .before .before
 abbrev at-kept : tie.After-slice-known6 → tie.After-kept-bins
 at-kept c = let d = c .before .before .before in d .before .before .before
 
--- the judgement is that of the base
-judged-is : (c : tie.After-calculate-refusal) → judged (c .calculate-refusal .result) ≡ refusal base (taken (at-entry c)) (lent (at-entry c))
+-- the judgement is that of the library
+judged-is : (c : tie.After-calculate-refusal) → judged (c .calculate-refusal .result) ≡ refusal library (taken (at-entry c)) (lent (at-entry c))
 judged-is c =
     let s = at-entry c in
-    c .calculate-refusal .ensures ∙ ap (λ (l : Limits). refusal l (taken s) (lent s)) (at-base c .base .ensures)
+    c .calculate-refusal .ensures ∙ ap (λ (l : Limits). refusal l (taken s) (lent s)) (at-library c .library .ensures)
 
-no-refusal : (c : tie.After-enum-told) → let s = at-entry (at-refusal c) in refusal base (taken s) (lent s) ≡ 0
+no-refusal : (c : tie.After-enum-told) → let s = at-entry (at-refusal c) in refusal library (taken s) (lent s) ≡ 0
 no-refusal c = sym (judged-is (at-refusal c)) ∙ ap judged (c .enum-told .given .1)
 
--- let limits = Limits::base();
-base-requires : tie.Need-base-requires
-base-requires c κs = search needs
+-- let limits = Limits::library();
+library-requires : tie.Need-library-requires
+library-requires c κs = search needs
 
 -- let judgement = calculate_refusal(
 calculate-refusal-requires : tie.Need-calculate-refusal-requires
@@ -69,7 +69,7 @@ returns c =
     let g = c .before .judgement .given in
     let h = c .before .before .before in
     let s = at-entry h in
-    has-ends base (taken s) (lent s) _ (refused-is base (taken s) (lent s) (g .0 .0) (sym (ap judged (g .1)) ∙ judged-is h))
+    has-ends library (taken s) (lent s) _ (refused-is library (taken s) (lent s) (g .0 .0) (sym (ap judged (g .1)) ∙ judged-is h))
 
 enum-told : tie.Need-enum-told
 enum-told c = search needs
@@ -93,13 +93,13 @@ returns-2 c =
     let w = at-kept c in
     let t = w .before .before .before .before in
     let s = at-entry (at-refusal t) in
-    has-ends base (taken s) (lent s) _ (done-is base (taken s) (lent s) _ _ (no-refusal t) (w .kept-bins .ensures .0) (w .kept-bins .ensures .1))
+    has-ends library (taken s) (lent s) _ (done-is library (taken s) (lent s) _ _ (no-refusal t) (w .kept-bins .ensures .0) (w .kept-bins .ensures .1))
 
 pub calculate-spec : {M : Type 1} → statement M
 calculate-spec =
     tie.close
     (tie.spec
-    base-requires
+    library-requires
     calculate-refusal-requires
     enum-known-judgement
     same-length
