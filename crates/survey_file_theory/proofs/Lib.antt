@@ -2,6 +2,7 @@ pub mod Told
 pub mod Finite
 pub mod WellFormed
 pub mod Lists
+pub mod Version
 pub mod ReadBack
 pub mod Lengths
 pub mod Reader
