@@ -8,6 +8,7 @@ pub mod Lengths
 pub mod Reader
 pub mod Writer
 pub mod RoundTrip
+pub mod BothVersions
 pub mod Changes
 pub mod Sounding
 pub mod Cases

@@ -26,7 +26,7 @@ use Rattle.survey_file_theory.proofs.Version.{written-taken, version-by
 
 -- ---- the trailer, field by field
 module _ (newest start : ℕ) (s : Survey) where
-  length-trailer : length (trailer newest start s) ≡ 14
+  pub length-trailer : length (trailer newest start s) ≡ 14
   unfolding trailer
   length-trailer = refl
 
@@ -50,7 +50,7 @@ module _ (newest start : ℕ) (s : Survey) where
   unfolding trailer
   trailer-model = refl
 
-  trailer-version : getD (trailer newest start s) 11 0 ≡ versionFor newest (wells s)
+  pub trailer-version : getD (trailer newest start s) 11 0 ≡ versionFor newest (wells s)
   unfolding trailer
   trailer-version = refl
 
