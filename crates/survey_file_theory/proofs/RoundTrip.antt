@@ -123,8 +123,8 @@ pub round-trip-whole : (newest : ℕ) (s : Survey) (area : List ℕ) (count : �
 round-trip-whole newest s area count e fit h = round-trip newest s area count e fit ∙ ap {B = Option Survey} some (nothing-ignored s h)
 
 -- ---- and through the reader's call, with areas that have room for the lists
-reading-back : (newest : ℕ) (s : Survey) (bytes : List ℕ) (areas : Areas) → WellFormed newest bytes → Counts s bytes → surveyIn bytes ≡ withoutIgnored s → Holds s areas
-    → reader newest bytes areas ≡ answerOf s areas
+reading-back : (newest : ℕ) (s : Survey) (bytes : List ℕ) (areas : Areas) → WellFormed newest bytes → Counts s bytes
+    → surveyIn bytes ≡ withoutIgnored s → Holds s areas → reader newest bytes areas ≡ answerOf s areas
 unfolding Reader.callWhere
 reading-back newest s bytes areas w c e h =
     let room : ListsFit bytes areas =
@@ -146,5 +146,6 @@ round-trip-call newest s area count e fit areas h =
     let w = wrote newest s area count e in
     let f = filable newest s area fit (w .can) in
     let most = w .can .size in
+    let well = file-well-formed newest [] s f most (w .can .few-wells) in
     ap (λ (b : List ℕ). reader newest b areas) (w .bytes)
-    ∙ reading-back newest s (fileOf newest [] s) areas (file-well-formed newest [] s f most (w .can .few-wells)) (file-counts newest [] s f most) (file-survey newest [] s f most) h
+    ∙ reading-back newest s (fileOf newest [] s) areas well (file-counts newest [] s f most) (file-survey newest [] s f most) h

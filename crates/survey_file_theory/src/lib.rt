@@ -4,6 +4,7 @@ use survey::UniversalKrigingOptions;
 
 // The versions that a file can have.
 pub const OLD_VERSION: u8 = 1;
+
 pub const NEWEST_VERSION: u8 = 2;
 
 // The most wells of a survey that is written with the old version; above, it is the newest. specs/File has all three for the contracts.

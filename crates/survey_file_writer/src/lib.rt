@@ -19,7 +19,8 @@ ghost use Rattle.survey_file_theory.specs.Reader.{reader, answerOf};
 ghost use Rattle.survey_file_theory.specs.Writer.{outcomeOf, writer, Ends};
 
 // Writes a survey as a file, with no note, and says how many bytes it has: values and coordinates of n wells, basis codes, external values column after
-// column, m nodes with theirs node after node. A file has no place for the same-spot distance: any but 2^-52 is refused by 22.
+// column, m nodes with theirs node after node. A file has no place for the same-spot distance: any but 2^-52 is refused by 22. Up to 48 wells its version is 1,
+// above 2, and more than the library takes are refused by 16.
 pub fn write_survey(
     values: &[f64],
     coords: &[f64],

@@ -54,7 +54,8 @@ lengths-differ-requires c κs = search needs
 returns-3 : tie.Need-returns-3
 returns-3 c =
     let h = c .before in
-    sym (past-2 (h .before) ∙ one (wrongEnding newestVersion (entry-1 (h .before .before) .args .bytes .now)) (sym (h .lengths-differ .ensures) ∙ c .if3 .taken))
+    let xs = entry-1 (h .before .before) .args .bytes .now in
+    sym (past-2 (h .before) ∙ one (wrongEnding newestVersion xs) (sym (h .lengths-differ .ensures) ∙ c .if3 .taken))
 
 -- has_wrong_ending(bytes)
 has-wrong-ending-requires : tie.Need-has-wrong-ending-requires
