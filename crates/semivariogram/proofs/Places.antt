@@ -1,5 +1,5 @@
 -- The numbers of the pairs in a list, each at its pair's place in their order, as code writes and reads them: sample after sample.
-use Prim.Native.Nat.{ℕ, zero, suc, _+_, _-_, _*_, _≤_, _<_}
+use Prim.Native.Nat.{ℕ, zero, suc, _+_, _-_, _*_, _/_, _≤_, _<_}
 use native.Mathlib.Nat.{mul-le-mul, mul-suc}
 use native.Mathlib.Numerals.{add-one}
 use native.Mathlib.Decide.{decLt}
@@ -9,25 +9,31 @@ use mathlib.Core.List.{List, [], _∷_, _++_}
 use lib.ListN.{length, getD, set, drop, length-drop}
 use lib.Seq.{drop-cons, getD-set-same, getD-set-other}
 use lib.Ieee.{Float, nan}
-use Rattle.survey.specs.Limits.{library}
+use Rattle.survey.specs.Limits.{library, program}
 use Rattle.semivariogram_theory.specs.Pairs.{Pair, pair, pairsFrom, pairs}
 use Rattle.semivariogram_theory.proofs.Pairs.{twice}
-use Rattle.semivariogram.specs.Parts.{mostPairs, Reached, Stored}
+use Rattle.semivariogram.specs.Parts.{mostPairs, fewPairs, Reached, Stored}
 use Rattle.semivariogram.proofs.Passes.{laterFrom, next-sample, no-sample, next-later, no-later, all-pairs}
 
 -- the pairs of 96 samples
 pub most-pairs : mostPairs ≡ 4560
 most-pairs = refl
 
--- fewer samples than the most have no more pairs
-pub few-pairs : (n : ℕ) → n ≤ library .wells → length (pairs n) ≤ mostPairs
+-- fewer samples than so many have no more pairs
+pairs-rise : (n most : ℕ) → n ≤ most → length (pairs n) ≤ most * (most - 1) / 2
 unfolding pairs
-few-pairs zero h = let t = twice 0 0 in omega arith
-few-pairs (suc m) h =
-    let l : m ≤ library .wells - 1 = omega arith in
-    let k : suc m * m ≤ library .wells * (library .wells - 1) = mul-le-mul h l in
+pairs-rise zero most h = let t = twice 0 0 in omega arith
+pairs-rise (suc m) most h =
+    let l : m ≤ most - 1 = omega arith in
+    let k : suc m * m ≤ most * (most - 1) = mul-le-mul h l in
     let s : suc m * suc m ≡ suc m * m + suc m = mul-suc (suc m) m in
     omega (arith, twice 0 (suc m))
+
+pub few-pairs : (n : ℕ) → n ≤ library .wells → length (pairs n) ≤ mostPairs
+few-pairs n h = pairs-rise n (library .wells) h
+
+pub fewer-pairs : (n : ℕ) → n ≤ program .wells → length (pairs n) ≤ fewPairs
+fewer-pairs n h = pairs-rise n (program .wells) h
 
 module _ (all : List Pair) where
   -- the pair at a place where it is the next

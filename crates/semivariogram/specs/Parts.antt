@@ -11,7 +11,7 @@ use Rattle.ieee.specs.Floats.{zeroFloat, floorOf}
 use Rattle.ieee.specs.Root.{sqrtOf}
 use Rattle.ieee.specs.Values.{Signed}
 use Rattle.variogram.specs.Distance.{squares, axisFrom}
-use Rattle.survey.specs.Limits.{library}
+use Rattle.survey.specs.Limits.{library, program}
 use Rattle.semivariogram_theory.specs.Pairs.{Pair, pair, pairs}
 use Rattle.semivariogram_theory.specs.Call.{Samples, samples}
 use Rattle.semivariogram_theory.specs.Refusals.{mostBins}
@@ -20,6 +20,10 @@ use Rattle.semivariogram_theory.specs.Bins.{countIn, sumIn, count}
 -- "i < j": of the most samples, "n > 96" being refused, so many pairs
 abbrev pub mostPairs : ℕ
 mostPairs = library .wells * (library .wells - 1) / 2
+
+-- and of as many samples as the program takes of wells
+abbrev pub fewPairs : ℕ
+fewPairs = program .wells * (program .wells - 1) / 2
 
 -- what is known of a call that is not refused
 pub record Taken (q : Samples) : Type 0 where

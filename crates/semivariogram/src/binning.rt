@@ -8,7 +8,7 @@ ghost use lib.Ieee.{toUnsigned};
 ghost use Rattle.semivariogram_theory.specs.Pairs.{pairsFrom, pairs};
 ghost use Rattle.semivariogram_theory.specs.Call.{Samples, samplesOf, areasOf};
 ghost use Rattle.semivariogram_theory.specs.Bins.{width, keptBins, filled};
-ghost use Rattle.semivariogram.specs.Parts.{mostPairs, Taken, squareIn, Reached, Stored, binAt, Bounds, Left};
+ghost use Rattle.semivariogram.specs.Parts.{Taken, squareIn, Reached, Stored, binAt, Bounds, Left};
 
 // x as a whole number, as the Rust's cast has it at every x: without its fraction, 0 for a NaN and below zero, and the greatest there is where x is above that.
 fn as_usize(x: f64) -> usize
@@ -53,7 +53,7 @@ fn add_later(
     bin_counts: &mut [usize],
 )
     requires { ⌜ («n_bins» ≤ length (now «bin_sums»)) × («n_bins» ≤ length (now «bin_counts»))
-        × (bounded ≤ length (now lows)) × (bounded ≤ length (now highs)) × (length (now squares) ≡ mostPairs)
+        × (bounded ≤ length (now lows)) × (bounded ≤ length (now highs)) × (length (pairs (length (now values))) ≤ length (now squares))
         × (i < length (now values)) × Taken (samplesOf (now points) (now values) d «n_bins»)
         × («bin_width» ≡ width (samplesOf (now points) (now values) d «n_bins»)) × Bounds «bin_width» «n_bins» bounded (now lows) (now highs)
         × Stored (squareIn (now points) d) (pairs (length (now values))) (length (pairs (length (now values)))) (now squares)
@@ -102,7 +102,7 @@ pub(crate) fn add_pairs(
     bin_counts: &mut [usize],
 )
     requires { ⌜ («n_bins» ≤ length (now «bin_sums»)) × («n_bins» ≤ length (now «bin_counts»))
-        × (bounded ≤ length (now lows)) × (bounded ≤ length (now highs)) × (length (now squares) ≡ mostPairs)
+        × (bounded ≤ length (now lows)) × (bounded ≤ length (now highs)) × (length (pairs (length (now values))) ≤ length (now squares))
         × Taken (samplesOf (now points) (now values) d «n_bins»)
         × («bin_width» ≡ width (samplesOf (now points) (now values) d «n_bins»)) × Bounds «bin_width» «n_bins» bounded (now lows) (now highs)
         × Stored (squareIn (now points) d) (pairs (length (now values))) (length (pairs (length (now values)))) (now squares)

@@ -7,7 +7,7 @@ ghost use Rattle.ieee.specs.Floats.{zeroFloat};
 ghost use Rattle.survey.specs.Limits.{library};
 ghost use Rattle.semivariogram_theory.specs.Pairs.{pair, rising, pairsFrom, pairs};
 ghost use Rattle.semivariogram_theory.specs.Bins.{greatest};
-ghost use Rattle.semivariogram.specs.Parts.{mostPairs, squareIn, Reached, Stored};
+ghost use Rattle.semivariogram.specs.Parts.{squareIn, Reached, Stored};
 
 // The squared distances of the point i from each later one, from the place `at` on, and the greatest of them and of `most`.
 fn squares_from(
@@ -19,7 +19,7 @@ fn squares_from(
     most: f64,
     squares: &mut [f64],
 ) -> f64
-    requires { ⌜ (i < n) × (n ≤ library .wells) × (length (now points) ≡ n * d) × (length (now squares) ≡ mostPairs)
+    requires { ⌜ (i < n) × (n ≤ library .wells) × (length (now points) ≡ n * d) × (length (pairs n) ≤ length (now squares))
         × Reached (pairs n) (pairsFrom i (n - i)) at × Stored (squareIn (now points) d) (pairs n) at (now squares) ⌝ }
     ensures { λ r. ⌜ (r ≡ greatest most (map (squareIn (now (points .entry)) d) (map (pair i) (rising (suc i) (n - suc i)))))
         × Reached (pairs n) (pairsFrom (suc i) (n - suc i)) (at + (n - suc i))
@@ -38,7 +38,7 @@ fn squares_from(
 
 // The squared distances of n points, and the greatest of them, from +0 on, below which none is.
 pub(crate) fn all_squares(points: &[f64], n: usize, d: usize, squares: &mut [f64]) -> f64
-    requires { ⌜ (n ≤ library .wells) × (length (now points) ≡ n * d) × (length (now squares) ≡ mostPairs) ⌝ }
+    requires { ⌜ (n ≤ library .wells) × (length (now points) ≡ n * d) × (length (pairs n) ≤ length (now squares)) ⌝ }
     ensures { λ r. ⌜ (r ≡ greatest zeroFloat (map (squareIn (now (points .entry)) d) (pairs n)))
         × Stored (squareIn (now (points .entry)) d) (pairs n) (length (pairs n)) (now (squares .exit)) ⌝ }
 {

@@ -14,18 +14,24 @@ use error::Judgement;
 use error::Refusal;
 use survey::Limits;
 use survey::MOST_WELLS;
+use survey::PROGRAM_WELLS;
 ghost use mathlib.Core.Path.{_≡_};
+ghost use Prim.Native.Nat.{_≤_};
 ghost use lib.ListN.{length};
 ghost use Rattle.survey.specs.Limits.{library};
 ghost use Rattle.semivariogram_theory.specs.Refusals.{refusal};
 ghost use Rattle.semivariogram_theory.specs.Bins.{keptBins, filled};
 ghost use Rattle.semivariogram_theory.specs.Call.{samplesOf, areasOf};
+ghost use Rattle.semivariogram_theory.specs.Pairs.{pairs};
 ghost use Rattle.semivariogram.specs.Outcome.{outcomeOf};
 ghost use Rattle.semivariogram_theory.specs.Semivariogram.{calculated};
 ghost use Rattle.semivariogram_theory.specs.Binned.{Ends};
 
 // The pairs of the most samples.
 const MOST_PAIRS: usize = MOST_WELLS * (MOST_WELLS - 1) / 2;
+
+// The pairs of as many samples as the program takes of wells: most calls have no more, and need a quarter of the room.
+const FEW_PAIRS: usize = PROGRAM_WELLS * (PROGRAM_WELLS - 1) / 2;
 
 // How a call of the calculator ends.
 pub enum Semivariogram {
@@ -35,24 +41,25 @@ pub enum Semivariogram {
     Refused(Refusal),
 }
 
-// The bins of a call that is not refused: the kept ones to the answer areas, and how many they are.
-fn kept_bins(
+// The bins of a call that is not refused, with room for the squared distances of its pairs: the kept ones to the answer areas, and how many they are.
+fn bins_with(
     points: &[f64],
     values: &[f64],
     d: usize,
     n_bins: usize,
+    squares: &mut [f64],
     distances: &mut [f64],
     semivariances: &mut [f64],
     counts: &mut [usize],
 ) -> usize
-    requires { ⌜ refusal library (samplesOf (now points) (now values) d «n_bins») (areasOf (now distances) (now semivariances) (now counts)) ≡ 0 ⌝ }
+    requires { ⌜ (refusal library (samplesOf (now points) (now values) d «n_bins») (areasOf (now distances) (now semivariances) (now counts)) ≡ 0)
+        × (length (pairs (length (now values))) ≤ length (now squares)) ⌝ }
     ensures { λ r. ⌜ (r ≡ length (keptBins (samplesOf (now (points .entry)) (now (values .entry)) d «n_bins»)))
         × (areasOf (now (distances .exit)) (now (semivariances .exit)) (now (counts .exit))
         ≡ filled (samplesOf (now (points .entry)) (now (values .entry)) d «n_bins»)
         (areasOf (now (distances .entry)) (now (semivariances .entry)) (now (counts .entry)))) ⌝ }
 {
-    let mut squares = [0.0; MOST_PAIRS];
-    let max_sq = all_squares(points, values.len(), d, &mut squares);
+    let max_sq = all_squares(points, values.len(), d, squares);
     let max_dist = ieee::sqrt(max_sq);
     let bin_width = max_dist / std::num::nearest_u64_to_f64(n_bins as u64);
     let mut lows = [0.0; MOST_BINS];
@@ -73,7 +80,7 @@ fn kept_bins(
         d,
         n_bins,
         bin_width,
-        &squares,
+        squares,
         bounded,
         &lows,
         &highs,
@@ -85,6 +92,49 @@ fn kept_bins(
         n_bins,
         &bin_sums,
         &bin_counts,
+        distances,
+        semivariances,
+        counts,
+    )
+}
+
+// The bins of a call that is not refused. Zeros are laid out for the squares of its pairs, which for all pairs of the most samples would take as long as few
+// samples need for all the rest.
+fn kept_bins(
+    points: &[f64],
+    values: &[f64],
+    d: usize,
+    n_bins: usize,
+    distances: &mut [f64],
+    semivariances: &mut [f64],
+    counts: &mut [usize],
+) -> usize
+    requires { ⌜ refusal library (samplesOf (now points) (now values) d «n_bins») (areasOf (now distances) (now semivariances) (now counts)) ≡ 0 ⌝ }
+    ensures { λ r. ⌜ (r ≡ length (keptBins (samplesOf (now (points .entry)) (now (values .entry)) d «n_bins»)))
+        × (areasOf (now (distances .exit)) (now (semivariances .exit)) (now (counts .exit))
+        ≡ filled (samplesOf (now (points .entry)) (now (values .entry)) d «n_bins»)
+        (areasOf (now (distances .entry)) (now (semivariances .entry)) (now (counts .entry)))) ⌝ }
+{
+    if values.len() <= PROGRAM_WELLS {
+        let mut squares = [0.0; FEW_PAIRS];
+        return bins_with(
+            points,
+            values,
+            d,
+            n_bins,
+            &mut squares,
+            distances,
+            semivariances,
+            counts,
+        );
+    }
+    let mut squares = [0.0; MOST_PAIRS];
+    bins_with(
+        points,
+        values,
+        d,
+        n_bins,
+        &mut squares,
         distances,
         semivariances,
         counts,

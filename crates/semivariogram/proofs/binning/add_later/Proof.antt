@@ -67,11 +67,12 @@ here c =
     let l = c .before .loop in
     here-of (length (a .values .now)) (a .i) (l .j) _ (l .place) (omega (arith, c .loop-test .taken, l .inv .1)) (l .inv .6)
 
-place-inside : (c : State tie.In-loop) → c .before .loop .place < mostPairs
-place-inside c =
-    let s = at-entry (c .before) in
-    let n = length (s .args .values .now) in
-    omega (arith, is-next (pairs n) _ _ (c .before .loop .place) (here c) .0, few-pairs n (s .pre .6 .few))
+-- its place is one of a pair, and a word holds it
+place-inside : (c : State tie.In-loop) → c .before .loop .place < length (pairs (length (at-entry (c .before) .args .values .now)))
+place-inside c = is-next (pairs (length (at-entry (c .before) .args .values .now))) _ _ (c .before .loop .place) (here c) .0
+
+place-fits : (c : State tie.In-loop) → c .before .loop .place < mostPairs
+place-fits c = let s = at-entry (c .before) in omega (arith, place-inside c, few-pairs (length (s .args .values .now)) (s .pre .6 .few))
 
 square-of : (c : State tie.In-loop) → let s = at-entry (c .before) in let a = s .args in let l = c .before .loop in
     getD (a .squares .now) (l .place) nan ≡ squareIn (a .points .now) (a .d) (pair (a .i) (l .j))
@@ -130,7 +131,7 @@ loop-holds c =
     )
 
 mul-dist-sq : tie.Need-mul-dist-sq Inv-loop μ-loop
-mul-dist-sq c = omega (arith, place-inside c)
+mul-dist-sq c = omega (arith, place-fits c)
 
 shared-slice-read-dist-sq : tie.Need-shared-slice-read-dist-sq Inv-loop μ-loop
 shared-slice-read-dist-sq c = omega (arith, place-inside (c .before), at-entry (c .before .before) .pre .4)
@@ -194,7 +195,7 @@ slice-write-bin-counts : tie.Need-slice-write-bin-counts Inv-loop μ-loop
 slice-write-bin-counts c = count-inside (at-bin c)
 
 add-place : tie.Need-add-place Inv-loop μ-loop
-add-place c = omega (arith, place-inside (at-turn (at-bin c)))
+add-place c = omega (arith, place-fits (at-turn (at-bin c)))
 
 add-j-2 : tie.Need-add-j-2 Inv-loop μ-loop
 add-j-2 c = omega (arith, at-turn (at-bin c) .loop-test .taken)

@@ -52,7 +52,7 @@ squares-from-requires c κs =
     let l = c .before .before in
     let s = at-entry l in
     let v = l .loop .inv in
-    (c .before .loop-test .taken, s .pre .0, s .pre .1, v .1 ∙ s .pre .2, v .3, v .4)
+    (c .before .loop-test .taken, s .pre .0, s .pre .1, omega (arith, v .1, s .pre .2), v .3, v .4)
 
 sub-at : tie.Need-sub-at Inv-loop μ-loop
 sub-at c = omega arith

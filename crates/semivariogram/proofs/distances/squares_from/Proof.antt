@@ -37,10 +37,12 @@ here : (c : State tie.In-loop) → let a = at-entry (c .before) .args in let l =
     Reached (pairs (a .n)) (pair (a .i) (l .j) ∷ (laterFrom (a .i) (suc (l .j)) (a .n) ++ pairsFrom (suc (a .i)) (a .n - suc (a .i)))) (l .place)
 here c = let a = at-entry (c .before) .args in let l = c .before .loop in here-of (a .n) (a .i) (l .j) _ (l .place) (c .loop-test .taken) (l .inv .5)
 
-place-inside : (c : State tie.In-loop) → c .before .loop .place < mostPairs
-place-inside c =
-    let s = at-entry (c .before) in
-    omega (arith, is-next (pairs (s .args .n)) _ _ (c .before .loop .place) (here c) .0, few-pairs (s .args .n) (s .pre .1))
+-- its place is one of a pair, and a word holds it
+place-inside : (c : State tie.In-loop) → c .before .loop .place < length (pairs (at-entry (c .before) .args .n))
+place-inside c = is-next (pairs (at-entry (c .before) .args .n)) _ _ (c .before .loop .place) (here c) .0
+
+place-fits : (c : State tie.In-loop) → c .before .loop .place < mostPairs
+place-fits c = let s = at-entry (c .before) in omega (arith, place-inside c, few-pairs (s .args .n) (s .pre .1))
 
 rows : (c : State tie.In-loop) → let a = at-entry (c .before) .args in
     (a .i * a .d + a .d ≤ length (a .points .now)) × (c .before .loop .j * a .d + a .d ≤ length (a .points .now))
@@ -69,7 +71,7 @@ sum-of-squares-requires : tie.Need-sum-of-squares-requires Inv-loop μ-loop
 sum-of-squares-requires c κs = search needs
 
 mul-squares : tie.Need-mul-squares Inv-loop μ-loop
-mul-squares c = omega (arith, place-inside (c .before))
+mul-squares c = omega (arith, place-fits (c .before))
 
 slice-write-squares : tie.Need-slice-write-squares Inv-loop μ-loop
 slice-write-squares c = let l = c .before .before in omega (arith, place-inside (c .before), l .loop .inv .2, at-entry l .pre .3)
@@ -78,7 +80,7 @@ max-requires : tie.Need-max-requires Inv-loop μ-loop
 max-requires c κs = search needs
 
 add-place : tie.Need-add-place Inv-loop μ-loop
-add-place c = omega (arith, place-inside (c .before .before))
+add-place c = omega (arith, place-fits (c .before .before))
 
 add-j-2 : tie.Need-add-j-2 Inv-loop μ-loop
 add-j-2 c = omega arith
