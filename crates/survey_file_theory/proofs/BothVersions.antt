@@ -188,9 +188,10 @@ by-file newest s area = ends-with (writerRefusal newest s area) newest s area
 pub old-writer : (s : Survey) (area : List ℕ) → wells s ≤ 48 → writer newestVersion s area ≡ writer oldVersion s area
 old-writer s area h =
     let file = up-to-48 s h in
-    let many : ltb 96 (wells s) ≡ ltb 65535 (wells s) = refute (below 96 (wells s)) (λ l. omega arith) ∙ sym (refute (below 65535 (wells s)) (λ l. omega arith)) in
+    let many : ltb 96 (wells s) ≡ false = refute (below 96 (wells s)) (λ l. omega arith) in
+    let more : ltb 65535 (wells s) ≡ false = refute (below 65535 (wells s)) (λ l. omega arith) in
     by-file newestVersion s area
-    ∙ (λ i. endsWith (firstOf (testsOf s (file i) (many i) area)) (file i) area)
+    ∙ (λ i. endsWith (firstOf (testsOf s (file i) ((many ∙ sym more) i) area)) (file i) area)
     ∙ sym (by-file oldVersion s area)
 
 -- ---- "The writer refuses n > 96 by 16", whatever the area is, if none of 1, 2, 6, 8, 11 and 22 applies
