@@ -1,31 +1,37 @@
 -- Paper 02, slip 7, word by word: what old and new readers take of what old and new writers write, and the version by its place in the file.
-use Prim.Native.Nat.{ℕ, _+_, _-_, _≤_, _<_}
+use Prim.Native.Nat.{ℕ, zero, suc, _+_, _-_, _≤_, _<_}
 use native.Mathlib.Omega.{arith}
 use mathlib.Core.Path.{_≡_, refl, ap, sym, _∙_}
-use mathlib.Core.Logic.{inl}
+use mathlib.Core.Logic.{_≢_, _⊎_, inl, inr}
 use mathlib.Core.Bool.{Bool, true, false, not, _||_}
 use mathlib.Core.List.{List, [], _∷_, _++_}
 use mathlib.Core.Option.{none, some}
 use lib.Dec.{eqb, ltb}
-use lib.ListN.{length, getD, take, drop, length-append}
+use lib.ListN.{length, getD, take, length-append}
 use lib.Seq.{drop-at, getD-drop}
-use Rattle.error.specs.Tests.{test, firstOf}
+use Rattle.area.specs.Area.{copied}
+use Rattle.error.specs.Tests.{Test, test, firstOf}
 use Rattle.error.specs.Short.{tooShort}
 use Rattle.error.proofs.Tells.{refute, below}
 use Rattle.ieee.specs.Bytes.{littleEndian}
 use Rattle.survey.specs.Survey.{Survey, wells, nodeCount}
-use Rattle.survey_file_theory.specs.File.{oldVersion, newestVersion, versionTaken, versionFor, modelNumber, body, trailer, fileOf, writerFile}
+use Rattle.survey.specs.Refusals.{wrongCoords, oddNodes, wrongExternal, wrongNodeExternal}
+use Rattle.survey.specs.Rules.{WrongCoords, OddNodes, WrongExternal, WrongNodeExternal}
+use Rattle.survey_file_theory.specs.File.{longestFile, greatestCount, mostWells, oldVersion, newestVersion, versionTaken, versionFor}
+use Rattle.survey_file_theory.specs.File.{modelNumber, body, trailer, fileOf, writerFile}
 use Rattle.survey_file_theory.specs.Areas.{Areas, listAreas}
-use Rattle.survey_file_theory.specs.Trailer.{lengthIn, modelIn, versionIn, zeroIn, lastZeroIn}
-use Rattle.survey_file_theory.specs.Rules.{WellFormed}
-use Rattle.survey_file_theory.specs.Refusals.{malformed, readerRefusal}
-use Rattle.survey_file_theory.specs.Reader.{callWhere, readBytes, reader}
-use Rattle.survey_file_theory.specs.Writer.{writer}
+use Rattle.survey_file_theory.specs.Trailer.{lengthIn, wellsIn, modelIn, versionIn, zeroIn, lastZeroIn}
+use Rattle.survey_file_theory.specs.Rules.{VersionTaken, WellFormed, SomeNumberNotFinite, OtherSpot}
+use Rattle.survey_file_theory.specs.Refusals.{malformed, readerRefusal, someNumberNotFinite, otherSpot, writerRefusal}
+use Rattle.survey_file_theory.specs.Reader.{readBytes, reader}
+use Rattle.survey_file_theory.specs.Reader as Reader
+use Rattle.survey_file_theory.specs.Writer.{Outcome, callWhere, writer}
 use Rattle.survey_file_theory.proofs.Told.{malformed-told}
 use Rattle.survey_file_theory.proofs.WellFormed.{well-formed-exactly, reads, refuses}
 use Rattle.survey_file_theory.proofs.Version.{stays-1, above-48}
 use Rattle.survey_file_theory.proofs.ReadBack.{length-trailer, trailer-version}
 use Rattle.survey_file_theory.proofs.Reader.{sixteen-exactly}
+use Rattle.survey_file_theory.proofs.Writer.{writer-ruled}
 use Rattle.survey_file_theory.proofs.RoundTrip.{wrote-file, wrote-few}
 
 -- ---- by figures
@@ -49,6 +55,23 @@ pub versions-written : (versionFor newestVersion 0 ≡ 1)
     × (versionFor newestVersion 49 ≡ 2)
     × (versionFor newestVersion 96 ≡ 2)
 versions-written = (refl, refl, refl, refl)
+
+-- ---- "a version 2 file must have n from 49 to 96, else 16", and so "another .. version"
+pub version-2-outside : (bytes : List ℕ) (areas : Areas) → versionIn bytes ≡ 2 → (wellsIn bytes ≤ 48) ⊎ (97 ≤ wellsIn bytes)
+    → reader newestVersion bytes areas .number ≡ 16
+version-2-outside bytes areas e h = sixteen-exactly newestVersion bytes areas .1 (λ w. never (w .version-taken) h)
+  where
+    never : VersionTaken newestVersion (versionIn bytes) (wellsIn bytes) → (wellsIn bytes ≤ 48) ⊎ (97 ≤ wellsIn bytes) → ⊥
+    never (inl v) few = omega arith
+    never (inr (v, (least, most))) (inl few) = omega arith
+    never (inr (v, (least, most))) (inr many) = omega arith
+
+pub other-version : (bytes : List ℕ) (areas : Areas) → versionIn bytes ≢ 1 → versionIn bytes ≢ 2 → reader newestVersion bytes areas .number ≡ 16
+other-version bytes areas d e = sixteen-exactly newestVersion bytes areas .1 (λ w. never (w .version-taken))
+  where
+    never : VersionTaken newestVersion (versionIn bytes) (wellsIn bytes) → ⊥
+    never (inl v) = d v
+    never (inr (v, _)) = e v
 
 -- ---- "An old reader refuses version 2 by 16"
 -- what an old reader refuses by 16, in full: it knows one version and looks at no n
@@ -94,7 +117,7 @@ well-read newest bytes w = refute (malformed-told newest bytes) (well-formed-exa
 pub old-files-call : (bytes : List ℕ) (areas : Areas) → WellFormed oldVersion bytes → reader newestVersion bytes areas ≡ reader oldVersion bytes areas
 unfolding reader readerRefusal
 old-files-call bytes areas w =
-    ap (λ (b : Bool). callWhere (firstOf (test 16 b ∷ test 18 (tooShort (listAreas bytes areas)) ∷ [])) bytes areas)
+    ap (λ (b : Bool). Reader.callWhere (firstOf (test 16 b ∷ test 18 (tooShort (listAreas bytes areas)) ∷ [])) bytes areas)
     (well-read newestVersion bytes (still-well-formed bytes w) ∙ sym (well-read oldVersion bytes w))
 
 -- ---- the version of what is written, by its place: the third byte from the end
@@ -133,6 +156,50 @@ unfolding writerFile fileOf trailer
 up-to-48 s h =
     let counts = littleEndian 4 0 ++ littleEndian 2 (wells s) ++ littleEndian 2 (nodeCount s) ++ littleEndian 2 (length (s .bases)) in
     ap (λ (v : ℕ). body s ++ (counts ++ (modelNumber (s .options .variogram .model) ∷ v ∷ 0 ∷ 0 ∷ []))) (stays-1 (wells s) h)
+
+-- and the call is the old writer's, refused or not
+abbrev endsWith : ℕ → List ℕ → List ℕ → Outcome
+endsWith zero file area = record { number = 0; count = some (length file); area = copied 0 file area }
+endsWith (suc k) file area = record { number = suc k; count = none; area = area }
+
+ends-with : (k newest : ℕ) (s : Survey) (area : List ℕ) → callWhere k newest s area ≡ endsWith k (writerFile newest s) area
+unfolding callWhere
+ends-with zero newest s area = refl
+ends-with (suc k) newest s area = refl
+
+-- the writer's tests by the file, and by whether the wells are too many
+abbrev testsOf : Survey → List ℕ → Bool → List ℕ → List Test
+testsOf s file many area =
+    test 1 (wrongCoords s)
+    ∷ test 2 (oddNodes s)
+    ∷ test 6 (wrongExternal s)
+    ∷ test 8 (wrongNodeExternal s (nodeCount s) (s .nodeExternal))
+    ∷ test 11 (someNumberNotFinite s)
+    ∷ test 22 (otherSpot s)
+    ∷ test 16 (ltb longestFile (length file) || (many || (ltb greatestCount (nodeCount s) || ltb greatestCount (length (s .bases)))))
+    ∷ test 18 (ltb (length area) (length file))
+    ∷ []
+
+by-file : (newest : ℕ) (s : Survey) (area : List ℕ) → let file = writerFile newest s in
+    writer newest s area ≡ endsWith (firstOf (testsOf s file (ltb (mostWells newest) (wells s)) area)) file area
+unfolding writer writerRefusal
+by-file newest s area = ends-with (writerRefusal newest s area) newest s area
+
+pub old-writer : (s : Survey) (area : List ℕ) → wells s ≤ 48 → writer newestVersion s area ≡ writer oldVersion s area
+old-writer s area h =
+    let file = up-to-48 s h in
+    let many : ltb 96 (wells s) ≡ false = refute (below 96 (wells s)) (λ l. omega arith) in
+    let more : ltb 65535 (wells s) ≡ false = refute (below 65535 (wells s)) (λ l. omega arith) in
+    by-file newestVersion s area
+    ∙ (λ i. endsWith (firstOf (testsOf s (file i) ((many ∙ sym more) i) area)) (file i) area)
+    ∙ sym (by-file oldVersion s area)
+
+-- ---- "The writer refuses n > 96 by 16", whatever the area is, if none of 1, 2, 6, 8, 11 and 22 applies
+pub above-96 : (s : Survey) (area : List ℕ) → ¬ WrongCoords s → ¬ OddNodes s → ¬ WrongExternal s
+    → ¬ WrongNodeExternal s (nodeCount s) (s .nodeExternal) → ¬ SomeNumberNotFinite s → ¬ OtherSpot s
+    → 96 < wells s → writer newestVersion s area .number ≡ 16
+above-96 s area a b c d e f h =
+    writer-ruled newestVersion s area 16 .1 (inr (a, inr (b, inr (c, inr (d, inr (e, inr (f, inl (inr (inl h), refl))))))))
 
 -- ---- what the new writer wrote of 49 wells and more
 module _ (s : Survey) (area : List ℕ) (count : ℕ) (said : writer newestVersion s area .count ≡ some count) where
