@@ -8,6 +8,7 @@ use Rattle.cases.proofs.FitCases.{fit-cases}
 use Rattle.cases.proofs.InterpolationCases.{interpolation-cases}
 use Rattle.cases.proofs.ModelCases.{model-cases}
 use Rattle.cases.proofs.SpotCases.{spot-cases}
+use Rattle.cases.proofs.WellsCases.{wells-cases}
 use Rattle.cases.proofs.SlopeCases.{slope-cases}
 use Rattle.cases.proofs.ComparisonCases.{comparison-cases}
 use Rattle.cases.proofs.FileCases.{file-cases}
@@ -23,6 +24,7 @@ cases = record {
   interpolations = interpolation-cases;
   models = model-cases;
   spots = spot-cases;
+  wells = wells-cases;
   slopes = slope-cases;
   comparisons = comparison-cases;
   bins = four-bins;

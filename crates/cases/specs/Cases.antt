@@ -1,5 +1,5 @@
 -- Computed cases, their answers worked out outside these definitions: by tools/reading/cases.py, another reading of the paper in Python's floats and whole
--- numbers, and where the original Rust answers, the original's own; those of ModelCases, SpotCases, SlopeCases, ComparisonCases, FileCases and RefusalCases
+-- numbers, and where the original Rust answers, the original's own; those of ModelCases, SpotCases, WellsCases, SlopeCases, ComparisonCases, FileCases and RefusalCases
 -- as they say. One record holds them all.
 use mathlib.Core.Path.{_≡_}
 use mathlib.Core.List.{[], _∷_}
@@ -17,6 +17,7 @@ use Rattle.cases.specs.FitCases.{f, fs, FitCases}
 use Rattle.cases.specs.InterpolationCases.{InterpolationCases}
 use Rattle.cases.specs.ModelCases.{ModelCases}
 use Rattle.cases.specs.SpotCases.{SpotCases}
+use Rattle.cases.specs.WellsCases.{WellsCases}
 use Rattle.cases.specs.SlopeCases.{SlopeCases}
 use Rattle.cases.specs.ComparisonCases.{ComparisonCases}
 use Rattle.cases.specs.FileCases.{FileCases}
@@ -54,6 +55,8 @@ pub record Cases : Type 0 where
   pub models : ModelCases
   -- the same-spot distance, and what 22 refuses
   pub spots : SpotCases
+  -- 9 by the library's limits and by the program's
+  pub wells : WellsCases
   -- an exact inverse of a fit's matrix, and the trend by it
   pub slopes : SlopeCases
   pub comparisons : ComparisonCases

@@ -22,7 +22,6 @@ use Rattle.variogram.proofs.Spot.{spot-taken}
 use Rattle.elimination.specs.Call.{Ends}
 use Rattle.elimination.proofs.Call.{work-told, kept-work, ends, whichever}
 use Rattle.survey.specs.declared.Limits.{Limits}
-use Rattle.survey.specs.Limits.{library}
 use Rattle.survey.specs.Survey.{Survey, wells, nodeCount, columns, size, valueAt}
 use Rattle.survey.proofs.Told.{survey-told}
 use Rattle.kriging_theory.specs.Areas.{Areas, withWork, answerAreas}
@@ -99,10 +98,6 @@ module _ (limits : Limits) (s : Survey) (a : Areas) where
         multipliers = kept-start (columns s) _ (a .multipliers);
         trend = kept-start (columns s) _ (a .trend);
       })
-
--- "n > 48, p > 12 or m > 100", with "n > 96 in place of n > 48 in the library calls"
-pub too-many-in-the-library : (s : Survey) (a : Areas) → Condition (rules library s a) 9 ≡ ((96 < wells s) ⊎ (12 < columns s) ⊎ (100 < nodeCount s))
-too-many-in-the-library s a = refl
 
 -- ---- what a fit that no rule turns away has been tested for, whether its elimination stops or not
 module _ (limits : Limits) (s : Survey) (a : Areas) (none : NoneApplies (rules limits s a)) where

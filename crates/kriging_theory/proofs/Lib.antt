@@ -1,4 +1,5 @@
 pub mod Endings
+pub mod Limits
 pub mod Exit
 pub mod Trend
 pub mod SystemDrift

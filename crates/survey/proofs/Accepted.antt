@@ -2,11 +2,12 @@
 use Prim.Native.Nat.{_^_, _≤_, _<_}
 use native.Mathlib.Omega.{arith}
 use mathlib.Core.Path.{_≡_, refl}
+use mathlib.Core.Logic.{inl}
 use Rattle.error.specs.Tests.{firstOf}
 use Rattle.error.proofs.Rules.{none-exactly, no-condition}
 use Rattle.survey.specs.declared.Limits.{Limits}
 use Rattle.survey.specs.Survey.{Survey, wells, nodeCount, columns, columnsHeld}
-use Rattle.survey.specs.Rules.{surveyRules}
+use Rattle.survey.specs.Rules.{TooMany, surveyRules}
 use Rattle.survey.specs.Refusals.{surveyTests, surveyRefusal}
 use Rattle.survey.proofs.Told.{survey-told}
 use Rattle.survey.proofs.Codes.{held-exact}
@@ -27,3 +28,12 @@ enough-wells limits s e =
 -- so the count that a word holds is p itself
 pub counted-exactly : (limits : Limits) (s : Survey) → surveyRefusal limits s ≡ 0 → wells s < 2 ^ 60 → columnsHeld (s .bases) ≡ columns s
 counted-exactly limits s e l = let h = enough-wells limits s e in held-exact (s .bases) (omega arith)
+
+-- 9 does not apply: there are no more wells than the limits say
+pub few-wells : (limits : Limits) (s : Survey) → surveyRefusal limits s ≡ 0 → wells s ≤ limits .wells
+unfolding surveyRefusal
+few-wells limits s e =
+    let none = none-exactly (survey-told limits s (nodeCount s) (s .nodeExternal)) tt .0 e in
+    let h : ¬ TooMany limits s (nodeCount s) = no-condition (surveyRules limits s (nodeCount s) (s .nodeExternal)) none 9 in
+    let l : ¬ (limits .wells < wells s) = λ x. h (inl x) in
+    omega arith

@@ -2,4 +2,4 @@ pub mod Told
 pub mod Places
 pub mod Codes
 pub mod Accepted
-pub mod Limits
+pub mod Figures

@@ -1,12 +1,14 @@
 -- What is printed for a survey file: paper 01, "Program `wellmap` reads one from standard input".
-use Prim.Native.Nat.{ℕ, zero, suc}
+use Prim.Native.Nat.{ℕ, zero, suc, _≤_, _<_}
 use mathlib.Core.Path.{_≡_}
-use mathlib.Core.Logic.{_≢_}
+use mathlib.Core.Logic.{_≢_, _⊎_, _↔_}
 use mathlib.Core.Bool.{cond}
 use mathlib.Core.List.{List}
 use lib.ListN.{take}
-use Rattle.survey.specs.Limits.{program}
-use Rattle.survey.specs.Survey.{Survey, nodeCount, columns}
+use Rattle.error.specs.Rules.{NoneApplies}
+use Rattle.survey.specs.Limits.{library, program}
+use Rattle.survey.specs.Survey.{Survey, wells, nodeCount, columns}
+use Rattle.survey.specs.Rules.{listRules}
 use Rattle.kriging_theory.specs.Areas.{Areas}
 use Rattle.kriging_theory.specs.Fit.{fitted}
 use Rattle.survey_file_theory.specs.File.{baseVersion}
@@ -48,6 +50,16 @@ pub record AmpleForFit (s : Survey) : Type 0 where
   pub answer : fitted program s ownAreas .number ≢ 18
   pub never-17 : surveyText s ≢ refusedText 17
   pub never-18 : surveyText s ≢ refusedText 18
+
+-- "`wellmap` gives 9 above 48", in 9's own place: exactly where none of 1 to 8 applies and "n > 48, p > 12 or m > 100"
+abbrev pub NineAbove48 : Survey → Type 0
+NineAbove48 s =
+    (surveyText s ≡ refusedText 9)
+    ↔ (NoneApplies (listRules s (nodeCount s) (s .nodeExternal)) × ((48 < wells s) ⊎ (12 < columns s) ⊎ (100 < nodeCount s)))
+
+-- up to 48 wells the text is that of the library's fit, refused or not
+abbrev pub LibraryUpTo48 : Survey → Type 0
+LibraryUpTo48 s = wells s ≤ 48 → surveyText s ≡ (let o = fitted library s ownAreas in fitText (o .number) s (o .areas))
 
 -- "Survey files don't carry it and take 2^-52": whatever the bytes, 22 never shows
 abbrev pub NeverSpot : List ℕ → Type 0

@@ -1,12 +1,15 @@
 // From the bytes of a survey file to the text that `wellmap` prints: the reader, the fit and the report, one after another.
+use error::Judgement;
 use kriging::Fit;
 use kriging::universal_kriging_fit;
 use report::Printed;
 use report::write_listing;
 use report::write_refusal;
+use survey::Limits;
 use survey::UniversalKrigingOptions;
 use survey_checks::counts::drift_columns;
 use survey_checks::counts::external_columns;
+use survey_checks::refusals::survey_refusal;
 use survey_file_reader::read_survey;
 use survey_file_theory::Header;
 use survey_file_theory::Read;
@@ -14,6 +17,8 @@ ghost use mathlib.Core.Path.{_≡_};
 ghost use Prim.Native.Nat.{_≤_};
 ghost use lib.ListN.{length, take, replicate};
 ghost use Rattle.survey.specs.Survey.{surveyOf, columnSum};
+ghost use Rattle.survey.specs.Limits.{program};
+ghost use Rattle.survey.specs.Refusals.{surveyRefusal};
 ghost use Rattle.survey_file_reader.specs.Counts.{areasOf};
 ghost use Rattle.report.specs.Listing.{listing, longest};
 ghost use Rattle.report.specs.Printed.{outcomeOf, printed};
@@ -79,9 +84,9 @@ fn print_answer(
     )
 }
 
-// The fit of a survey, and its listing or its refusal as text. The options carry the same-spot distance, and 22 shows where it is wrong. The fit has areas
-// of its own, as long as it can need, so that 17 and 18 never show.
-pub fn print_fit(
+// The text of a survey that the program takes, which the library then takes too. The fit has areas of its own, as long as it can need, so that 17 and 18
+// never show.
+fn print_taken(
     values: &[f64],
     coords: &[f64],
     bases: &[u8],
@@ -92,6 +97,8 @@ pub fn print_fit(
     tolerance: f64,
     text: &mut [u8],
 ) -> Printed
+    requires { ⌜ surveyRefusal program (surveyOf (now values) (now coords) (now bases) (now external) options (now nodes) (now «node_external») tolerance)
+        ≡ 0 ⌝ }
     ensures equation { λ r. ⌜ outcomeOf r (now (text .exit)) ≡ printed
         (surveyText (surveyOf (now (values .entry)) (now (coords .entry)) (now (bases .entry)) (now (external .entry))
         options (now (nodes .entry)) (now («node_external» .entry)) tolerance))
@@ -137,6 +144,56 @@ pub fn print_fit(
             text,
         ),
         Fit::Refused(refusal) => write_refusal(refusal, text),
+    }
+}
+
+// The fit of a survey, and its listing or its refusal as text. More than 48 wells are refused by 9, in its own place, though the library would take them:
+// the program judges by its own limits, and only what it takes comes to the library's fit. The options carry the same-spot distance, and 22 shows where it is
+// wrong.
+pub fn print_fit(
+    values: &[f64],
+    coords: &[f64],
+    bases: &[u8],
+    external: &[f64],
+    options: UniversalKrigingOptions,
+    nodes: &[f64],
+    node_external: &[f64],
+    tolerance: f64,
+    text: &mut [u8],
+) -> Printed
+    ensures equation { λ r. ⌜ outcomeOf r (now (text .exit)) ≡ printed
+        (surveyText (surveyOf (now (values .entry)) (now (coords .entry)) (now (bases .entry)) (now (external .entry))
+        options (now (nodes .entry)) (now («node_external» .entry)) tolerance))
+        (now (text .entry)) ⌝ }
+    ensures longest { λ _. ⌜ length
+        (surveyText (surveyOf (now (values .entry)) (now (coords .entry)) (now (bases .entry)) (now (external .entry))
+        options (now (nodes .entry)) (now («node_external» .entry)) tolerance))
+        ≤ longest ⌝ }
+{
+    let judgement = survey_refusal(
+        Limits::program(),
+        values,
+        coords,
+        bases,
+        external,
+        options,
+        nodes,
+        node_external,
+        tolerance,
+    );
+    match judgement {
+        Judgement::Accepted => print_taken(
+            values,
+            coords,
+            bases,
+            external,
+            options,
+            nodes,
+            node_external,
+            tolerance,
+            text,
+        ),
+        Judgement::Refused(refusal) => write_refusal(refusal, text),
     }
 }
 

@@ -1,19 +1,21 @@
--- `survey_map::print_fit` meets its contract: the fit with the program's own areas ends as its definition does, and its text is that ending's.
+-- `survey_map::print_taken` meets its contract: the library's fit with the program's own areas is the program's, and its text is that of its ending.
 use mathlib.Core.Path.{_≡_, ap, sym, _∙_}
 use borrow.Author.Needs.{needs}
 use Rattle.error.specs.Numbers.{numberOf}
 use Rattle.error.specs.Outcome.{outcome}
 use Rattle.survey.specs.Limits.{program}
 use Rattle.survey.specs.Survey.{Survey, surveyOf}
+use Rattle.survey.proofs.Accepted.{few-wells}
 use Rattle.kriging_theory.specs.Areas.{Areas, areasOf}
 use Rattle.kriging_theory.specs.Fit.{fitted}
+use Rattle.kriging_theory.proofs.Limits.{up-to-48}
 use Rattle.kriging.specs.declared.Fit.{Fit}
 use Rattle.kriging.specs.Outcome.{outcomeOf}
 use Rattle.survey_map.specs.Areas.{ownAreas}
 use Rattle.survey_map.proofs.Answer.{listable}
 use Rattle.survey_map.proofs.Texts.{same-text, done-text, refused-text}
-use Rattle.survey_map.proofs.print_fit.Statement.{statement}
-use Rattle.survey_map.proofs.print_fit.Tie as tie
+use Rattle.survey_map.proofs.print_taken.Statement.{statement}
+use Rattle.survey_map.proofs.print_taken.Tie as tie
 
 -- The states that the needs look back to, in the order of the code: a name takes a later state back to its own.
 abbrev at-lists : tie.After-slice-known → tie.Start
@@ -53,10 +55,10 @@ left c =
     let verdicts = work .1 .1 .1 in
     areasOf (work .0) (work .1 .0) (work .1 .1 .0) (verdicts .0) (verdicts .1 .0) (verdicts .1 .1 .0) (verdicts .1 .1 .1 .0)
 
--- how the fit ended
+-- how the fit ended: the library's, which up to 48 wells is the program's
 ended : (c : tie.After-universal-kriging-fit) → outcomeOf (c .universal-kriging-fit .result) (left c) ≡ fitted program (survey-of c) ownAreas
 unfolding ownAreas
-ended c = c .universal-kriging-fit .ensures .0
+ended c = c .universal-kriging-fit .ensures .0 ∙ sym (up-to-48 (survey-of c) ownAreas (few-wells program (survey-of c) (at-entry c .pre)))
 
 done : (c : tie.After-enum-told) → let f = at-fit (c .before .before) in outcome 0 (left f) ≡ fitted program (survey-of f) ownAreas
 done c = let f = at-fit (c .before .before) in ap (λ (r : Fit). outcomeOf r (left f)) (sym (c .enum-told .given .1)) ∙ ended f
@@ -132,7 +134,7 @@ enum-known-fit c = search needs
 write-refusal-requires : tie.Need-write-refusal-requires
 write-refusal-requires c κs = search needs
 
--- pub fn print_fit(
+-- pub fn print_taken(
 same-length : tie.Need-same-length
 same-length c = search needs
 
@@ -154,8 +156,8 @@ returns-2 c =
     same-text (at-entry f .args .text .now) (refused-text (survey-of f) (left f) (r .fit .given .0 .0) (refused r))
     (w .write-refusal .ensures .0, w .write-refusal .ensures .1 .0)
 
-pub print-fit-spec : {M : Type 1} → statement M
-print-fit-spec =
+pub print-taken-spec : {M : Type 1} → statement M
+print-taken-spec =
     tie.close
     (tie.spec
     slice-aggregate-universal-kriging-fit
