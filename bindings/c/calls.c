@@ -13,10 +13,15 @@ static void same(const char *what, double is, double should) {
     }
 }
 
-/* The same but for the last digits, which depend on the order of the sums. */
-static void near(const char *what, double is, double should) {
+/* The same but for so much, which depends on the order of the sums. */
+static void within(const char *what, double much, double is, double should) {
     double off = is - should;
-    same(what, off < 1e-14 && off > -1e-14 ? should : is, should);
+    same(what, off < much && off > -much ? should : is, should);
+}
+
+/* The same but for the last digits. */
+static void near(const char *what, double is, double should) {
+    within(what, 1e-14, is, should);
 }
 
 /* Two wells, (0, 0) with 2 and (2, 0) with 6, and the node (1, 0). */
@@ -249,14 +254,14 @@ static void rows(void) {
         const size_t n = counts[c];
         const double wells = (double)n, average = (wells - 1) / 2;
         same("a row", fit_row(n, NAKWEMOL_WORK_OF_A_FIT), NAKWEMOL_OK);
-        near("its figure", predicted[0] / average, 1);
-        near("its variance", variance[0], 1 + 1 / wells);
+        within("its figure", 1e-12, predicted[0] / average, 1);
+        within("its variance", 1e-12, variance[0], 1 + 1 / wells);
         same("its verdict", verdicts[0], 0);
-        near("its trend", trend[0] / average, 1);
+        within("its trend", 1e-12, trend[0] / average, 1);
         for (size_t i = 0; i < n; i++) near("its weight", row_weights[i], 1 / wells);
         same("an interpolated row", interpolate_row(n, NAKWEMOL_WORK_OF_AN_INTERPOLATION), NAKWEMOL_OK);
-        near("its figure", predicted[0] / average, 1);
-        near("its variance", variance[0], 1 + 1 / wells);
+        within("its figure", 1e-12, predicted[0] / average, 1);
+        within("its variance", 1e-12, variance[0], 1 + 1 / wells);
         same("a binned row", bin_row(n, &half, &pairs), NAKWEMOL_OK);
         same("its pairs", (double)pairs, wells * (wells - 1) / 2);
         same("its semivariance", half, wells * (wells + 1) / 12);

@@ -1,4 +1,6 @@
 """Lists of 49 to 96 wells: their figures are those of the library's call, bit for bit, and the page says so; up to 48 they are the program's."""
+from mapper.doubts.well_words import level
+from mapper.lists.wells import read_wells
 from mapper.making import Made
 from mapper.options import options
 from mapper.runs import building
@@ -71,9 +73,9 @@ class ByTheCall(Folder):
 
 class Otherwise(Folder):
     def test_at_a_place(self):
-        made, m = drawn(self.file(some(96)), *NUMBERS, '--at', '60,40')
-        self.assertEqual(list(m.nodes.level), called(m.wells, [(60, 40)]).predicted)
-        self.assertIn('At (60, 40), among the wells: ', self.made(self.file(some(96)), *NUMBERS, '--at', '60,40'))
+        wells = self.file(some(96))
+        (wanted,) = called(read_wells(wells).wells, [(60, 40)]).predicted
+        self.assertIn(f'At (60, 40), among the wells: {level(wanted)} m ± ', self.made(wells, *NUMBERS, '--at', '60,40'))
 
     def test_near_96_of_200(self):
         self.assertIn('This list has 200 wells. --near X,Y takes the 96 nearest', self.refused(self.file(some(200)), *NUMBERS))
@@ -91,7 +93,7 @@ class Otherwise(Folder):
 
     def test_a_kept_survey_file(self):
         """Version 2, the third byte from its end, above 48 wells; the proved reader reads it, and it is what the proved writer writes."""
-        for count, version in ((48, 1), (49, 2), (60, 2), (96, 2)):
+        for count, version in ((48, 1), (49, 2), (96, 2)):
             wells, file = self.file(some(count)), self.folder / 'kept.survey'
             self.made(wells, *NUMBERS, '--grid', '3x3', '--survey', file)
             data = file.read_bytes()
@@ -116,11 +118,9 @@ class TwoCounties(Folder):
     """samples/two_counties.csv: 72 wells."""
 
     def test_as_it_stands(self):
-        for words in ((), ('--trend', 'linear')):
+        """The water falls to the south-east, by 1.1 m a kilometre: 0.9 to the east and 0.6 to the south went in."""
+        for words, falls in (((), 'without a slope'), (('--trend', 'linear'), 'The water table falls 1.1 m a kilometre to the south-east')):
             said = self.made(COUNTIES, '--out', self.folder, '--grid', '6x4', *words)
             self.assertIn(NOTE, said)
+            self.assertIn(falls, said)
             self.assertIn('The arithmetic held at 24 of 24 nodes; nothing doubtful was found in the list', said.splitlines()[-1])
-
-    def test_which_way_the_water_falls(self):
-        """To the south-east, by 1.1 m a kilometre: 0.9 to the east and 0.6 to the south went in."""
-        self.assertRegex(self.made(COUNTIES, '--out', self.folder, '--grid', '3x3', '--trend', 'linear'), r'falls 1\.\d m a kilometre to the south-east')

@@ -48,7 +48,7 @@ class Near(Folder):
 
     def test_beside_at(self):
         said = self.made(self.file(ROW), *NUMBERS, '--near', '10700,0', '--at', '10550,45')
-        self.assertIn('At (10550, 45), among the wells: 20.', said)
+        self.assertIn('At (10550, 45), among the wells: 19.5', said)
 
     def test_in_the_order_of_the_list(self):
         wells = [Well(str(i), 37 * i % 100, 61 * i % 97, 0) for i in range(200)]

@@ -48,7 +48,6 @@ class BeforeIt(Folder):
         said = self.refused(self.file(many(97)))
         self.assertIn('at most 96 wells (48 by the program wellmap, as for --sheets and --listing), 12 columns of the trend and 100 nodes a sheet', said)
         self.assertIn('This list has 97 wells.', said)
-        self.made(self.file(many(96)), '--grid', '3x3')
 
     def test_14(self):
         one, nodes = self.file(many(1)), self.file('x,y\n1,1\n', 'nodes.csv')
