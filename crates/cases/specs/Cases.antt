@@ -10,7 +10,7 @@ use Rattle.variogram.specs.declared.VariogramModel.the-variants.{Spherical, Exp
 use Rattle.survey.specs.Limits.{library}
 use Rattle.semivariogram_theory.specs.Call.{Samples}
 use Rattle.semivariogram_theory.specs.Semivariogram.{calculated}
-use Rattle.survey_file_theory.specs.File.{baseVersion, writerFile}
+use Rattle.survey_file_theory.specs.File.{newestVersion, writerFile}
 use Rattle.survey_file_theory.specs.Reader.{readBytes}
 use Rattle.survey_file_theory.specs.Cases.{survey, file, noted, bare, withModel}
 use Rattle.cases.specs.FitCases.{f, fs, FitCases}
@@ -67,11 +67,11 @@ pub record Cases : Type 0 where
   -- the number and the kind of every refusal, and the default options
   pub refusals : RefusalCases
   -- a file by its bytes, every field another number, without a note and with one
-  pub file-written : writerFile baseVersion survey ≡ file
-  pub file-read : readBytes baseVersion file ≡ some survey
-  pub noted-read : readBytes baseVersion noted ≡ some survey
+  pub file-written : writerFile newestVersion survey ≡ file
+  pub file-read : readBytes newestVersion file ≡ some survey
+  pub noted-read : readBytes newestVersion noted ≡ some survey
   -- "model 1 to 4 in the enum's order"
-  pub model-1 : drop 40 (writerFile baseVersion (bare Spherical)) ≡ withModel 1
-  pub model-2 : drop 40 (writerFile baseVersion (bare Exponential)) ≡ withModel 2
-  pub model-3 : drop 40 (writerFile baseVersion (bare Gaussian)) ≡ withModel 3
-  pub model-4 : drop 40 (writerFile baseVersion (bare Linear)) ≡ withModel 4
+  pub model-1 : drop 40 (writerFile newestVersion (bare Spherical)) ≡ withModel 1
+  pub model-2 : drop 40 (writerFile newestVersion (bare Exponential)) ≡ withModel 2
+  pub model-3 : drop 40 (writerFile newestVersion (bare Gaussian)) ≡ withModel 3
+  pub model-4 : drop 40 (writerFile newestVersion (bare Linear)) ≡ withModel 4

@@ -14,7 +14,7 @@ ghost use mathlib.Core.List.{List};
 ghost use Prim.Native.Nat.{ℕ};
 ghost use Rattle.survey.specs.Survey.{surveyOf};
 ghost use Rattle.survey_file_theory.specs.Areas.{Areas};
-ghost use Rattle.survey_file_theory.specs.File.{baseVersion};
+ghost use Rattle.survey_file_theory.specs.File.{newestVersion};
 ghost use Rattle.survey_file_theory.specs.Reader as Reader;
 ghost use Rattle.survey_file_theory.specs.Writer as Writer;
 ghost use Rattle.survey_file_reader.specs.Counts.{areasOf};
@@ -64,7 +64,7 @@ pub extern "C" fn nakwemol_read(
     ensures { λ r. ⌜ ending r (headingOf (now (counts .exit)) (now (numbers .exit)) (now (model .exit)))
         (areasOf (now (values .exit)) (now (coords .exit)) (now (bases .exit)) (now (external .exit))
         (now (nodes .exit)) (now («node_external» .exit)))
-        ≡ headingTold (Reader.reader baseVersion (now (bytes .entry)) (areasOf (now (values .entry)) (now (coords .entry)) (now (bases .entry))
+        ≡ headingTold (Reader.reader newestVersion (now (bytes .entry)) (areasOf (now (values .entry)) (now (coords .entry)) (now (bases .entry))
         (now (external .entry)) (now (nodes .entry)) (now («node_external» .entry))))
         (headingOf (now (counts .entry)) (now (numbers .entry)) (now (model .entry))) ⌝ }
 {
@@ -107,7 +107,7 @@ pub extern "C" fn nakwemol_write(
 ) -> u8
     ensures { λ r. ⌜ ending r (now (length .exit)) (now (file .exit))
         ≡ byModel (modelOf model) (ending unknownCode (now (length .entry)) (now (file .entry)))
-        (λ m. lengthTold (Writer.writer baseVersion (surveyOf (now (values .entry)) (now (coords .entry)) (now (bases .entry)) (now (external .entry))
+        (λ m. lengthTold (Writer.writer newestVersion (surveyOf (now (values .entry)) (now (coords .entry)) (now (bases .entry)) (now (external .entry))
         (optionsOf m nugget sill range «same_spot» regularization) (now (nodes .entry)) (now («node_external» .entry)) tolerance) (now (file .entry)))
         (now (length .entry))) ⌝ }
 {

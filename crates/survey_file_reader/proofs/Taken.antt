@@ -27,9 +27,9 @@ pub record Meets (bytes : List ℕ) (areas : Areas) (k : Counts) : Type 0 where
   pub nodes : 2 * k .nodes ≤ length (areas .nodes)
   pub nodeExternal : k .externals * k .nodes ≤ length (areas .nodeExternal)
 
-pub meets : (version : ℕ) (bytes : List ℕ) (areas : Areas) (k : Counts) → k ≡ countsIn bytes → WellFormed version bytes → ListsFit bytes areas
+pub meets : (newest : ℕ) (bytes : List ℕ) (areas : Areas) (k : Counts) → k ≡ countsIn bytes → WellFormed newest bytes → ListsFit bytes areas
     → Meets bytes areas k
-meets version bytes areas k e w r =
+meets newest bytes areas k e w r =
     let m = w .meet in
     subst (Meets bytes areas) (sym e) (record {
       len = omega arith;

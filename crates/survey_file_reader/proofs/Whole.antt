@@ -23,36 +23,36 @@ use Rattle.survey_file_theory.proofs.Told.{malformed-told}
 use Rattle.survey_file_theory.proofs.WellFormed.{well-formed-exactly, codes-before}
 use Rattle.survey_file_theory.proofs.Reader.{read-exactly, reader-ends}
 
-module _ (version : ℕ) (bytes : List ℕ) where
+module _ (newest : ℕ) (bytes : List ℕ) where
   -- past 16 there is room for the trailer and the codes before it
-  pub codes-inside : malformed version bytes ≡ false → trailerLength + basesIn bytes ≤ length bytes
+  pub codes-inside : malformed newest bytes ≡ false → trailerLength + basesIn bytes ≤ length bytes
   codes-inside e =
-      let w = well-formed-exactly version bytes .1 (λ m. subst (λ (b : Bool). T b) e (malformed-told version bytes .back m)) in
-      omega (arith, w .least, codes-before version bytes w)
+      let w = well-formed-exactly newest bytes .1 (λ m. subst (λ (b : Bool). T b) e (malformed-told newest bytes .back m)) in
+      omega (arith, w .least, codes-before newest bytes w)
 
   -- past 18 too, the areas have room
-  pub accepted : (areas : Areas) → readerRefusal version bytes areas ≡ 0 → WellFormed version bytes × ListsFit bytes areas
+  pub accepted : (areas : Areas) → readerRefusal newest bytes areas ≡ 0 → WellFormed newest bytes × ListsFit bytes areas
   unfolding reader callWhere
-  accepted areas e = read-exactly version bytes areas .0 (ap (λ (k : ℕ). callWhere k bytes areas .number) e)
+  accepted areas e = read-exactly newest bytes areas .0 (ap (λ (k : ℕ). callWhere k bytes areas .number) e)
 
   -- "A refusal carries only its number and writes nothing"
-  pub refused-is : (areas : Areas) (j : Judgement) (r : Refusal) → j ≡ Refused r → judged j ≡ readerRefusal version bytes areas
-      → (record { number = numberOf r; header = none; areas = areas }) ≡ reader version bytes areas
+  pub refused-is : (areas : Areas) (j : Judgement) (r : Refusal) → j ≡ Refused r → judged j ≡ readerRefusal newest bytes areas
+      → (record { number = numberOf r; header = none; areas = areas }) ≡ reader newest bytes areas
   unfolding reader callWhere
-  refused-is areas j r is e = go (readerRefusal version bytes areas) (sym (ap judged is) ∙ e)
+  refused-is areas j r is e = go (readerRefusal newest bytes areas) (sym (ap judged is) ∙ e)
     where
       go : (n : ℕ) → numberOf r ≡ n → (record { number = numberOf r; header = none; areas = areas }) ≡ callWhere n bytes areas
       go zero f = absurd (numbers r f)
       go (suc k) f = ap (λ (n : ℕ). record { number = n; header = none; areas = areas }) f
 
-  pub done-is : (areas : Areas) {after : Areas} {h : Header} → readerRefusal version bytes areas ≡ 0
+  pub done-is : (areas : Areas) {after : Areas} {h : Header} → readerRefusal newest bytes areas ≡ 0
       → h ≡ headerOf (wellsIn bytes) (nodesIn bytes) (basesIn bytes) (surveyIn bytes) → after ≡ filledWith (surveyIn bytes) areas
-      → (record { number = 0; header = some h; areas = after }) ≡ reader version bytes areas
+      → (record { number = 0; header = some h; areas = after }) ≡ reader newest bytes areas
   unfolding reader callWhere
   done-is areas e f g =
       (λ i. record { number = 0; header = some (f i); areas = g i })
       ∙ sym (ap (λ (k : ℕ). callWhere k bytes areas) e)
 
   -- what equals the definition has all that holds of it
-  pub has-ends : (areas : Areas) {o : Outcome} → o ≡ reader version bytes areas → (o ≡ reader version bytes areas) × Ends version bytes areas o
-  has-ends areas e = (e, subst (Ends version bytes areas) (sym e) (reader-ends version bytes areas))
+  pub has-ends : (areas : Areas) {o : Outcome} → o ≡ reader newest bytes areas → (o ≡ reader newest bytes areas) × Ends newest bytes areas o
+  has-ends areas e = (e, subst (Ends newest bytes areas) (sym e) (reader-ends newest bytes areas))

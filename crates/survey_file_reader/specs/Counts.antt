@@ -5,6 +5,7 @@ use mathlib.Core.List.{List, [], _∷_}
 use lib.Dec.{eqb, ltb}
 use lib.Ieee.{Float}
 use Rattle.error.specs.Short.{area, tooShort}
+use Rattle.survey_file_theory.specs.File.{versionTaken}
 use Rattle.survey_file_theory.specs.Areas.{Areas}
 use Rattle.survey_file_theory.specs.Trailer.{startIn, wellsIn, nodesIn, basesIn, externalsIn, modelIn, versionIn, zeroIn, lastZeroIn}
 use Rattle.survey_file_reader.specs.declared.trailer.Counts.{Counts}
@@ -27,11 +28,12 @@ pub record Small (counts : Counts) : Type 0 where
   pub bases : counts .bases < 65536
   pub externals : counts .externals < 65536
 
--- 16: "another model or version, trailer zeros not zero"
+-- 16: "another model or version, trailer zeros not zero"; "a version 2 file must have n from 49 to 96, else 16"
 abbrev pub wrongEnding : ℕ → List ℕ → Bool
-wrongEnding version bytes =
+wrongEnding newest bytes =
     ltb (modelIn bytes) 1
-    || (ltb 4 (modelIn bytes) || (not (eqb (versionIn bytes) version) || (not (eqb (zeroIn bytes) 0) || not (eqb (lastZeroIn bytes) 0))))
+    || (ltb 4 (modelIn bytes)
+    || (not (versionTaken newest (versionIn bytes) (wellsIn bytes)) || (not (eqb (zeroIn bytes) 0) || not (eqb (lastZeroIn bytes) 0))))
 
 -- 18: "each list's length", of areas of these lengths
 abbrev pub shortOf : Counts → ℕ → ℕ → ℕ → ℕ → ℕ → ℕ → Bool

@@ -7,7 +7,7 @@ use survey_file_theory::Header;
 use variogram::Variogram;
 use variogram::VariogramModel;
 ghost use mathlib.Core.Path.{_≡_};
-ghost use Rattle.survey_file_theory.specs.File.{baseVersion};
+ghost use Rattle.survey_file_theory.specs.File.{newestVersion};
 ghost use Rattle.survey_file_theory.specs.Trailer.{wellsIn, nodesIn, basesIn};
 ghost use Rattle.survey_file_theory.specs.Rules.{WellFormed};
 ghost use Rattle.survey_file_theory.specs.Reader.{modelOf, surveyIn, headerOf};
@@ -26,7 +26,7 @@ fn model_of(number: u8) -> VariogramModel
 
 // The header of a well-formed file.
 pub(crate) fn read_header(bytes: &[u8]) -> Header
-    requires { ⌜ WellFormed baseVersion (now bytes) ⌝ }
+    requires { ⌜ WellFormed newestVersion (now bytes) ⌝ }
     ensures { λ r. ⌜ r ≡ headerOf (wellsIn (now (bytes .entry))) (nodesIn (now (bytes .entry))) (basesIn (now (bytes .entry)))
         (surveyIn (now (bytes .entry))) ⌝ }
 {

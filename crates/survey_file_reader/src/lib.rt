@@ -12,7 +12,7 @@ use crate::trailer::read_counts;
 use error::Judgement;
 use survey_file_theory::Read;
 ghost use mathlib.Core.Path.{_≡_};
-ghost use Rattle.survey_file_theory.specs.File.{baseVersion};
+ghost use Rattle.survey_file_theory.specs.File.{newestVersion};
 ghost use Rattle.survey_file_theory.specs.Areas.{filledWith};
 ghost use Rattle.survey_file_theory.specs.Rules.{WellFormed, ListsFit};
 ghost use Rattle.survey_file_theory.specs.Reader.{surveyIn, outcomeOf, reader, Ends};
@@ -28,7 +28,7 @@ fn read_lists(
     nodes: &mut [f64],
     node_external: &mut [f64],
 )
-    requires { ⌜ WellFormed baseVersion (now bytes) × ListsFit (now bytes)
+    requires { ⌜ WellFormed newestVersion (now bytes) × ListsFit (now bytes)
         (areasOf (now values) (now coords) (now bases) (now external) (now nodes) (now «node_external»)) ⌝ }
     ensures { λ _. ⌜ areasOf (now (values .exit)) (now (coords .exit)) (now (bases .exit)) (now (external .exit))
         (now (nodes .exit)) (now («node_external» .exit))
@@ -60,9 +60,9 @@ pub fn read_survey(
 ) -> Read
     ensures equation { λ r. ⌜ outcomeOf r (areasOf (now (values .exit)) (now (coords .exit)) (now (bases .exit)) (now (external .exit))
         (now (nodes .exit)) (now («node_external» .exit)))
-        ≡ reader baseVersion (now (bytes .entry)) (areasOf (now (values .entry)) (now (coords .entry)) (now (bases .entry))
+        ≡ reader newestVersion (now (bytes .entry)) (areasOf (now (values .entry)) (now (coords .entry)) (now (bases .entry))
         (now (external .entry)) (now (nodes .entry)) (now («node_external» .entry))) ⌝ }
-    ensures ends { λ r. ⌜ Ends baseVersion (now (bytes .entry)) (areasOf (now (values .entry)) (now (coords .entry)) (now (bases .entry))
+    ensures ends { λ r. ⌜ Ends newestVersion (now (bytes .entry)) (areasOf (now (values .entry)) (now (coords .entry)) (now (bases .entry))
         (now (external .entry)) (now (nodes .entry)) (now («node_external» .entry)))
         (outcomeOf r (areasOf (now (values .exit)) (now (coords .exit)) (now (bases .exit)) (now (external .exit))
         (now (nodes .exit)) (now («node_external» .exit)))) ⌝ }

@@ -5,7 +5,7 @@ ghost use mathlib.Core.Path.{_≡_};
 ghost use Prim.Native.Nat.{_+_, _≤_, _<_};
 ghost use lib.ListN.{length};
 ghost use Rattle.survey_file_theory.specs.File.{trailerLength, fileLength};
-ghost use Rattle.survey_file_theory.specs.Trailer.{basesIn};
+ghost use Rattle.survey_file_theory.specs.Trailer.{wellsIn, basesIn};
 ghost use Rattle.survey_file_reader.specs.Counts.{countsIn, Small};
 
 // The length of the trailer.
@@ -18,6 +18,15 @@ pub struct Counts {
     pub nodes: usize,
     pub bases: usize,
     pub externals: usize,
+}
+
+// How many wells there are by the trailer.
+pub(crate) fn well_count(bytes: &[u8]) -> usize
+    requires { ⌜ trailerLength ≤ length (now bytes) ⌝ }
+    ensures { λ r. ⌜ (r ≡ wellsIn (now (bytes .entry))) × (r < 65536) ⌝ }
+{
+    let end = bytes.len() - LENGTH;
+    number(bytes, end + 4, 2) as usize
 }
 
 // How many codes stand before the trailer.
@@ -39,7 +48,7 @@ pub(crate) fn read_counts(bytes: &[u8]) -> Counts
     let from = end - bases;
     Counts {
         start: number(bytes, end, 4) as usize,
-        wells: number(bytes, end + 4, 2) as usize,
+        wells: well_count(bytes),
         nodes: number(bytes, end + 6, 2) as usize,
         bases,
         externals: external_columns(&bytes[from..end]),

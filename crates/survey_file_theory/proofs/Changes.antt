@@ -8,12 +8,12 @@ use mathlib.Core.Logic.{_≢_, _⊎_, inl, inr}
 use mathlib.Core.List.{List, [], _∷_}
 use mathlib.Core.Option.{none}
 use lib.ListN.{length, getD, set, take, drop, length-set, length-drop}
-use lib.Seq.{getD-set-same, drop-set-add, length-take-le, take-add, drop-at, drop-drop}
+use lib.Seq.{getD-set-same, take-set-le, drop-set-add, length-take-le, take-add, drop-at, drop-drop}
 use Rattle.area.specs.Area.{part}
 use Rattle.ieee.specs.Bytes.{numberIn}
 use Rattle.survey.specs.Survey.{externalCount}
 use Rattle.survey_file_theory.specs.Trailer.{trailerIn, startIn, wellsIn, nodesIn, basesIn, codesIn, externalsIn, SameBody}
-use Rattle.survey_file_theory.specs.Rules.{statedLength, WellFormed}
+use Rattle.survey_file_theory.specs.Rules.{statedLength, VersionTaken, WellFormed}
 use Rattle.survey_file_theory.specs.Reader.{readBytes}
 use Rattle.survey_file_theory.proofs.WellFormed.{codes-before, refuses}
 
@@ -27,27 +27,42 @@ changed bytes i x h g =
     ∙ ap (λ (t : List ℕ). getD t i 0) (drop-set-add n bytes i x)
     ∙ getD-set-same (drop n bytes) i x 0 (omega arith)
 
-module _ (version : ℕ) (bytes : List ℕ) where
+-- the wells after the version is changed
+wells-kept : (bytes : List ℕ) (x : ℕ) → wellsIn (set bytes (length bytes - 14 + 11) x) ≡ wellsIn bytes
+wells-kept bytes x =
+    let n = length bytes - 14 in
+    ap (λ (k : ℕ). numberIn (part 4 2 (drop (k - 14) (set bytes (n + 11) x)))) (length-set bytes (n + 11) x)
+    ∙ ap (λ (t : List ℕ). numberIn (part 4 2 t)) (drop-set-add n bytes 11 x)
+    ∙ ap (λ (t : List ℕ). numberIn (take 2 t)) (drop-set-add 4 (drop n bytes) 7 x)
+    ∙ ap numberIn (take-set-le 2 (drop 4 (drop n bytes)) 7 x (omega arith))
+
+module _ (newest : ℕ) (bytes : List ℕ) where
   -- bytes in which it is changed to what no bytes that are taken have there
-  changed-refused : (i x : ℕ) → i < 14 → ((b : List ℕ) → WellFormed version b → getD (trailerIn b) i 0 ≡ x → ⊥)
-      → readBytes version (set bytes (length bytes - 14 + i) x) ≡ none
+  changed-refused : (i x : ℕ) → i < 14 → ((b : List ℕ) → WellFormed newest b → getD (trailerIn b) i 0 ≡ x → ⊥)
+      → readBytes newest (set bytes (length bytes - 14 + i) x) ≡ none
   changed-refused i x g never =
-      refuses version (set bytes (length bytes - 14 + i) x) λ w.
+      refuses newest (set bytes (length bytes - 14 + i) x) λ w.
       let l = length-set bytes (length bytes - 14 + i) x in
       let m = w .least in
       never (set bytes (length bytes - 14 + i) x) w (changed bytes i x (omega arith) g)
 
-  pub model-changed : (x : ℕ) → (x < 1) ⊎ (4 < x) → readBytes version (set bytes (length bytes - 14 + 10) x) ≡ none
+  pub model-changed : (x : ℕ) → (x < 1) ⊎ (4 < x) → readBytes newest (set bytes (length bytes - 14 + 10) x) ≡ none
   model-changed x (inl h) = changed-refused 10 x (omega arith) (λ b w e. let m = w .model-least in omega arith)
   model-changed x (inr h) = changed-refused 10 x (omega arith) (λ b w e. let m = w .model-most in omega arith)
 
-  pub version-changed : (x : ℕ) → x ≢ version → readBytes version (set bytes (length bytes - 14 + 11) x) ≡ none
-  version-changed x h = changed-refused 11 x (omega arith) (λ b w e. h (sym e ∙ w .version-is))
+  -- a version that is not taken at so many wells, which the trailer says as before
+  pub version-changed : (x : ℕ) → ¬ VersionTaken newest x (wellsIn bytes) → readBytes newest (set bytes (length bytes - 14 + 11) x) ≡ none
+  version-changed x h =
+      refuses newest (set bytes (length bytes - 14 + 11) x) λ w.
+      let l = length-set bytes (length bytes - 14 + 11) x in
+      let m = w .least in
+      let v = changed bytes 11 x (omega arith) (omega arith) in
+      h (rw (v, wells-kept bytes x) at (w .version-taken))
 
-  pub zero-changed : (x : ℕ) → x ≢ 0 → readBytes version (set bytes (length bytes - 14 + 12) x) ≡ none
+  pub zero-changed : (x : ℕ) → x ≢ 0 → readBytes newest (set bytes (length bytes - 14 + 12) x) ≡ none
   zero-changed x h = changed-refused 12 x (omega arith) (λ b w e. h (sym e ∙ w .zero-byte))
 
-  pub last-zero-changed : (x : ℕ) → x ≢ 0 → readBytes version (set bytes (length bytes - 14 + 13) x) ≡ none
+  pub last-zero-changed : (x : ℕ) → x ≢ 0 → readBytes newest (set bytes (length bytes - 14 + 13) x) ≡ none
   last-zero-changed x h = changed-refused 13 x (omega arith) (λ b w e. h (sym e ∙ w .last-zero-byte))
 
 -- ---- what the lengths add up to
@@ -60,9 +75,9 @@ abbrev stated : List ℕ → List ℕ → ℕ
 stated t codes =
     total (numberIn (part 0 4 t)) (numberIn (part 4 2 t)) (numberIn (part 6 2 t)) (externalCount codes) (numberIn (part 8 2 t))
 
-pub length-changed : (version : ℕ) (bytes others : List ℕ) → WellFormed version bytes → trailerIn others ≡ trailerIn bytes → codesIn others ≡ codesIn bytes
-    → length others ≢ length bytes → readBytes version others ≡ none
-length-changed version bytes others w t c n = refuses version others λ x. n (x .meet ∙ (λ i. stated (t i) (c i)) ∙ sym (w .meet))
+pub length-changed : (newest : ℕ) (bytes others : List ℕ) → WellFormed newest bytes → trailerIn others ≡ trailerIn bytes → codesIn others ≡ codesIn bytes
+    → length others ≢ length bytes → readBytes newest others ≡ none
+length-changed newest bytes others w t c n = refuses newest others λ x. n (x .meet ∙ (λ i. stated (t i) (c i)) ∙ sym (w .meet))
 
 -- ---- a length that the trailer states
 -- the last c of the n elements before a place
@@ -79,8 +94,8 @@ last-of n c l h g =
 abbrev lastBefore : List ℕ → ℕ → List ℕ
 lastBefore bytes c = drop (length bytes - 14 - c) (take (length bytes - 14) bytes)
 
-codes-are : (version : ℕ) (bytes : List ℕ) → WellFormed version bytes → codesIn bytes ≡ lastBefore bytes (basesIn bytes)
-codes-are version bytes w = last-of (length bytes - 14) (basesIn bytes) bytes (codes-before version bytes w) (omega arith)
+codes-are : (newest : ℕ) (bytes : List ℕ) → WellFormed newest bytes → codesIn bytes ≡ lastBefore bytes (basesIn bytes)
+codes-are newest bytes w = last-of (length bytes - 14) (basesIn bytes) bytes (codes-before newest bytes w) (omega arith)
 
 -- a later start leaves no more codes 4
 externals-drop : (j : ℕ) (codes : List ℕ) → externalCount (drop j codes) ≤ externalCount codes
@@ -113,41 +128,41 @@ only-one a b f g e = elim (decLt a b) [
   ]
 ]
 
-module _ (version : ℕ) (bytes others : List ℕ) (w : WellFormed version bytes) (same : SameBody bytes others) where
+module _ (newest : ℕ) (bytes others : List ℕ) (w : WellFormed newest bytes) (same : SameBody bytes others) where
   -- the codes before the trailer, read from one of two texts and placed in the other
-  codes-in-other : WellFormed version others → codesIn others ≡ lastBefore bytes (basesIn others)
+  codes-in-other : WellFormed newest others → codesIn others ≡ lastBefore bytes (basesIn others)
   codes-in-other x =
-      codes-are version others x
+      codes-are newest others x
       ∙ ap (λ (n : ℕ). drop (n - 14 - basesIn others) (take (n - 14) others)) (same .len)
       ∙ ap (λ (l : List ℕ). drop (length bytes - 14 - basesIn others) l) (same .before)
 
-  same-externals : WellFormed version others → basesIn others ≡ basesIn bytes → externalsIn others ≡ externalsIn bytes
-  same-externals x e = ap externalCount (codes-in-other x ∙ ap (lastBefore bytes) e ∙ sym (codes-are version bytes w))
+  same-externals : WellFormed newest others → basesIn others ≡ basesIn bytes → externalsIn others ≡ externalsIn bytes
+  same-externals x e = ap externalCount (codes-in-other x ∙ ap (lastBefore bytes) e ∙ sym (codes-are newest bytes w))
 
   -- both state the length that both have
-  meet : WellFormed version others → statedLength others ≡ statedLength bytes
+  meet : WellFormed newest others → statedLength others ≡ statedLength bytes
   meet x = sym (x .meet) ∙ same .len ∙ w .meet
 
   pub start-changed : wellsIn others ≡ wellsIn bytes → nodesIn others ≡ nodesIn bytes → basesIn others ≡ basesIn bytes
-      → startIn others ≢ startIn bytes → readBytes version others ≡ none
+      → startIn others ≢ startIn bytes → readBytes newest others ≡ none
   start-changed n m c d =
-      refuses version others λ x.
+      refuses newest others λ x.
       let k = same-externals x c in
       d (only-one (startIn others) (startIn bytes) (λ h. omega arith) (λ h. omega arith) (sym (λ i. total (startIn others) (n i) (m i) (k i) (c i)) ∙ meet x))
 
   pub wells-changed : startIn others ≡ startIn bytes → nodesIn others ≡ nodesIn bytes → basesIn others ≡ basesIn bytes
-      → wellsIn others ≢ wellsIn bytes → readBytes version others ≡ none
+      → wellsIn others ≢ wellsIn bytes → readBytes newest others ≡ none
   wells-changed s m c d =
-      refuses version others λ x.
+      refuses newest others λ x.
       let k = same-externals x c in
       let more = more-wells (startIn bytes) (nodesIn bytes) (externalsIn bytes) (basesIn bytes) in
       d (only-one (wellsIn others) (wellsIn bytes) (more (wellsIn others) (wellsIn bytes)) (more (wellsIn bytes) (wellsIn others))
       (sym (λ i. total (s i) (wellsIn others) (m i) (k i) (c i)) ∙ meet x))
 
   pub nodes-changed : startIn others ≡ startIn bytes → wellsIn others ≡ wellsIn bytes → basesIn others ≡ basesIn bytes
-      → nodesIn others ≢ nodesIn bytes → readBytes version others ≡ none
+      → nodesIn others ≢ nodesIn bytes → readBytes newest others ≡ none
   nodes-changed s n c d =
-      refuses version others λ x.
+      refuses newest others λ x.
       let k = same-externals x c in
       let more = more-nodes (startIn bytes) (wellsIn bytes) (externalsIn bytes) (basesIn bytes) in
       d (only-one (nodesIn others) (nodesIn bytes) (more (nodesIn others) (nodesIn bytes)) (more (nodesIn bytes) (nodesIn others))
@@ -155,12 +170,12 @@ module _ (version : ℕ) (bytes others : List ℕ) (w : WellFormed version bytes
 
   -- with the count of the codes their number of 4s may change too, but only the same way
   pub bases-changed : startIn others ≡ startIn bytes → wellsIn others ≡ wellsIn bytes → nodesIn others ≡ nodesIn bytes
-      → basesIn others ≢ basesIn bytes → readBytes version others ≡ none
+      → basesIn others ≢ basesIn bytes → readBytes newest others ≡ none
   bases-changed s n m d =
-      refuses version others λ x.
+      refuses newest others λ x.
       let body = take (length bytes - 14) bytes in
       let k : externalsIn others ≡ externalCount (lastBefore bytes (basesIn others)) = ap externalCount (codes-in-other x) in
-      let l : externalsIn bytes ≡ externalCount (lastBefore bytes (basesIn bytes)) = ap externalCount (codes-are version bytes w) in
+      let l : externalsIn bytes ≡ externalCount (lastBefore bytes (basesIn bytes)) = ap externalCount (codes-are newest bytes w) in
       let more = more-codes (startIn bytes) (wellsIn bytes) (nodesIn bytes) in
       d (only-one (basesIn others) (basesIn bytes)
       (λ h.

@@ -22,9 +22,9 @@ length-part : (from count : ℕ) (xs : List Float) → from + count ≤ length x
 length-part from count xs h = let e = length-drop from xs in length-take-le count (drop from xs) (omega arith)
 
 -- the lists of what is read have the lengths that the trailer states
-pub lengths : (version : ℕ) (bytes : List ℕ) → WellFormed version bytes → ListLengths bytes (surveyIn bytes)
+pub lengths : (newest : ℕ) (bytes : List ℕ) → WellFormed newest bytes → ListLengths bytes (surveyIn bytes)
 unfolding surveyIn
-lengths version bytes w =
+lengths newest bytes w =
     let n = wellsIn bytes in
     let m = nodesIn bytes in
     let k = externalsIn bytes in
@@ -32,7 +32,7 @@ lengths version bytes w =
     let l : length xs ≡ numberCount n m k = length-f64sIn (numberCount n m k) (drop (startIn bytes) bytes) in
     let from = length bytes - 14 - basesIn bytes in
     let d = length-drop from bytes in
-    let c = codes-before version bytes w in
+    let c = codes-before newest bytes w in
     record {
       values = length-part 5 n xs (omega arith);
       coords = length-part (5 + n) (2 * n) xs (omega arith);

@@ -2,11 +2,13 @@ pub mod Told
 pub mod Finite
 pub mod WellFormed
 pub mod Lists
+pub mod Version
 pub mod ReadBack
 pub mod Lengths
 pub mod Reader
 pub mod Writer
 pub mod RoundTrip
+pub mod BothVersions
 pub mod Changes
 pub mod Sounding
 pub mod Cases

@@ -16,48 +16,49 @@ use Rattle.variogram.specs.declared.VariogramModel.{VariogramModel}
 use Rattle.variogram.specs.declared.VariogramModel.the-variants.{Spherical, Exponential, Gaussian, Linear}
 use Rattle.survey.specs.Survey.{Survey, wells, nodeCount, externals, externalCount}
 use Rattle.survey_file_theory.specs.Contents.{numbers, numberCount, withoutIgnored, Lists, Filable}
-use Rattle.survey_file_theory.specs.File.{modelNumber, body, trailer, fileOf, fileLength}
-use Rattle.survey_file_theory.specs.Trailer.{trailerIn, startIn, wellsIn, nodesIn, basesIn, codesIn, externalsIn, modelIn}
-use Rattle.survey_file_theory.specs.Rules.{WellFormed}
+use Rattle.survey_file_theory.specs.File.{modelNumber, versionFor, body, trailer, fileOf, fileLength}
+use Rattle.survey_file_theory.specs.Trailer.{trailerIn, startIn, wellsIn, nodesIn, basesIn, codesIn, externalsIn, modelIn, versionIn}
+use Rattle.survey_file_theory.specs.Rules.{WellFormed, mostWritten}
 use Rattle.survey_file_theory.specs.Reader.{modelOf, surveyFrom, surveyIn, readBytes}
 use Rattle.survey_file_theory.proofs.Lists.{length-numbers, survey-back}
 use Rattle.survey_file_theory.proofs.WellFormed.{reads}
+use Rattle.survey_file_theory.proofs.Version.{written-taken, version-byte}
 
 -- ---- the trailer, field by field
-module _ (v start : ℕ) (s : Survey) where
-  length-trailer : length (trailer v start s) ≡ 14
+module _ (newest start : ℕ) (s : Survey) where
+  pub length-trailer : length (trailer newest start s) ≡ 14
   unfolding trailer
   length-trailer = refl
 
-  trailer-start : start < 256 * 256 * 256 * 256 → numberIn (part 0 4 (trailer v start s)) ≡ start
+  trailer-start : start < 256 * 256 * 256 * 256 → numberIn (part 0 4 (trailer newest start s)) ≡ start
   unfolding trailer
   trailer-start h = number-little 4 start h
 
-  trailer-wells : wells s < 65536 → numberIn (part 4 2 (trailer v start s)) ≡ wells s
+  trailer-wells : wells s < 65536 → numberIn (part 4 2 (trailer newest start s)) ≡ wells s
   unfolding trailer
   trailer-wells h = number-little 2 (wells s) h
 
-  trailer-nodes : nodeCount s < 65536 → numberIn (part 6 2 (trailer v start s)) ≡ nodeCount s
+  trailer-nodes : nodeCount s < 65536 → numberIn (part 6 2 (trailer newest start s)) ≡ nodeCount s
   unfolding trailer
   trailer-nodes h = number-little 2 (nodeCount s) h
 
-  trailer-bases : length (s .bases) < 65536 → numberIn (part 8 2 (trailer v start s)) ≡ length (s .bases)
+  trailer-bases : length (s .bases) < 65536 → numberIn (part 8 2 (trailer newest start s)) ≡ length (s .bases)
   unfolding trailer
   trailer-bases h = number-little 2 (length (s .bases)) h
 
-  trailer-model : getD (trailer v start s) 10 0 ≡ modelNumber (s .options .variogram .model)
+  trailer-model : getD (trailer newest start s) 10 0 ≡ modelNumber (s .options .variogram .model)
   unfolding trailer
   trailer-model = refl
 
-  trailer-version : getD (trailer v start s) 11 0 ≡ v
+  pub trailer-version : getD (trailer newest start s) 11 0 ≡ versionFor newest (wells s)
   unfolding trailer
   trailer-version = refl
 
-  trailer-zero : getD (trailer v start s) 12 0 ≡ 0
+  trailer-zero : getD (trailer newest start s) 12 0 ≡ 0
   unfolding trailer
   trailer-zero = refl
 
-  trailer-last : getD (trailer v start s) 13 0 ≡ 0
+  trailer-last : getD (trailer newest start s) 13 0 ≡ 0
   unfolding trailer
   trailer-last = refl
 
@@ -83,33 +84,34 @@ model-back Linear = refl
 -- ---- the parts of a file
 -- the note, the numbers, the codes and the trailer
 abbrev parts : ℕ → List ℕ → Survey → List ℕ
-parts v note s = note ++ (f64Bytes (numbers s) ++ (s .bases ++ trailer v (length note) s))
+parts newest note s = note ++ (f64Bytes (numbers s) ++ (s .bases ++ trailer newest (length note) s))
 
-file-parts : (v : ℕ) (note : List ℕ) (s : Survey) → fileOf v note s ≡ parts v note s
+file-parts : (newest : ℕ) (note : List ℕ) (s : Survey) → fileOf newest note s ≡ parts newest note s
 unfolding fileOf body
-file-parts v note s = simp append-assoc
+file-parts newest note s = simp append-assoc
 
-length-parts : (v : ℕ) (note : List ℕ) (s : Survey) → length (parts v note s) ≡ length note + 8 * length (numbers s) + length (s .bases) + 14
-length-parts v note s =
-    let t = length-trailer v (length note) s in
+length-parts : (newest : ℕ) (note : List ℕ) (s : Survey) → length (parts newest note s) ≡ length note + 8 * length (numbers s) + length (s .bases) + 14
+length-parts newest note s =
+    let t = length-trailer newest (length note) s in
     let x = length-f64Bytes (numbers s) in
-    let all : length (parts v note s) ≡ length note + (length (f64Bytes (numbers s)) + (length (s .bases) + length (trailer v (length note) s))) =
+    let all : length (parts newest note s) ≡ length note + (length (f64Bytes (numbers s)) + (length (s .bases) + length (trailer newest (length note) s))) =
     simp length-append in
     omega arith
 
 -- a file is as long as its note, its numbers and its codes make it
-pub length-file : (v : ℕ) (note : List ℕ) (s : Survey) → length (fileOf v note s) ≡ length note + 8 * length (numbers s) + length (s .bases) + 14
-length-file v note s = ap length (file-parts v note s) ∙ length-parts v note s
+pub length-file : (newest : ℕ) (note : List ℕ) (s : Survey) → length (fileOf newest note s) ≡ length note + 8 * length (numbers s) + length (s .bases) + 14
+length-file newest note s = ap length (file-parts newest note s) ∙ length-parts newest note s
 
 -- and the numbers are as many as the counts say
-pub file-length : (v : ℕ) (note : List ℕ) (s : Survey) → Lists s
-    → length (fileOf v note s) ≡ fileLength (length note) (wells s) (nodeCount s) (externals s) (length (s .bases))
-file-length v note s l = length-file v note s ∙ ap (λ (n : ℕ). length note + 8 * n + length (s .bases) + 14) (length-numbers s l)
+pub file-length : (newest : ℕ) (note : List ℕ) (s : Survey) → Lists s
+    → length (fileOf newest note s) ≡ fileLength (length note) (wells s) (nodeCount s) (externals s) (length (s .bases))
+file-length newest note s l = length-file newest note s ∙ ap (λ (n : ℕ). length note + 8 * n + length (s .bases) + 14) (length-numbers s l)
 
--- and all of it is bytes, if the version, the note and the codes are
-trailer-bytes : (v start : ℕ) (s : Survey) → v < 256 → T (allBytes (trailer v start s))
+-- and all of it is bytes, if the note and the codes are
+trailer-bytes : (newest start : ℕ) (s : Survey) → T (allBytes (trailer newest start s))
 unfolding trailer
-trailer-bytes v start s h =
+trailer-bytes newest start s =
+    let v = versionFor newest (wells s) in
     let first = littleEndian 4 start in
     let n = littleEndian 2 (wells s) in
     let m = littleEndian 2 (nodeCount s) in
@@ -119,26 +121,28 @@ trailer-bytes v start s h =
     (bytes-append (first ++ n ++ m) c three (bytes-little 2 (length (s .bases))))
     (model-byte (s .options .variogram .model))
   where
-    version-byte : T (allBytes (v ∷ 0 ∷ 0 ∷ []))
-    version-byte = and-i (ltb v 256) (allBytes (0 ∷ 0 ∷ [])) (lt→ltb v 256 h) tt
+    version-there : T (allBytes (versionFor newest (wells s) ∷ 0 ∷ 0 ∷ []))
+    version-there =
+        let v = versionFor newest (wells s) in
+        and-i (ltb v 256) (allBytes (0 ∷ 0 ∷ [])) (lt→ltb v 256 (version-byte newest (wells s))) tt
 
-    model-byte : (m : VariogramModel) → T (allBytes (modelNumber m ∷ v ∷ 0 ∷ 0 ∷ []))
-    model-byte Spherical = version-byte
-    model-byte Exponential = version-byte
-    model-byte Gaussian = version-byte
-    model-byte Linear = version-byte
+    model-byte : (m : VariogramModel) → T (allBytes (modelNumber m ∷ versionFor newest (wells s) ∷ 0 ∷ 0 ∷ []))
+    model-byte Spherical = version-there
+    model-byte Exponential = version-there
+    model-byte Gaussian = version-there
+    model-byte Linear = version-there
 
-pub file-bytes : (v : ℕ) (note : List ℕ) (s : Survey) → v < 256 → T (allBytes note) → T (allBytes (s .bases)) → T (allBytes (fileOf v note s))
-file-bytes v note s h p q =
-    let rest = s .bases ++ trailer v (length note) s in
-    subst (λ (b : List ℕ). T (allBytes b)) (sym (file-parts v note s))
+pub file-bytes : (newest : ℕ) (note : List ℕ) (s : Survey) → T (allBytes note) → T (allBytes (s .bases)) → T (allBytes (fileOf newest note s))
+file-bytes newest note s p q =
+    let rest = s .bases ++ trailer newest (length note) s in
+    subst (λ (b : List ℕ). T (allBytes b)) (sym (file-parts newest note s))
     (bytes-append note (f64Bytes (numbers s) ++ rest) p
-    (bytes-append (f64Bytes (numbers s)) rest (bytes-f64 (numbers s)) (bytes-append (s .bases) _ q (trailer-bytes v (length note) s h))))
+    (bytes-append (f64Bytes (numbers s)) rest (bytes-f64 (numbers s)) (bytes-append (s .bases) _ q (trailer-bytes newest (length note) s))))
 
 -- bytes that are a file's parts
-module _ (v : ℕ) (note : List ℕ) (s : Survey) (f : Filable s) (bytes : List ℕ) (is : bytes ≡ parts v note s) (most : length bytes ≤ 65536) where
+module _ (newest : ℕ) (note : List ℕ) (s : Survey) (f : Filable s) (bytes : List ℕ) (is : bytes ≡ parts newest note s) (most : length bytes ≤ 65536) where
   length-bytes : length bytes ≡ length note + 8 * length (numbers s) + length (s .bases) + 14
-  length-bytes = ap length is ∙ length-parts v note s
+  length-bytes = ap length is ∙ length-parts newest note s
 
   -- what stands before the trailer, and before the codes
   before-trailer : length (note ++ (f64Bytes (numbers s) ++ s .bases)) ≡ length bytes - 14
@@ -156,32 +160,32 @@ module _ (v : ℕ) (note : List ℕ) (s : Survey) (f : Filable s) (bytes : List 
       let b = length-bytes in
       omega arith
 
-  trailer-there : trailerIn bytes ≡ trailer v (length note) s
+  trailer-there : trailerIn bytes ≡ trailer newest (length note) s
   trailer-there =
       ap (λ (b : List ℕ). drop (length bytes - 14) b) (is ∙ simp append-assoc)
-      ∙ drop-at (note ++ (f64Bytes (numbers s) ++ s .bases)) (trailer v (length note) s) (length bytes - 14) before-trailer
+      ∙ drop-at (note ++ (f64Bytes (numbers s) ++ s .bases)) (trailer newest (length note) s) (length bytes - 14) before-trailer
 
   start-there : startIn bytes ≡ length note
   start-there =
       let b = length-bytes in
-      ap (λ (t : List ℕ). numberIn (part 0 4 t)) trailer-there ∙ trailer-start v (length note) s (omega arith)
+      ap (λ (t : List ℕ). numberIn (part 0 4 t)) trailer-there ∙ trailer-start newest (length note) s (omega arith)
 
   wells-there : wellsIn bytes ≡ wells s
-  wells-there = ap (λ (t : List ℕ). numberIn (part 4 2 t)) trailer-there ∙ trailer-wells v (length note) s (let x = f .few-wells in omega arith)
+  wells-there = ap (λ (t : List ℕ). numberIn (part 4 2 t)) trailer-there ∙ trailer-wells newest (length note) s (let x = f .few-wells in omega arith)
 
   nodes-there : nodesIn bytes ≡ nodeCount s
-  nodes-there = ap (λ (t : List ℕ). numberIn (part 6 2 t)) trailer-there ∙ trailer-nodes v (length note) s (let x = f .few-nodes in omega arith)
+  nodes-there = ap (λ (t : List ℕ). numberIn (part 6 2 t)) trailer-there ∙ trailer-nodes newest (length note) s (let x = f .few-nodes in omega arith)
 
   bases-there : basesIn bytes ≡ length (s .bases)
-  bases-there = ap (λ (t : List ℕ). numberIn (part 8 2 t)) trailer-there ∙ trailer-bases v (length note) s (let x = f .few-bases in omega arith)
+  bases-there = ap (λ (t : List ℕ). numberIn (part 8 2 t)) trailer-there ∙ trailer-bases newest (length note) s (let x = f .few-bases in omega arith)
 
   model-there : modelIn bytes ≡ modelNumber (s .options .variogram .model)
-  model-there = ap (λ (t : List ℕ). getD t 10 0) trailer-there ∙ trailer-model v (length note) s
+  model-there = ap (λ (t : List ℕ). getD t 10 0) trailer-there ∙ trailer-model newest (length note) s
 
   codes-there : codesIn bytes ≡ s .bases
   codes-there =
       let c = length (s .bases) in
-      let t = trailer v (length note) s in
+      let t = trailer newest (length note) s in
       ap (λ (k : ℕ). take k (drop (length bytes - 14 - k) bytes)) bases-there
       ∙ ap (λ (b : List ℕ). take c (drop (length bytes - 14 - c) b)) (is ∙ sym (append-assoc note (f64Bytes (numbers s)) (s .bases ++ t)))
       ∙ ap (λ (b : List ℕ). take c b) (drop-at (note ++ f64Bytes (numbers s)) (s .bases ++ t) (length bytes - 14 - c) before-codes)
@@ -192,14 +196,17 @@ module _ (v : ℕ) (note : List ℕ) (s : Survey) (f : Filable s) (bytes : List 
 
   numbers-there : f64sIn (numberCount (wells s) (nodeCount s) (externals s)) (drop (length note) bytes) ≡ numbers s
   numbers-there =
-      let rest = s .bases ++ trailer v (length note) s in
+      let rest = s .bases ++ trailer newest (length note) s in
       ap (λ (b : List ℕ). f64sIn (numberCount (wells s) (nodeCount s) (externals s)) b)
       (ap (λ (b : List ℕ). drop (length note) b) is ∙ drop-at note (f64Bytes (numbers s) ++ rest) (length note) refl)
       ∙ ap (λ (k : ℕ). f64sIn k (f64Bytes (numbers s) ++ rest)) (sym (length-numbers s (f .lists)))
       ∙ f64s-back (numbers s) rest (f .fit)
 
-  laid-out : WellFormed v bytes
-  laid-out =
+  version-there : versionIn bytes ≡ versionFor newest (wells s)
+  version-there = ap (λ (t : List ℕ). getD t 11 0) trailer-there ∙ trailer-version newest (length note) s
+
+  laid-out : wells s ≤ mostWritten newest → WellFormed newest bytes
+  laid-out few =
       let b = length-bytes in
       let l = length-numbers s (f .lists) in
       record {
@@ -208,9 +215,9 @@ module _ (v : ℕ) (note : List ℕ) (s : Survey) (f : Filable s) (bytes : List 
         meet = rw (start-there, wells-there, nodes-there, externals-there, bases-there) (omega arith);
         model-least = rw model-there (model-least (s .options .variogram .model));
         model-most = rw model-there (model-most (s .options .variogram .model));
-        version-is = ap (λ (t : List ℕ). getD t 11 0) trailer-there ∙ trailer-version v (length note) s;
-        zero-byte = ap (λ (t : List ℕ). getD t 12 0) trailer-there ∙ trailer-zero v (length note) s;
-        last-zero-byte = ap (λ (t : List ℕ). getD t 13 0) trailer-there ∙ trailer-last v (length note) s;
+        version-taken = rw (version-there, wells-there) (written-taken newest (wells s) few);
+        zero-byte = ap (λ (t : List ℕ). getD t 12 0) trailer-there ∙ trailer-zero newest (length note) s;
+        last-zero-byte = ap (λ (t : List ℕ). getD t 13 0) trailer-there ∙ trailer-last newest (length note) s;
       }
 
   survey-there : surveyIn bytes ≡ withoutIgnored s
@@ -238,21 +245,21 @@ pub record Counts (s : Survey) (bytes : List ℕ) : Type 0 where
   pub externals : externalsIn bytes ≡ externals s
   pub bases : basesIn bytes ≡ length (s .bases)
 
-module _ (v : ℕ) (note : List ℕ) (s : Survey) (f : Filable s) (most : length (fileOf v note s) ≤ 65536) where
-  pub file-counts : Counts s (fileOf v note s)
+module _ (newest : ℕ) (note : List ℕ) (s : Survey) (f : Filable s) (most : length (fileOf newest note s) ≤ 65536) where
+  pub file-counts : Counts s (fileOf newest note s)
   file-counts =
       record {
-        wells = wells-there v note s f (fileOf v note s) (file-parts v note s) most;
-        nodes = nodes-there v note s f (fileOf v note s) (file-parts v note s) most;
-        externals = externals-there v note s f (fileOf v note s) (file-parts v note s) most;
-        bases = bases-there v note s f (fileOf v note s) (file-parts v note s) most;
+        wells = wells-there newest note s f (fileOf newest note s) (file-parts newest note s) most;
+        nodes = nodes-there newest note s f (fileOf newest note s) (file-parts newest note s) most;
+        externals = externals-there newest note s f (fileOf newest note s) (file-parts newest note s) most;
+        bases = bases-there newest note s f (fileOf newest note s) (file-parts newest note s) most;
       }
 
-  pub file-well-formed : WellFormed v (fileOf v note s)
-  file-well-formed = laid-out v note s f (fileOf v note s) (file-parts v note s) most
+  pub file-well-formed : wells s ≤ mostWritten newest → WellFormed newest (fileOf newest note s)
+  file-well-formed = laid-out newest note s f (fileOf newest note s) (file-parts newest note s) most
 
-  pub file-survey : surveyIn (fileOf v note s) ≡ withoutIgnored s
-  file-survey = survey-there v note s f (fileOf v note s) (file-parts v note s) most
+  pub file-survey : surveyIn (fileOf newest note s) ≡ withoutIgnored s
+  file-survey = survey-there newest note s f (fileOf newest note s) (file-parts newest note s) most
 
-  pub file-reads : readBytes v (fileOf v note s) ≡ some (withoutIgnored s)
-  file-reads = reads v (fileOf v note s) file-well-formed ∙ ap {B = Option Survey} some file-survey
+  pub file-reads : wells s ≤ mostWritten newest → readBytes newest (fileOf newest note s) ≡ some (withoutIgnored s)
+  file-reads few = reads newest (fileOf newest note s) (file-well-formed few) ∙ ap {B = Option Survey} some file-survey

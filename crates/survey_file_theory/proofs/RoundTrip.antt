@@ -1,5 +1,5 @@
 -- "what it wrote reads back bit for bit": the bytes that the writer says it wrote are read as the survey.
-use Prim.Native.Nat.{ℕ, zero, suc, _*_, _<_}
+use Prim.Native.Nat.{ℕ, zero, suc, _*_, _<_, _≤_}
 use native.Mathlib.Nat.{zero-mul}
 use native.Mathlib.Omega.{arith}
 use mathlib.Core.Path.{_≡_, refl, ap, sym, _∙_}
@@ -16,11 +16,12 @@ use Rattle.survey.specs.Survey.{Survey, wells, nodeCount, externals}
 use Rattle.survey_file_theory.specs.Contents.{withoutIgnored, EachF64, Filable}
 use Rattle.survey_file_theory.specs.File.{fileOf, writerFile}
 use Rattle.survey_file_theory.specs.Areas.{Areas, filledWith, Holds}
-use Rattle.survey_file_theory.specs.Rules.{WellFormed, ListsFit, Writable}
+use Rattle.survey_file_theory.specs.Rules.{WellFormed, ListsFit, mostWritten, Writable}
 use Rattle.survey_file_theory.specs.Refusals.{writerRefusal}
 use Rattle.survey_file_theory.specs.Reader.{surveyIn, readBytes, headerOf, reader, answerOf}
 use Rattle.survey_file_theory.specs.Reader as Reader
 use Rattle.survey_file_theory.specs.Writer.{callWhere, writer, Writes}
+use Rattle.survey_file_theory.proofs.Version.{two-bytes}
 use Rattle.survey_file_theory.proofs.ReadBack.{Counts, file-well-formed, file-counts, file-survey, file-reads}
 use Rattle.survey_file_theory.proofs.Reader.{reader-reads}
 use Rattle.survey_file_theory.proofs.Writer.{written-exactly, writer-ends}
@@ -31,8 +32,8 @@ node-externals : (k m : ℕ) (xs : List Float) → (0 < k → length xs ≡ k * 
 node-externals zero m xs h = sym (zero-mul m)
 node-externals (suc k) m xs h = rw (eqb·suc-zero k) (h (omega arith))
 
-filable : (v : ℕ) (s : Survey) (area : List ℕ) → EachF64 s → Writable v s area → Filable s
-filable v s area fit w =
+filable : (newest : ℕ) (s : Survey) (area : List ℕ) → EachF64 s → Writable newest s area → Filable s
+filable newest s area fit w =
     record {
       fit = fit .numbers;
       lists = record {
@@ -42,54 +43,61 @@ filable v s area fit w =
         nodeExternal = node-externals (externals s) (nodeCount s) (s .nodeExternal) (w .nodeExternal);
       };
       spot = is-epsilon (s .options .variogram .«same_spot») (fit .spot) (w .spot);
-      few-wells = w .few-wells;
+      few-wells = omega (arith, w .few-wells, two-bytes newest);
       few-nodes = w .few-nodes;
       few-bases = w .few-bases;
     }
 
 -- what the writer leaves, where it says how many bytes it wrote
-record Wrote (v : ℕ) (s : Survey) (area : List ℕ) (count : ℕ) : Type 0 where
-  can : Writable v s area
-  bytes : take count (writer v s area .area) ≡ writerFile v s
-  rest : drop count (writer v s area .area) ≡ drop count area
+record Wrote (newest : ℕ) (s : Survey) (area : List ℕ) (count : ℕ) : Type 0 where
+  can : Writable newest s area
+  bytes : take count (writer newest s area .area) ≡ writerFile newest s
+  rest : drop count (writer newest s area .area) ≡ drop count area
 
-module _ (v : ℕ) (s : Survey) (area : List ℕ) (count : ℕ) (said : writer v s area .count ≡ some count) where
-  counted : (writer v s area .number ≡ 0) × (length (writerFile v s) ≡ count)
+module _ (newest : ℕ) (s : Survey) (area : List ℕ) (count : ℕ) (said : writer newest s area .count ≡ some count) where
+  counted : (writer newest s area .number ≡ 0) × (length (writerFile newest s) ≡ count)
   unfolding writer callWhere
-  counted = go (writerRefusal v s area) said
+  counted = go (writerRefusal newest s area) said
     where
-      go : (k : ℕ) → callWhere k v s area .count ≡ some count → (callWhere k v s area .number ≡ 0) × (length (writerFile v s) ≡ count)
+      go : (k : ℕ) → callWhere k newest s area .count ≡ some count → (callWhere k newest s area .number ≡ 0) × (length (writerFile newest s) ≡ count)
       go zero x = (refl, cc)
       go (suc k) x = let z : _≡_ {A = ℕ} 0 1 = cc in absurd (omega arith)
 
-  wrote : Wrote v s area count
+  wrote : Wrote newest s area count
   wrote =
-      let file = writerFile v s in
+      let file = writerFile newest s in
       let c = counted in
-      let is : Writes v s area (writer v s area) = writer-ends v s area .writes (c .0) in
+      let is : Writes newest s area (writer newest s area) = writer-ends newest s area .writes (c .0) in
       record {
-        can = written-exactly v s area .0 (c .0);
+        can = written-exactly newest s area .0 (c .0);
         bytes =
-            ap (λ (n : ℕ). take n (writer v s area .area)) (sym (c .1))
+            ap (λ (n : ℕ). take n (writer newest s area .area)) (sym (c .1))
             ∙ ap (λ (b : List ℕ). take (length file) b) (is .file)
             ∙ take-append-seam file (drop (length file) area);
         rest =
-            ap (λ (n : ℕ). drop n (writer v s area .area)) (sym (c .1))
+            ap (λ (n : ℕ). drop n (writer newest s area .area)) (sym (c .1))
             ∙ ap (λ (b : List ℕ). drop (length file) b) (is .file)
             ∙ drop-append-seam file (drop (length file) area)
             ∙ ap (λ (n : ℕ). drop n area) (c .1);
       }
 
+  -- so many bytes of the area are the file, which has no more wells than are written
+  pub wrote-file : take count (writer newest s area .area) ≡ writerFile newest s
+  wrote-file = wrote .bytes
+
+  pub wrote-few : wells s ≤ mostWritten newest
+  wrote-few = wrote .can .few-wells
+
   -- what lies past the file is untouched
-  pub past-untouched : drop count (writer v s area .area) ≡ drop count area
+  pub past-untouched : drop count (writer newest s area .area) ≡ drop count area
   past-untouched = wrote .rest
 
   -- Node externals that are ignored, k = 0, are not written. Every other number comes back with its bits, -0 with its sign, and so do model and codes.
-  pub round-trip : EachF64 s → readBytes v (take count (writer v s area .area)) ≡ some (withoutIgnored s)
+  pub round-trip : EachF64 s → readBytes newest (take count (writer newest s area .area)) ≡ some (withoutIgnored s)
   unfolding writerFile
   round-trip fit =
       let w = wrote in
-      ap (readBytes v) (w .bytes) ∙ file-reads v [] s (filable v s area fit (w .can)) (w .can .size)
+      ap (readBytes newest) (w .bytes) ∙ file-reads newest [] s (filable newest s area fit (w .can)) (w .can .size) (w .can .few-wells)
 
 -- so the survey itself, where nothing is ignored
 same-externals : (k : ℕ) (xs : List Float) → (0 < k) ⊎ (xs ≡ []) → cond (eqb k 0) [] xs ≡ xs
@@ -110,15 +118,15 @@ nothing-ignored s h = λ i.
       tolerance = s .tolerance;
     }
 
-pub round-trip-whole : (v : ℕ) (s : Survey) (area : List ℕ) (count : ℕ) → writer v s area .count ≡ some count → EachF64 s
-    → (0 < externals s) ⊎ (s .nodeExternal ≡ []) → readBytes v (take count (writer v s area .area)) ≡ some s
-round-trip-whole v s area count e fit h = round-trip v s area count e fit ∙ ap {B = Option Survey} some (nothing-ignored s h)
+pub round-trip-whole : (newest : ℕ) (s : Survey) (area : List ℕ) (count : ℕ) → writer newest s area .count ≡ some count → EachF64 s
+    → (0 < externals s) ⊎ (s .nodeExternal ≡ []) → readBytes newest (take count (writer newest s area .area)) ≡ some s
+round-trip-whole newest s area count e fit h = round-trip newest s area count e fit ∙ ap {B = Option Survey} some (nothing-ignored s h)
 
 -- ---- and through the reader's call, with areas that have room for the lists
-reading-back : (v : ℕ) (s : Survey) (bytes : List ℕ) (areas : Areas) → WellFormed v bytes → Counts s bytes → surveyIn bytes ≡ withoutIgnored s → Holds s areas
-    → reader v bytes areas ≡ answerOf s areas
+reading-back : (newest : ℕ) (s : Survey) (bytes : List ℕ) (areas : Areas) → WellFormed newest bytes → Counts s bytes
+    → surveyIn bytes ≡ withoutIgnored s → Holds s areas → reader newest bytes areas ≡ answerOf s areas
 unfolding Reader.callWhere
-reading-back v s bytes areas w c e h =
+reading-back newest s bytes areas w c e h =
     let room : ListsFit bytes areas =
     record {
       values = rw (c .wells) (h .values);
@@ -128,15 +136,16 @@ reading-back v s bytes areas w c e h =
       nodes = rw (c .nodes) (h .nodes);
       nodeExternal = rw (c .nodes, c .externals) (h .nodeExternal);
     } in
-    reader-reads v bytes areas w room
+    reader-reads newest bytes areas w room
     ∙ λ i. record { number = 0; header = some (headerOf (c .wells i) (c .nodes i) (c .bases i) (e i)); areas = filledWith (e i) areas }
 
-pub round-trip-call : (v : ℕ) (s : Survey) (area : List ℕ) (count : ℕ) → writer v s area .count ≡ some count → EachF64 s
-    → (areas : Areas) → Holds s areas → reader v (take count (writer v s area .area)) areas ≡ answerOf s areas
+pub round-trip-call : (newest : ℕ) (s : Survey) (area : List ℕ) (count : ℕ) → writer newest s area .count ≡ some count → EachF64 s
+    → (areas : Areas) → Holds s areas → reader newest (take count (writer newest s area .area)) areas ≡ answerOf s areas
 unfolding writerFile
-round-trip-call v s area count e fit areas h =
-    let w = wrote v s area count e in
-    let f = filable v s area fit (w .can) in
+round-trip-call newest s area count e fit areas h =
+    let w = wrote newest s area count e in
+    let f = filable newest s area fit (w .can) in
     let most = w .can .size in
-    ap (λ (b : List ℕ). reader v b areas) (w .bytes)
-    ∙ reading-back v s (fileOf v [] s) areas (file-well-formed v [] s f most) (file-counts v [] s f most) (file-survey v [] s f most) h
+    let well = file-well-formed newest [] s f most (w .can .few-wells) in
+    ap (λ (b : List ℕ). reader newest b areas) (w .bytes)
+    ∙ reading-back newest s (fileOf newest [] s) areas well (file-counts newest [] s f most) (file-survey newest [] s f most) h

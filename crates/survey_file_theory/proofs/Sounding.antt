@@ -11,7 +11,7 @@ use Rattle.variogram.specs.Model.{variogram, withSameSpot}
 use Rattle.variogram.specs.declared.VariogramModel.{VariogramModel}
 use Rattle.variogram.specs.declared.VariogramModel.the-variants.{Spherical, Gaussian, Linear}
 use Rattle.survey.specs.Survey.{Survey}
-use Rattle.survey_file_theory.specs.File.{baseVersion, writerFile}
+use Rattle.survey_file_theory.specs.File.{newestVersion, writerFile}
 use Rattle.survey_file_theory.specs.Reader.{readBytes}
 use Rattle.survey_file_theory.specs.Writer.{writer}
 
@@ -31,12 +31,12 @@ soundingA =
 
 -- the file's length, its code and its trailer, what the writer answers with an area of just that many bytes and of one less, and what is read back
 pub sounding-A-file :
-    let file = writerFile baseVersion soundingA in
+    let file = writerFile newestVersion soundingA in
     (length file ≡ 95)
     × (drop 80 file ≡ 1 ∷ 0 ∷ 0 ∷ 0 ∷ 0 ∷ 1 ∷ 0 ∷ 1 ∷ 0 ∷ 1 ∷ 0 ∷ 1 ∷ 1 ∷ 0 ∷ 0 ∷ [])
-    × (writer baseVersion soundingA (replicate 95 7) ≡ record { number = 0; count = some 95; area = file })
-    × (writer baseVersion soundingA (replicate 94 7) ≡ record { number = 18; count = none; area = replicate 94 7 })
-    × (readBytes baseVersion file ≡ some soundingA)
+    × (writer newestVersion soundingA (replicate 95 7) ≡ record { number = 0; count = some 95; area = file })
+    × (writer newestVersion soundingA (replicate 94 7) ≡ record { number = 18; count = none; area = replicate 94 7 })
+    × (readBytes newestVersion file ≡ some soundingA)
 unfolding writerFile writer readBytes eq ofBits
 sounding-A-file = (refl, refl, refl, refl, refl)
 
@@ -59,12 +59,12 @@ abbrev linearTrailer : ℕ → List ℕ
 linearTrailer s = s ∷ s ∷ s ∷ s ∷ 0 ∷ 0 ∷ 0 ∷ 0 ∷ 0 ∷ 0 ∷ 4 ∷ 1 ∷ 0 ∷ 0 ∷ []
 
 -- a trailer alone, a body behind a note that is shorter than S, the shortest file, the same with NaN patterns, and one with a byte too many or too few
-pub reader-edges : (readBytes baseVersion (linearTrailer 0) ≡ none)
-    × (readBytes baseVersion (replicate 40 0 ++ linearTrailer 255) ≡ none)
-    × (readBytes baseVersion (replicate 40 0 ++ linearTrailer 0) ≡ some (bare Linear zeroFloat zeroFloat [] [] []))
-    × (readBytes baseVersion (replicate 40 255 ++ linearTrailer 0) ≡ some (bare Linear nan nan [] [] []))
-    × (readBytes baseVersion (replicate 41 0 ++ linearTrailer 0) ≡ none)
-    × (readBytes baseVersion (replicate 39 0 ++ linearTrailer 0) ≡ none)
+pub reader-edges : (readBytes newestVersion (linearTrailer 0) ≡ none)
+    × (readBytes newestVersion (replicate 40 0 ++ linearTrailer 255) ≡ none)
+    × (readBytes newestVersion (replicate 40 0 ++ linearTrailer 0) ≡ some (bare Linear zeroFloat zeroFloat [] [] []))
+    × (readBytes newestVersion (replicate 40 255 ++ linearTrailer 0) ≡ some (bare Linear nan nan [] [] []))
+    × (readBytes newestVersion (replicate 41 0 ++ linearTrailer 0) ≡ none)
+    × (readBytes newestVersion (replicate 39 0 ++ linearTrailer 0) ≡ none)
 unfolding readBytes ofBits
 reader-edges = (refl, refl, refl, refl, refl, refl)
 
@@ -72,16 +72,16 @@ reader-edges = (refl, refl, refl, refl, refl, refl)
 pub any-survey :
     let minus-zero = ofBits binary64 0x8000_0000_0000_0000 in
     let minus-one = ofBits binary64 0xbff0_0000_0000_0000 in
-    readBytes baseVersion (writerFile baseVersion (bare Gaussian minus-zero minus-one [] (nan ∷ []) (7 ∷ 0 ∷ 255 ∷ [])))
+    readBytes newestVersion (writerFile newestVersion (bare Gaussian minus-zero minus-one [] (nan ∷ []) (7 ∷ 0 ∷ 255 ∷ [])))
     ≡ some (bare Gaussian minus-zero minus-one [] [] (7 ∷ 0 ∷ 255 ∷ []))
 unfolding writerFile readBytes ofBits
 any-survey = refl
 
 -- node externals count where there is a code 4; r is included in 11; 1 comes before 11
-pub writer-edges : (writer baseVersion (bare Gaussian zeroFloat zeroFloat [] (nan ∷ []) (7 ∷ [])) (replicate 55 0) .number ≡ 0)
-    × (writer baseVersion (bare Gaussian zeroFloat zeroFloat [] (nan ∷ []) (4 ∷ [])) (replicate 55 0) .number ≡ 8)
-    × (writer baseVersion (bare Gaussian zeroFloat (inf false) [] [] []) (replicate 55 0) .number ≡ 11)
-    × (writer baseVersion (bare Gaussian zeroFloat (inf false) (nan ∷ []) [] []) (replicate 55 0) .number ≡ 1)
+pub writer-edges : (writer newestVersion (bare Gaussian zeroFloat zeroFloat [] (nan ∷ []) (7 ∷ [])) (replicate 55 0) .number ≡ 0)
+    × (writer newestVersion (bare Gaussian zeroFloat zeroFloat [] (nan ∷ []) (4 ∷ [])) (replicate 55 0) .number ≡ 8)
+    × (writer newestVersion (bare Gaussian zeroFloat (inf false) [] [] []) (replicate 55 0) .number ≡ 11)
+    × (writer newestVersion (bare Gaussian zeroFloat (inf false) (nan ∷ []) [] []) (replicate 55 0) .number ≡ 1)
 unfolding writer eq ofBits
 writer-edges = (refl, refl, refl, refl)
 
@@ -102,7 +102,7 @@ spottedBare spot r =
 -- how the writer's call ends, with so many bytes lent
 abbrev pub spotNumber : Float → Float → ℕ → ℕ
 unfolding writer
-spotNumber spot r room = writer baseVersion (spottedBare spot r) (replicate room 0) .number
+spotNumber spot r room = writer newestVersion (spottedBare spot r) (replicate room 0) .number
 
 -- 22, with 55 bytes lent unless said: 1.0, the f64 just above 2^-52, the one just below and a NaN are refused; with r not finite 11 comes first; with
 -- no room 22 comes first; the f64 2^-52 itself, by its bits, is written

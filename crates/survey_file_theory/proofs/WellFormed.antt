@@ -15,11 +15,11 @@ use Rattle.survey_file_theory.specs.Areas.{Areas, listAreas}
 use Rattle.survey_file_theory.specs.Trailer.{wellsIn, nodesIn, basesIn, externalsIn, modelIn, versionIn, zeroIn, lastZeroIn}
 use Rattle.survey_file_theory.specs.Rules.{statedLength, Malformed, WellFormed, ListsFit}
 use Rattle.survey_file_theory.specs.Reader.{surveyIn, unlessMalformed, readBytes}
-use Rattle.survey_file_theory.proofs.Told.{malformed-told}
+use Rattle.survey_file_theory.proofs.Told.{version-told, malformed-told}
 
 -- ---- the file
-well-formed : (version : ℕ) (bytes : List ℕ) → ¬ Malformed version bytes → WellFormed version bytes
-well-formed version bytes n =
+well-formed : (newest : ℕ) (bytes : List ℕ) → ¬ Malformed newest bytes → WellFormed newest bytes
+well-formed newest bytes n =
     let under : ¬ (length bytes < 14) = λ x. n (inl x) in
     let over : ¬ (65536 < length bytes) = λ x. n (inr (inl x)) in
     let below-one : ¬ (modelIn bytes < 1) = λ x. n (inr (inr (inr (inl x)))) in
@@ -30,33 +30,33 @@ well-formed version bytes n =
       meet = stable (equal (length bytes) (statedLength bytes)) (λ x. n (inr (inr (inl x))));
       model-least = omega arith;
       model-most = omega arith;
-      version-is = stable (equal (versionIn bytes) version) (λ x. n (inr (inr (inr (inr (inr (inl x)))))));
+      version-taken = stable (version-told newest (versionIn bytes) (wellsIn bytes)) (λ x. n (inr (inr (inr (inr (inr (inl x)))))));
       zero-byte = stable (equal (zeroIn bytes) 0) (λ x. n (inr (inr (inr (inr (inr (inr (inl x))))))));
       last-zero-byte = stable (equal (lastZeroIn bytes) 0) (λ x. n (inr (inr (inr (inr (inr (inr (inr x))))))));
     }
 
-not-malformed : (version : ℕ) (bytes : List ℕ) → WellFormed version bytes → ¬ Malformed version bytes
-not-malformed version bytes w (inl x) = let l = w .least in omega arith
-not-malformed version bytes w (inr (inl x)) = let l = w .most in omega arith
-not-malformed version bytes w (inr (inr (inl x))) = x (w .meet)
-not-malformed version bytes w (inr (inr (inr (inl x)))) = let l = w .model-least in omega arith
-not-malformed version bytes w (inr (inr (inr (inr (inl x))))) = let l = w .model-most in omega arith
-not-malformed version bytes w (inr (inr (inr (inr (inr (inl x)))))) = x (w .version-is)
-not-malformed version bytes w (inr (inr (inr (inr (inr (inr (inl x))))))) = x (w .zero-byte)
-not-malformed version bytes w (inr (inr (inr (inr (inr (inr (inr x))))))) = x (w .last-zero-byte)
+not-malformed : (newest : ℕ) (bytes : List ℕ) → WellFormed newest bytes → ¬ Malformed newest bytes
+not-malformed newest bytes w (inl x) = let l = w .least in omega arith
+not-malformed newest bytes w (inr (inl x)) = let l = w .most in omega arith
+not-malformed newest bytes w (inr (inr (inl x))) = x (w .meet)
+not-malformed newest bytes w (inr (inr (inr (inl x)))) = let l = w .model-least in omega arith
+not-malformed newest bytes w (inr (inr (inr (inr (inl x))))) = let l = w .model-most in omega arith
+not-malformed newest bytes w (inr (inr (inr (inr (inr (inl x)))))) = x (w .version-taken)
+not-malformed newest bytes w (inr (inr (inr (inr (inr (inr (inl x))))))) = x (w .zero-byte)
+not-malformed newest bytes w (inr (inr (inr (inr (inr (inr (inr x))))))) = x (w .last-zero-byte)
 
-pub well-formed-exactly : (version : ℕ) (bytes : List ℕ) → WellFormed version bytes ↔ (¬ Malformed version bytes)
-well-formed-exactly version bytes = (not-malformed version bytes, well-formed version bytes)
+pub well-formed-exactly : (newest : ℕ) (bytes : List ℕ) → WellFormed newest bytes ↔ (¬ Malformed newest bytes)
+well-formed-exactly newest bytes = (not-malformed newest bytes, well-formed newest bytes)
 
-pub malformed-exactly : (version : ℕ) (bytes : List ℕ) → Malformed version bytes ↔ (¬ WellFormed version bytes)
-malformed-exactly version bytes = (
-  λ m w. not-malformed version bytes w m,
-  λ n. stable (malformed-told version bytes) (λ m. n (well-formed version bytes m)),
+pub malformed-exactly : (newest : ℕ) (bytes : List ℕ) → Malformed newest bytes ↔ (¬ WellFormed newest bytes)
+malformed-exactly newest bytes = (
+  λ m w. not-malformed newest bytes w m,
+  λ n. stable (malformed-told newest bytes) (λ m. n (well-formed newest bytes m)),
 )
 
 -- the codes lie before the trailer
-pub codes-before : (version : ℕ) (bytes : List ℕ) → WellFormed version bytes → basesIn bytes ≤ length bytes - 14
-codes-before version bytes w = let m = w .meet in omega arith
+pub codes-before : (newest : ℕ) (bytes : List ℕ) → WellFormed newest bytes → basesIn bytes ≤ length bytes - 14
+codes-before newest bytes w = let m = w .meet in omega arith
 
 -- ---- the areas
 room : (bytes : List ℕ) (areas : Areas) → ¬ TooShort (listAreas bytes areas) → ListsFit bytes areas
@@ -75,23 +75,23 @@ pub short-exactly : (bytes : List ℕ) (areas : Areas) → TooShort (listAreas b
 short-exactly bytes areas = (λ x r. not-short bytes areas r x, λ n. stable (short-told (listAreas bytes areas)) (λ x. n (room bytes areas x)))
 
 -- ---- what is read, exactly when
-pub reads : (version : ℕ) (bytes : List ℕ) → WellFormed version bytes → readBytes version bytes ≡ some (surveyIn bytes)
+pub reads : (newest : ℕ) (bytes : List ℕ) → WellFormed newest bytes → readBytes newest bytes ≡ some (surveyIn bytes)
 unfolding readBytes
-reads version bytes w = ap (λ (b : Bool). unlessMalformed b bytes) (refute (malformed-told version bytes) (not-malformed version bytes w))
+reads newest bytes w = ap (λ (b : Bool). unlessMalformed b bytes) (refute (malformed-told newest bytes) (not-malformed newest bytes w))
 
-pub refuses : (version : ℕ) (bytes : List ℕ) → ¬ WellFormed version bytes → readBytes version bytes ≡ none
+pub refuses : (newest : ℕ) (bytes : List ℕ) → ¬ WellFormed newest bytes → readBytes newest bytes ≡ none
 unfolding readBytes
-refuses version bytes n = ap (λ (b : Bool). unlessMalformed b bytes) (affirm (malformed-told version bytes) (malformed-exactly version bytes .1 n))
+refuses newest bytes n = ap (λ (b : Bool). unlessMalformed b bytes) (affirm (malformed-told newest bytes) (malformed-exactly newest bytes .1 n))
 
-pub read-well-formed : (version : ℕ) (bytes : List ℕ) (s : Survey) → readBytes version bytes ≡ some s → WellFormed version bytes
-read-well-formed version bytes s e =
-    well-formed version bytes λ m.
-    let r = refuses version bytes (malformed-exactly version bytes .0 m) in
+pub read-well-formed : (newest : ℕ) (bytes : List ℕ) (s : Survey) → readBytes newest bytes ≡ some s → WellFormed newest bytes
+read-well-formed newest bytes s e =
+    well-formed newest bytes λ m.
+    let r = refuses newest bytes (malformed-exactly newest bytes .0 m) in
     let z : _≡_ {A = ℕ} 0 1 = cc in
     omega arith
 
-pub refused-exactly : (version : ℕ) (bytes : List ℕ) → (readBytes version bytes ≡ none) ↔ (¬ WellFormed version bytes)
-refused-exactly version bytes = (
-  λ e w. let r = reads version bytes w in let z : _≡_ {A = ℕ} 0 1 = cc in omega arith,
-  refuses version bytes,
+pub refused-exactly : (newest : ℕ) (bytes : List ℕ) → (readBytes newest bytes ≡ none) ↔ (¬ WellFormed newest bytes)
+refused-exactly newest bytes = (
+  λ e w. let r = reads newest bytes w in let z : _≡_ {A = ℕ} 0 1 = cc in omega arith,
+  refuses newest bytes,
 )

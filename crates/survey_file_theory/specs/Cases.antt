@@ -1,12 +1,13 @@
 -- A file by its bytes. The bytes were worked out from the paper's sentence outside these definitions, by Python's struct.pack: little-endian doubles for the
 -- numbers, then the codes, then "<IHHHBBBB" for the trailer. All numbers differ, and so do n and m.
-use Prim.Native.Nat.{ℕ}
-use mathlib.Core.List.{List, [], _∷_}
+use Prim.Native.Nat.{ℕ, _+_, _*_}
+use mathlib.Core.List.{List, [], _∷_, _++_}
+use lib.ListN.{replicate}
 use lib.Ieee.{Float, binary64, ofBits}
 use Rattle.ieee.specs.Floats.{zeroFloat}
-use Rattle.variogram.specs.Model.{variogram}
+use Rattle.variogram.specs.Model.{variogram, withSameSpot}
 use Rattle.variogram.specs.declared.VariogramModel.{VariogramModel}
-use Rattle.variogram.specs.declared.VariogramModel.the-variants.{Gaussian}
+use Rattle.variogram.specs.declared.VariogramModel.the-variants.{Gaussian, Linear}
 use Rattle.survey.specs.Survey.{Survey}
 
 -- the f64 of a bit pattern
@@ -77,3 +78,23 @@ bare model =
 -- the trailer of its file, with the model's number
 abbrev pub withModel : ℕ → List ℕ
 withModel k = 0 ∷ 0 ∷ 0 ∷ 0 ∷ 0 ∷ 0 ∷ 0 ∷ 0 ∷ 0 ∷ 0 ∷ k ∷ 1 ∷ 0 ∷ 0 ∷ []
+
+-- ---- versions
+-- n wells, all zeros, with no nodes and no bases, a same-spot distance and an r
+abbrev pub zeroWells : ℕ → Float → Float → Survey
+zeroWells n spot r =
+    record {
+      values = replicate n zeroFloat;
+      coords = replicate (2 * n) zeroFloat;
+      bases = [];
+      external = [];
+      nodes = [];
+      nodeExternal = [];
+      options = record { variogram = withSameSpot (variogram Linear zeroFloat zeroFloat zeroFloat) spot; regularization = r };
+      tolerance = zeroFloat;
+    }
+
+-- the bytes of n such wells, 40 of the five numbers and 24 of each well, before a trailer that says so many wells, below 256, and a version
+abbrev pub zeroBytes : ℕ → ℕ → ℕ → List ℕ
+zeroBytes n said version =
+    replicate (40 + 24 * n) 0 ++ (0 ∷ 0 ∷ 0 ∷ 0 ∷ said ∷ 0 ∷ 0 ∷ 0 ∷ 0 ∷ 0 ∷ 4 ∷ version ∷ 0 ∷ 0 ∷ [])

@@ -60,10 +60,10 @@ abbrev pub unlessMalformed : Bool → List ℕ → Option Survey
 unlessMalformed true bytes = none
 unlessMalformed false bytes = some (surveyIn bytes)
 
--- what files of a version say
+-- what bytes say to a reader that knows the versions up to the newest
 unfoldable pub readBytes : ℕ → List ℕ → Option Survey
 unfolding surveyIn
-readBytes version bytes = unlessMalformed (malformed version bytes) bytes
+readBytes newest bytes = unlessMalformed (malformed newest bytes) bytes
 
 -- how many wells, nodes and bases there are, and what a survey has besides its lists
 abbrev pub headerOf : ℕ → ℕ → ℕ → Survey → Header
@@ -89,10 +89,10 @@ callWhere zero bytes areas =
     record { number = 0; header = some (headerOf (wellsIn bytes) (nodesIn bytes) (basesIn bytes) s); areas = filledWith s areas }
 callWhere (suc k) bytes areas = record { number = suc k; header = none; areas = areas }
 
--- the whole call, for files of a version
+-- the whole call, of a reader that knows the versions up to the newest
 unfoldable pub reader : ℕ → List ℕ → Areas → Outcome
 unfolding callWhere readerRefusal
-reader version bytes areas = callWhere (readerRefusal version bytes areas) bytes areas
+reader newest bytes areas = callWhere (readerRefusal newest bytes areas) bytes areas
 
 -- what it answers where it reads a survey: node externals that are ignored are not there
 abbrev pub answerOf : Survey → Areas → Outcome
@@ -129,10 +129,10 @@ pub record Reads (bytes : List ℕ) (areas : Areas) (o : Outcome) : Type 0 where
   pub filled : Filled bytes (surveyIn bytes) areas (o .areas)
 
 -- a call ended as o: each number exactly when, and what its areas hold then
-pub record Ends (version : ℕ) (bytes : List ℕ) (areas : Areas) (o : Outcome) : Type 0 where
+pub record Ends (newest : ℕ) (bytes : List ℕ) (areas : Areas) (o : Outcome) : Type 0 where
   -- the number is that of the first rule that applies, 0 where none does
-  pub ruled : (k : ℕ) → (o .number ≡ k) ↔ Ruled (readerRules version bytes areas) k
-  pub accepted : (o .number ≡ 0) ↔ (WellFormed version bytes × ListsFit bytes areas)
+  pub ruled : (k : ℕ) → (o .number ≡ k) ↔ Ruled (readerRules newest bytes areas) k
+  pub accepted : (o .number ≡ 0) ↔ (WellFormed newest bytes × ListsFit bytes areas)
   -- "A refusal carries only its number and writes nothing"
   pub refused : o .number ≢ 0 → (o .header ≡ none) × (o .areas ≡ areas)
   pub reads : o .number ≡ 0 → Reads bytes areas o

@@ -11,23 +11,24 @@ use Rattle.error.specs.Tests.{Test, test, firstOf}
 use Rattle.error.specs.Short.{tooShort}
 use Rattle.survey.specs.Survey.{Survey, wells, nodeCount}
 use Rattle.survey.specs.Refusals.{wrongCoords, oddNodes, wrongExternal, wrongNodeExternal, numberNotFinite}
-use Rattle.survey_file_theory.specs.File.{longestFile, greatestCount, trailerLength, writerFile}
+use Rattle.survey_file_theory.specs.File.{longestFile, greatestCount, trailerLength, mostWells, versionTaken, writerFile}
 use Rattle.survey_file_theory.specs.Areas.{Areas, listAreas}
-use Rattle.survey_file_theory.specs.Trailer.{lengthIn, modelIn, versionIn, zeroIn, lastZeroIn}
+use Rattle.survey_file_theory.specs.Trailer.{lengthIn, wellsIn, modelIn, versionIn, zeroIn, lastZeroIn}
 
--- 16: "under 14 or over 65,536 bytes, lengths that do not meet exactly, another model or version, trailer zeros not zero"
+-- 16: "under 14 or over 65,536 bytes, lengths that do not meet exactly, another model or version, trailer zeros not zero"; "a version 2 file must have n from
+-- 49 to 96, else 16"
 abbrev pub malformed : ℕ → List ℕ → Bool
-malformed version bytes =
+malformed newest bytes =
     ltb (length bytes) trailerLength
     || (ltb longestFile (length bytes)
     || (not (eqb (length bytes) (lengthIn bytes))
     || (ltb (modelIn bytes) 1
     || (ltb 4 (modelIn bytes)
-    || (not (eqb (versionIn bytes) version) || (not (eqb (zeroIn bytes) 0) || not (eqb (lastZeroIn bytes) 0)))))))
+    || (not (versionTaken newest (versionIn bytes) (wellsIn bytes)) || (not (eqb (zeroIn bytes) 0) || not (eqb (lastZeroIn bytes) 0)))))))
 
 -- "after 16"
 abbrev pub readerTests : ℕ → List ℕ → Areas → List Test
-readerTests version bytes areas = test 16 (malformed version bytes) ∷ test 18 (tooShort (listAreas bytes areas)) ∷ []
+readerTests newest bytes areas = test 16 (malformed newest bytes) ∷ test 18 (tooShort (listAreas bytes areas)) ∷ []
 
 -- 11: as of a survey, "r and t included"
 unfoldable pub someNumberNotFinite : Survey → Bool
@@ -38,34 +39,34 @@ someNumberNotFinite s = numberNotFinite s (s .nodeExternal) || (not (finite (s .
 abbrev pub otherSpot : Survey → Bool
 otherSpot s = not (eq (s .options .variogram .«same_spot») epsilon)
 
--- 16: "over 65,536 bytes or a count over 65,535"
+-- 16: "over 65,536 bytes or a count over 65,535", and "The writer refuses n > 96 by 16"
 abbrev pub tooLong : ℕ → Survey → Bool
-tooLong version s =
-    ltb longestFile (length (writerFile version s))
-    || (ltb greatestCount (wells s) || (ltb greatestCount (nodeCount s) || ltb greatestCount (length (s .bases))))
+tooLong newest s =
+    ltb longestFile (length (writerFile newest s))
+    || (ltb (mostWells newest) (wells s) || (ltb greatestCount (nodeCount s) || ltb greatestCount (length (s .bases))))
 
 -- 18: "for the writer, the file's length"
 abbrev pub shortFile : ℕ → Survey → List ℕ → Bool
-shortFile version s area = ltb (length area) (length (writerFile version s))
+shortFile newest s area = ltb (length area) (length (writerFile newest s))
 
 -- "1, 2, 6, 8, 11 (r and t included), 16 (over 65,536 bytes or a count over 65,535), 18, in that order", and 22 "straight after 11"
 abbrev pub writerTests : ℕ → Survey → List ℕ → List Test
-writerTests version s area =
+writerTests newest s area =
     test 1 (wrongCoords s)
     ∷ test 2 (oddNodes s)
     ∷ test 6 (wrongExternal s)
     ∷ test 8 (wrongNodeExternal s (nodeCount s) (s .nodeExternal))
     ∷ test 11 (someNumberNotFinite s)
     ∷ test 22 (otherSpot s)
-    ∷ test 16 (tooLong version s)
-    ∷ test 18 (shortFile version s area)
+    ∷ test 16 (tooLong newest s)
+    ∷ test 18 (shortFile newest s area)
     ∷ []
 
 -- the number that refuses a call of the reader, and one of the writer; 0 where it is accepted
 unfoldable pub readerRefusal : ℕ → List ℕ → Areas → ℕ
 unfolding firstOf
-readerRefusal version bytes areas = firstOf (readerTests version bytes areas)
+readerRefusal newest bytes areas = firstOf (readerTests newest bytes areas)
 
 unfoldable pub writerRefusal : ℕ → Survey → List ℕ → ℕ
 unfolding firstOf someNumberNotFinite writerFile
-writerRefusal version s area = firstOf (writerTests version s area)
+writerRefusal newest s area = firstOf (writerTests newest s area)

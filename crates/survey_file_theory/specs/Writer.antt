@@ -28,27 +28,27 @@ outcomeOf (Written.Refused refusal) area = record { number = numberOf refusal; c
 -- the call by its refusal: "A refusal carries only its number and writes nothing"; else the area has the file
 unfoldable pub callWhere : ℕ → ℕ → Survey → List ℕ → Outcome
 unfolding writerFile
-callWhere zero version s area =
-    let file = writerFile version s in
+callWhere zero newest s area =
+    let file = writerFile newest s in
     record { number = 0; count = some (length file); area = copied 0 file area }
-callWhere (suc k) version s area = record { number = suc k; count = none; area = area }
+callWhere (suc k) newest s area = record { number = suc k; count = none; area = area }
 
--- the whole call, for files of a version
+-- the whole call, of a writer that knows the versions up to the newest
 unfoldable pub writer : ℕ → Survey → List ℕ → Outcome
 unfolding callWhere writerRefusal
-writer version s area = callWhere (writerRefusal version s area) version s area
+writer newest s area = callWhere (writerRefusal newest s area) newest s area
 
 -- ---- how it ends, as the paper says it
 -- an accepted call: the file, its length, and "all past the named lengths is untouched"
-pub record Writes (version : ℕ) (s : Survey) (area : List ℕ) (o : Outcome) : Type 0 where
-  pub count : o .count ≡ some (length (writerFile version s))
-  pub file : o .area ≡ writerFile version s ++ drop (length (writerFile version s)) area
+pub record Writes (newest : ℕ) (s : Survey) (area : List ℕ) (o : Outcome) : Type 0 where
+  pub count : o .count ≡ some (length (writerFile newest s))
+  pub file : o .area ≡ writerFile newest s ++ drop (length (writerFile newest s)) area
 
 -- a call ended as o: each number exactly when, and what its area holds then
-pub record Ends (version : ℕ) (s : Survey) (area : List ℕ) (o : Outcome) : Type 0 where
+pub record Ends (newest : ℕ) (s : Survey) (area : List ℕ) (o : Outcome) : Type 0 where
   -- the number is that of the first rule that applies, 0 where none does
-  pub ruled : (k : ℕ) → (o .number ≡ k) ↔ Ruled (writerRules version s area) k
-  pub accepted : (o .number ≡ 0) ↔ Writable version s area
+  pub ruled : (k : ℕ) → (o .number ≡ k) ↔ Ruled (writerRules newest s area) k
+  pub accepted : (o .number ≡ 0) ↔ Writable newest s area
   -- "A refusal carries only its number and writes nothing"
   pub refused : o .number ≢ 0 → (o .count ≡ none) × (o .area ≡ area)
-  pub writes : o .number ≡ 0 → Writes version s area o
+  pub writes : o .number ≡ 0 → Writes newest s area o

@@ -2,15 +2,17 @@
 use Prim.Native.Nat.{ℕ, _+_, _≤_}
 use native.Mathlib.Decide.{decLt}
 use native.Mathlib.Omega.{arith}
-use mathlib.Core.Path.{_≡_, refl}
-use mathlib.Core.Bool.{Bool, true, false, cond}
+use mathlib.Core.Path.{_≡_, refl, sym}
+use mathlib.Core.Bool.{Bool, true, false, cond, _||_}
 use mathlib.Core.List.{List, [], _++_}
 use borrow.Author.Tests.{lt-ltb, le-ltb}
 use lib.Dec.{eqb, ltb}
 use lib.ListN.{length, length-append}
+use Rattle.error.proofs.First.{last-one}
+use Rattle.survey.specs.Limits.{library}
 use Rattle.survey.specs.Survey.{Survey, wells, nodeCount, externals, externalCount}
 use Rattle.survey_file_theory.specs.Contents.{numbers, nodeExternals}
-use Rattle.survey_file_theory.specs.File.{longestFile, greatestCount, writerFile}
+use Rattle.survey_file_theory.specs.File.{longestFile, greatestCount, newestVersion, writerFile}
 use Rattle.survey_file_theory.specs.Refusals.{tooLong}
 use Rattle.survey_file_theory.proofs.ReadBack.{length-file}
 use Rattle.survey_file_writer.specs.Parts.{taken, bytesFor}
@@ -44,22 +46,23 @@ length-numbers s =
     omega arith
 
 -- ---- bytes
-pub length-written : (v : ℕ) (s : Survey) → length (writerFile v s) ≡ bytesFor (length (numbers s)) (length (s .bases))
+pub length-written : (newest : ℕ) (s : Survey) → length (writerFile newest s) ≡ bytesFor (length (numbers s)) (length (s .bases))
 unfolding writerFile
-length-written v s = let l = length-file v [] s in omega arith
+length-written newest s = let l = length-file newest [] s in omega arith
 
--- 16 by the length alone: a count over 65,535 makes a file over 65,536 bytes
-pub too-long-is : (v : ℕ) (s : Survey) → ltb longestFile (length (writerFile v s)) ≡ tooLong v s
-too-long-is v s =
-    let l = length-written v s in
+-- 16 by the length and the wells alone: any other count over 65,535 makes a file over 65,536 bytes
+pub too-long-is : (s : Survey) → let file = writerFile newestVersion s in
+    (ltb longestFile (length file) || ltb (library .wells) (wells s)) ≡ tooLong newestVersion s
+too-long-is s =
+    let file = writerFile newestVersion s in
+    let l = length-written newestVersion s in
     let k = length-numbers s in
-    elim (decLt longestFile (length (writerFile v s))) [
-      | yes p ↦ rw (lt-ltb longestFile (length (writerFile v s)) p)
+    elim (decLt longestFile (length file)) [
+      | yes p ↦ rw (lt-ltb longestFile (length file) p)
       | no n ↦
           rw (
-            le-ltb longestFile (length (writerFile v s)) (omega arith),
-            le-ltb greatestCount (wells s) (omega arith),
+            le-ltb longestFile (length file) (omega arith),
             le-ltb greatestCount (nodeCount s) (omega arith),
             le-ltb greatestCount (length (s .bases)) (omega arith),
-          )
+          ) (sym (last-one (ltb (library .wells) (wells s))))
     ]

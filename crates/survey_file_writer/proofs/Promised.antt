@@ -17,7 +17,7 @@ use Rattle.survey.specs.Survey.{Survey, externals}
 use Rattle.survey_file_theory.specs.declared.Written.the-variants.{Done, Refused}
 use Rattle.survey_file_theory.specs.Areas.{Areas, Holds}
 use Rattle.survey_file_theory.specs.Contents.{numbers, nodeExternals, EachF64}
-use Rattle.survey_file_theory.specs.File.{baseVersion, writerFile}
+use Rattle.survey_file_theory.specs.File.{newestVersion, writerFile}
 use Rattle.survey_file_theory.specs.Refusals.{writerRefusal}
 use Rattle.survey_file_theory.specs.Reader.{reader, answerOf}
 use Rattle.survey_file_theory.specs.Writer.{Outcome, outcomeOf, callWhere, writer, Ends}
@@ -74,37 +74,37 @@ each-f64 s h = record { numbers = numbers-fit s h; spot = rw (h .spot) tt }
 
 module _ (s : Survey) (area : List ℕ) where
   -- ---- the two ways in which the call ends
-  pub refused-there : (r : Refusal) → numberOf r ≡ writerRefusal baseVersion s area → outcomeOf (Refused r) area ≡ writer baseVersion s area
+  pub refused-there : (r : Refusal) → numberOf r ≡ writerRefusal newestVersion s area → outcomeOf (Refused r) area ≡ writer newestVersion s area
   unfolding writer callWhere
-  refused-there r e = go (writerRefusal baseVersion s area) e
+  refused-there r e = go (writerRefusal newestVersion s area) e
     where
-      go : (k : ℕ) → numberOf r ≡ k → outcomeOf (Refused r) area ≡ callWhere k baseVersion s area
+      go : (k : ℕ) → numberOf r ≡ k → outcomeOf (Refused r) area ≡ callWhere k newestVersion s area
       go zero h = absurd (First.numbers r h)
       go (suc k) h = λ i. record { number = h i; count = none; area = area }
 
   -- what nothing turns away has room
-  pub room-there : writerRefusal baseVersion s area ≡ 0 → length (writerFile baseVersion s) ≤ length area
+  pub room-there : writerRefusal newestVersion s area ≡ 0 → length (writerFile newestVersion s) ≤ length area
   unfolding writer callWhere
-  room-there e = written-exactly baseVersion s area .0 (ap (λ (k : ℕ). callWhere k baseVersion s area .number) e) .room
+  room-there e = written-exactly newestVersion s area .0 (ap (λ (k : ℕ). callWhere k newestVersion s area .number) e) .room
 
-  pub written-there : {count : ℕ} {after : List ℕ} → writerRefusal baseVersion s area ≡ 0 → Put 0 (writerFile baseVersion s) area count after
-      → outcomeOf (Done count) after ≡ writer baseVersion s area
+  pub written-there : {count : ℕ} {after : List ℕ} → writerRefusal newestVersion s area ≡ 0 → Put 0 (writerFile newestVersion s) area count after
+      → outcomeOf (Done count) after ≡ writer newestVersion s area
   unfolding writer callWhere
   written-there e p =
-      (λ i. record { number = 0; count = some ((p .past ∙ zero-add (length (writerFile baseVersion s))) i); area = p .holds i })
-      ∙ ap (λ (k : ℕ). callWhere k baseVersion s area) (sym e)
+      (λ i. record { number = 0; count = some ((p .past ∙ zero-add (length (writerFile newestVersion s))) i); area = p .holds i })
+      ∙ ap (λ (k : ℕ). callWhere k newestVersion s area) (sym e)
 
   -- ---- the clauses, in their order: equation, ends, back
   abbrev Promise : Outcome → Type 0
   Promise e =
-      (e ≡ writer baseVersion s area)
-      × Ends baseVersion s area e
-      × ((count : ℕ) → e .count ≡ some count → (lent : Areas) → Holds s lent → reader baseVersion (take count (e .area)) lent ≡ answerOf s lent)
+      (e ≡ writer newestVersion s area)
+      × Ends newestVersion s area e
+      × ((count : ℕ) → e .count ≡ some count → (lent : Areas) → Holds s lent → reader newestVersion (take count (e .area)) lent ≡ answerOf s lent)
 
-  pub promised : Handed s → {e : Outcome} → e ≡ writer baseVersion s area → Promise e
+  pub promised : Handed s → {e : Outcome} → e ≡ writer newestVersion s area → Promise e
   promised given h =
       subst Promise (sym h) (
         refl,
-        writer-ends baseVersion s area,
-        λ count said lent holds. round-trip-call baseVersion s area count said (each-f64 s given) lent holds,
+        writer-ends newestVersion s area,
+        λ count said lent holds. round-trip-call newestVersion s area count said (each-f64 s given) lent holds,
       )

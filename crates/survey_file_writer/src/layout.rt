@@ -3,6 +3,9 @@ use crate::bytes::put_numbers;
 use crate::refusals::taken_externals;
 use area::put_bytes;
 use survey::UniversalKrigingOptions;
+use survey_file_theory::MOST_IN_VERSION_1;
+use survey_file_theory::NEWEST_VERSION;
+use survey_file_theory::OLD_VERSION;
 use variogram::VariogramModel;
 ghost use mathlib.Core.Path.{_≡_};
 ghost use Prim.Native.Nat.{_+_, _*_, _/_, _%_, _≤_};
@@ -10,11 +13,8 @@ ghost use lib.ListN.{length};
 ghost use Rattle.ieee.specs.Bytes.{f64Bytes};
 ghost use Rattle.survey.specs.Survey.{Survey, surveyOf, wells, nodeCount};
 ghost use Rattle.survey_file_theory.specs.Contents.{numbers};
-ghost use Rattle.survey_file_theory.specs.File.{baseVersion, modelNumber, trailer, writerFile};
+ghost use Rattle.survey_file_theory.specs.File.{newestVersion, versionFor, modelNumber, trailer, writerFile};
 ghost use Rattle.area.specs.Placed.{Put};
-
-// The version of every file that is written.
-const VERSION: u8 = 1;
 
 // The model's number, in the enum's order.
 fn model_number(model: VariogramModel) -> u8
@@ -26,6 +26,16 @@ fn model_number(model: VariogramModel) -> u8
         VariogramModel::Gaussian => 3,
         VariogramModel::Linear => 4,
     }
+}
+
+// The version of a survey of n wells: the old one as far as it goes, so that old readers take what they took.
+fn version_of(n: usize) -> u8
+    ensures { λ r. ⌜ r ≡ versionFor newestVersion n ⌝ }
+{
+    if n > MOST_IN_VERSION_1 {
+        return NEWEST_VERSION;
+    }
+    OLD_VERSION
 }
 
 // The lowest byte of a count.
@@ -53,7 +63,7 @@ fn put_trailer(
 ) -> usize
     requires { ⌜ at + 14 ≤ length (now file) ⌝ }
     ensures { λ r. ⌜ ((s : Survey) → wells s ≡ n → nodeCount s ≡ m → length (s .bases) ≡ codes → s .options .variogram .model ≡ model
-        → Put at (trailer baseVersion 0 s) (now (file .entry)) r (now (file .exit))) ⌝ }
+        → Put at (trailer newestVersion 0 s) (now (file .entry)) r (now (file .exit))) ⌝ }
 {
     let bytes = [
         0,
@@ -67,7 +77,7 @@ fn put_trailer(
         low(codes),
         high(codes),
         model_number(model),
-        VERSION,
+        version_of(n),
         0,
         0,
     ];
@@ -116,9 +126,9 @@ pub(crate) fn put_file(
     tolerance: f64,
     file: &mut [u8],
 ) -> usize
-    requires { ⌜ length (writerFile baseVersion
+    requires { ⌜ length (writerFile newestVersion
         (surveyOf (now values) (now coords) (now bases) (now external) options (now nodes) (now «node_external») tolerance)) ≤ length (now file) ⌝ }
-    ensures { λ r. ⌜ Put 0 (writerFile baseVersion
+    ensures { λ r. ⌜ Put 0 (writerFile newestVersion
         (surveyOf (now (values .entry)) (now (coords .entry)) (now (bases .entry)) (now (external .entry))
         options (now (nodes .entry)) (now («node_external» .entry)) tolerance))
         (now (file .entry)) r (now (file .exit)) ⌝ }

@@ -14,12 +14,13 @@ ghost use Prim.Native.Nat.{ℕ};
 ghost use lib.ListN.{take};
 ghost use Rattle.survey.specs.Survey.{surveyOf};
 ghost use Rattle.survey_file_theory.specs.Areas.{Areas, Holds};
-ghost use Rattle.survey_file_theory.specs.File.{baseVersion};
+ghost use Rattle.survey_file_theory.specs.File.{newestVersion};
 ghost use Rattle.survey_file_theory.specs.Reader.{reader, answerOf};
 ghost use Rattle.survey_file_theory.specs.Writer.{outcomeOf, writer, Ends};
 
 // Writes a survey as a file, with no note, and says how many bytes it has: values and coordinates of n wells, basis codes, external values column after
-// column, m nodes with theirs node after node. A file has no place for the same-spot distance: any but 2^-52 is refused by 22.
+// column, m nodes with theirs node after node. A file has no place for the same-spot distance: any but 2^-52 is refused by 22. Up to 48 wells its version is 1,
+// above 2, and more than the library takes are refused by 16.
 pub fn write_survey(
     values: &[f64],
     coords: &[f64],
@@ -37,12 +38,12 @@ pub fn write_survey(
         options (now (nodes .entry)) (now («node_external» .entry)) tolerance in
         let e = outcomeOf r (now (file .exit)) in
         -- the whole of it, refused calls too
-        let equation : Type 0 = e ≡ writer baseVersion s (now (file .entry)) in
+        let equation : Type 0 = e ≡ writer newestVersion s (now (file .entry)) in
         -- each number exactly when, and what the file holds then
-        let ends : Type 0 = Ends baseVersion s (now (file .entry)) e in
+        let ends : Type 0 = Ends newestVersion s (now (file .entry)) e in
         -- "what it wrote reads back bit for bit": into whatever areas have room for the lists
         let back : Type 0 = (count : ℕ) → e .count ≡ some count → (lent : Areas) → Holds s lent
-        → reader baseVersion (take count (now (file .exit))) lent ≡ answerOf s lent in
+        → reader newestVersion (take count (now (file .exit))) lent ≡ answerOf s lent in
         ⌜ equation × ends × back ⌝ }
 {
     let judgement = writer_refusal(

@@ -1,21 +1,24 @@
 // What turns the writer away: 1, 2, 6, 8, 11, 22, 16, 18, in that order.
 use error::Judgement;
 use error::Refusal;
+use survey::MOST_WELLS;
 use survey::UniversalKrigingOptions;
 use survey_checks::counts::external_columns;
 use survey_checks::counts::is_product;
 use survey_checks::refusals::number_not_finite;
 use variogram::Variogram;
 ghost use mathlib.Core.Path.{_≡_};
+ghost use mathlib.Core.Bool.{_||_};
 ghost use lib.Dec.{ltb};
 ghost use lib.Ieee.{Float};
 ghost use lib.ListN.{length};
 ghost use Rattle.error.specs.Numbers.{judged};
 ghost use Rattle.error.specs.Tests.{firstOf};
 ghost use Rattle.survey.specs.declared.UniversalKrigingOptions.{UniversalKrigingOptions};
+ghost use Rattle.survey.specs.Limits.{library};
 ghost use Rattle.survey.specs.Survey.{surveyOf};
 ghost use Rattle.survey_file_theory.specs.Contents.{numbers};
-ghost use Rattle.survey_file_theory.specs.File.{baseVersion};
+ghost use Rattle.survey_file_theory.specs.File.{longestFile, newestVersion};
 ghost use Rattle.survey_file_theory.specs.Refusals.{someNumberNotFinite, writerRefusal};
 ghost use Rattle.survey_file_writer.specs.Parts.{lengthTests, taken, bytesFor};
 
@@ -127,7 +130,18 @@ fn longer(count: usize, codes: usize, most: usize) -> bool
     (left - codes) / 8 < count
 }
 
-// The first of them that applies. A count over 65,535 makes a file over 65,536 bytes, so that its length alone gives 16.
+// 16: whether a file of so many numbers and codes is too long, or has too many wells. Any other count over 65,535 makes a file over 65,536 bytes, so that its
+// length alone gives 16.
+fn is_too_long(n: usize, count: usize, codes: usize) -> bool
+    ensures { λ r. ⌜ r ≡ (ltb longestFile (bytesFor count codes) || ltb (library .wells) n) ⌝ }
+{
+    if longer(count, codes, LONGEST_FILE) {
+        return true;
+    }
+    n > MOST_WELLS
+}
+
+// The first of them that applies.
 pub(crate) fn writer_refusal(
     values: &[f64],
     coords: &[f64],
@@ -139,7 +153,7 @@ pub(crate) fn writer_refusal(
     tolerance: f64,
     file: &[u8],
 ) -> Judgement
-    ensures { λ r. ⌜ judged r ≡ writerRefusal baseVersion
+    ensures { λ r. ⌜ judged r ≡ writerRefusal newestVersion
         (surveyOf (now (values .entry)) (now (coords .entry)) (now (bases .entry)) (now (external .entry))
         options (now (nodes .entry)) (now («node_external» .entry)) tolerance)
         (now (file .entry)) ⌝ }
@@ -167,7 +181,7 @@ pub(crate) fn writer_refusal(
     }
     let count = number_count(values, coords, bases, external, nodes, node_external);
     let codes = bases.len();
-    if longer(count, codes, LONGEST_FILE) {
+    if is_too_long(values.len(), count, codes) {
         return Judgement::Refused(Refusal::SurveyFile);
     }
     if longer(count, codes, file.len()) {

@@ -19,7 +19,7 @@ use Rattle.kriging_theory.specs.Rules.{rules}
 use Rattle.kriging_theory.specs.Refusals.{refusal}
 use Rattle.kriging_theory.specs.Fit.{fitted}
 use Rattle.kriging_theory.proofs.Endings.{told, fit-ends, first-in-a-fit}
-use Rattle.survey_file_theory.specs.File.{baseVersion}
+use Rattle.survey_file_theory.specs.File.{newestVersion}
 use Rattle.survey_file_theory.specs.Refusals.{malformed}
 use Rattle.survey_file_theory.specs.Reader.{surveyIn}
 use Rattle.survey_file_theory.proofs.Reader.{eighteen-exactly}
@@ -88,7 +88,7 @@ module _ (s : Survey) where
 module _ (bytes : List ℕ) where
   pub file-apart : (k : ℕ) → k ≢ 16 → surveyText (surveyIn bytes) ≢ refusedText k → fileText bytes ≢ refusedText k
   unfolding fileText
-  file-apart k n d = go (malformed baseVersion bytes)
+  file-apart k n d = go (malformed newestVersion bytes)
     where
       go : (b : Bool) → cond b (refusedText 16) (surveyText (surveyIn bytes)) ≢ refusedText k
       go true e = n (sym (refusals-apart 16 k e))
@@ -98,7 +98,7 @@ module _ (bytes : List ℕ) where
   ample-for-file =
       let s = ample-for-fit (surveyIn bytes) in
       record {
-        lists = λ e. let x = eighteen-exactly baseVersion bytes ownLists .0 e in x .1 (lists-fit bytes (x .0));
+        lists = λ e. let x = eighteen-exactly newestVersion bytes ownLists .0 e in x .1 (lists-fit bytes (x .0));
         never-17 = file-apart 17 (λ x. omega arith) (s .never-17);
         never-18 = file-apart 18 (λ x. omega arith) (s .never-18);
       }

@@ -8,7 +8,7 @@ use lib.Seq.{take-at}
 use Rattle.survey.specs.Survey.{surveyOf, externalCount}
 use Rattle.survey_file_theory.specs.declared.Header.{Header}
 use Rattle.survey_file_theory.specs.declared.Read.{Read}
-use Rattle.survey_file_theory.specs.File.{baseVersion}
+use Rattle.survey_file_theory.specs.File.{newestVersion}
 use Rattle.survey_file_theory.specs.Areas.{Areas}
 use Rattle.survey_file_theory.specs.Rules.{WellFormed}
 use Rattle.survey_file_theory.specs.Trailer.{wellsIn, nodesIn, basesIn, externalsIn}
@@ -59,8 +59,8 @@ module _ (bytes : List ℕ) where
         λ i. surveyOf (values i) (coords i) (codes i) (external i) (surveyIn bytes .options) (nodes i) (nodeExternal i) (surveyIn bytes .tolerance)
 
 -- ---- after a call that read
-module _ (bytes : List ℕ) (before after : Areas) (h : Header) (e : Ends baseVersion bytes before (outcomeOf (Read.Done h) after)) where
-  pub read-well-formed : WellFormed baseVersion bytes
+module _ (bytes : List ℕ) (before after : Areas) (h : Header) (e : Ends newestVersion bytes before (outcomeOf (Read.Done h) after)) where
+  pub read-well-formed : WellFormed newestVersion bytes
   read-well-formed = e .accepted .0 refl .0
 
   told : headerOf (wellsIn bytes) (nodesIn bytes) (basesIn bytes) (surveyIn bytes) ≡ h

@@ -6,7 +6,7 @@ use mathlib.Core.Path.{_≡_}
 use mathlib.Core.List.{List}
 use lib.ListN.{length, length-replicate}
 use Rattle.ieee.specs.Floats.{zeroFloat}
-use Rattle.survey_file_theory.specs.File.{baseVersion}
+use Rattle.survey_file_theory.specs.File.{newestVersion}
 use Rattle.survey_file_theory.specs.Trailer.{startIn, wellsIn, nodesIn, basesIn, externalsIn}
 use Rattle.survey_file_theory.specs.Rules.{WellFormed, ListsFit}
 use Rattle.survey_map.specs.Areas.{mostNumbers, mostCodes, ownLists, mostNodes, mostColumns, mostWork, mostWeights, ownAreas}
@@ -45,7 +45,7 @@ beside k n rest h =
     ]
 
 -- whatever a readable file can hold
-pub lists-fit : (bytes : List ℕ) → WellFormed baseVersion bytes → ListsFit bytes ownLists
+pub lists-fit : (bytes : List ℕ) → WellFormed newestVersion bytes → ListsFit bytes ownLists
 lists-fit bytes w =
     let k = externalsIn bytes in
     let n = wellsIn bytes in

@@ -16,7 +16,7 @@ use Rattle.survey.specs.Limits.{program}
 use Rattle.survey.specs.Survey.{Survey}
 use Rattle.kriging_theory.specs.Areas.{Areas}
 use Rattle.kriging_theory.specs.Fit.{fitted}
-use Rattle.survey_file_theory.specs.File.{baseVersion}
+use Rattle.survey_file_theory.specs.File.{newestVersion}
 use Rattle.survey_file_theory.specs.Rules.{WellFormed, readerRules, Malformed}
 use Rattle.survey_file_theory.specs.Reader.{surveyIn}
 use Rattle.survey_file_theory.proofs.Told.{malformed-told}
@@ -58,19 +58,19 @@ module _ (s : Survey) (a : Areas) where
 
 -- ---- a file
 module _ (bytes : List ℕ) where
-  pub read-text : WellFormed baseVersion bytes → surveyText (surveyIn bytes) ≡ fileText bytes
+  pub read-text : WellFormed newestVersion bytes → surveyText (surveyIn bytes) ≡ fileText bytes
   unfolding fileText
   read-text w =
       sym (ap (λ (b : Bool). cond b (refusedText 16) (surveyText (surveyIn bytes)))
-      (refute (malformed-told baseVersion bytes) (well-formed-exactly baseVersion bytes .0 w)))
+      (refute (malformed-told newestVersion bytes) (well-formed-exactly newestVersion bytes .0 w)))
 
-  pub malformed-text : Malformed baseVersion bytes → refusedText 16 ≡ fileText bytes
+  pub malformed-text : Malformed newestVersion bytes → refusedText 16 ≡ fileText bytes
   unfolding fileText
   malformed-text m =
-      sym (ap (λ (b : Bool). cond b (refusedText 16) (surveyText (surveyIn bytes))) (affirm (malformed-told baseVersion bytes) m))
+      sym (ap (λ (b : Bool). cond b (refusedText 16) (surveyText (surveyIn bytes))) (affirm (malformed-told newestVersion bytes) m))
 
   -- what the reader turns away with the program's areas it turns away by 16
-  pub unread-text : (r : Refusal) → Ruled (readerRules baseVersion bytes ownLists) (numberOf r) → refusedText (numberOf r) ≡ fileText bytes
+  pub unread-text : (r : Refusal) → Ruled (readerRules newestVersion bytes ownLists) (numberOf r) → refusedText (numberOf r) ≡ fileText bytes
   unread-text r (inl x) = ap refusedText (x .1) ∙ malformed-text (x .0)
-  unread-text r (inr (m, inl x)) = absurd (room-exactly bytes ownLists .0 (lists-fit bytes (well-formed-exactly baseVersion bytes .1 m)) (x .0))
+  unread-text r (inr (m, inl x)) = absurd (room-exactly bytes ownLists .0 (lists-fit bytes (well-formed-exactly newestVersion bytes .1 m)) (x .0))
   unread-text r (inr (m, inr x)) = absurd (numbers r (x .1))

@@ -11,7 +11,7 @@ use Rattle.survey.specs.Survey.{Survey, wells, nodeCount, columns}
 use Rattle.survey.specs.Rules.{listRules}
 use Rattle.kriging_theory.specs.Areas.{Areas}
 use Rattle.kriging_theory.specs.Fit.{fitted}
-use Rattle.survey_file_theory.specs.File.{baseVersion}
+use Rattle.survey_file_theory.specs.File.{newestVersion}
 use Rattle.survey_file_theory.specs.Refusals.{malformed}
 use Rattle.survey_file_theory.specs.Reader.{surveyIn, reader}
 use Rattle.report.specs.Listing.{listing, refusedText}
@@ -33,7 +33,7 @@ surveyText s = let o = fitted program s ownAreas in fitText (o .number) s (o .ar
 -- of a file: "16 comes before the fit's"
 unfoldable pub fileText : List ℕ → List ℕ
 unfolding surveyText
-fileText bytes = cond (malformed baseVersion bytes) (refusedText 16) (surveyText (surveyIn bytes))
+fileText bytes = cond (malformed newestVersion bytes) (refusedText 16) (surveyText (surveyIn bytes))
 
 -- ---- what holds of it
 -- one byte more than a file may have
@@ -67,6 +67,6 @@ NeverSpot bytes = fileText bytes ≢ refusedText 22
 
 -- whatever the bytes, the areas for their lists are too: the reader's only refusal is 16, and what is printed is never 17 or 18
 pub record AmpleForFile (bytes : List ℕ) : Type 0 where
-  pub lists : reader baseVersion bytes ownLists .number ≢ 18
+  pub lists : reader newestVersion bytes ownLists .number ≢ 18
   pub never-17 : fileText bytes ≢ refusedText 17
   pub never-18 : fileText bytes ≢ refusedText 18

@@ -4,7 +4,7 @@ use native.Mathlib.Omega.{arith}
 use mathlib.Core.Path.{_≡_, refl}
 use borrow.Author.Needs.{needs}
 use lib.ListN.{length}
-use Rattle.survey_file_theory.specs.File.{baseVersion}
+use Rattle.survey_file_theory.specs.File.{newestVersion}
 use Rattle.survey_file_theory.specs.Areas.{Areas}
 use Rattle.survey_file_reader.specs.Counts.{areasOf}
 use Rattle.survey_file_reader.proofs.Places.{small-product}
@@ -60,7 +60,7 @@ lent c = let a = c .args in areasOf (a .values .now) (a .coords .now) (a .bases 
 met : (c : tie.After-read-counts) → let s = at-entry c in Meets (s .args .bytes .now) (lent s) (c .read-counts .result)
 met c =
     let s = at-entry c in
-    meets baseVersion (s .args .bytes .now) (lent s) (c .read-counts .result) (c .read-counts .ensures .0) (s .pre .0) (s .pre .1)
+    meets newestVersion (s .args .bytes .now) (lent s) (c .read-counts .result) (c .read-counts .ensures .0) (s .pre .0) (s .pre .1)
 
 -- Where each list begins.
 coords-at : (c : tie.After-slice-known7) → let k = counts-2 c .read-counts .result in values-read c .read-numbers .result ≡ k .start + 8 * (5 + k .wells)

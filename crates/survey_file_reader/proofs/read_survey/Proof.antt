@@ -2,7 +2,7 @@
 use mathlib.Core.Path.{_≡_, ap, sym, _∙_}
 use borrow.Author.Needs.{needs}
 use Rattle.error.specs.Numbers.{judged}
-use Rattle.survey_file_theory.specs.File.{baseVersion}
+use Rattle.survey_file_theory.specs.File.{newestVersion}
 use Rattle.survey_file_theory.specs.Areas.{Areas}
 use Rattle.survey_file_theory.specs.Rules.{WellFormed, ListsFit}
 use Rattle.survey_file_theory.specs.Refusals.{readerRefusal}
@@ -48,12 +48,12 @@ left c =
     areasOf (values .0) (values .1 .0) (values .1 .1 .0) (external .0) (external .1 .0) (external .1 .1 .0)
 
 -- past the refusal there is none
-no-refusal : (c : tie.After-enum-told) → let s = at-entry (at-refusal c) in readerRefusal baseVersion (s .args .bytes .now) (lent s) ≡ 0
+no-refusal : (c : tie.After-enum-told) → let s = at-entry (at-refusal c) in readerRefusal newestVersion (s .args .bytes .now) (lent s) ≡ 0
 no-refusal c = sym (at-refusal c .reader-refusal .ensures) ∙ ap judged (c .enum-told .given .1)
 
 is-accepted : (c : tie.After-enum-told) → let s = at-entry (at-refusal c) in
-    WellFormed baseVersion (s .args .bytes .now) × ListsFit (s .args .bytes .now) (lent s)
-is-accepted c = let s = at-entry (at-refusal c) in accepted baseVersion (s .args .bytes .now) (lent s) (no-refusal c)
+    WellFormed newestVersion (s .args .bytes .now) × ListsFit (s .args .bytes .now) (lent s)
+is-accepted c = let s = at-entry (at-refusal c) in accepted newestVersion (s .args .bytes .now) (lent s) (no-refusal c)
 
 -- let judgement = reader_refusal(
 reader-refusal-requires : tie.Need-reader-refusal-requires
@@ -88,7 +88,7 @@ returns c =
     let h = c .before .before .before in
     let s = at-entry h in
     let xs = s .args .bytes .now in
-    has-ends baseVersion xs (lent s) (refused-is baseVersion xs (lent s) (h .reader-refusal .result) (g .0 .0) (g .1) (h .reader-refusal .ensures))
+    has-ends newestVersion xs (lent s) (refused-is newestVersion xs (lent s) (h .reader-refusal .result) (g .0 .0) (g .1) (h .reader-refusal .ensures))
 
 enum-told : tie.Need-enum-told
 enum-told c = search needs
@@ -126,7 +126,7 @@ returns-2 c =
     let t = at-told (l .before) in
     let s = at-entry (at-refusal t) in
     let xs = s .args .bytes .now in
-    has-ends baseVersion xs (lent s) (done-is baseVersion xs (lent s) {after = left l} (no-refusal t) (c .read-header .ensures) (l .read-lists .ensures))
+    has-ends newestVersion xs (lent s) (done-is newestVersion xs (lent s) {after = left l} (no-refusal t) (c .read-header .ensures) (l .read-lists .ensures))
 
 pub read-survey-spec : {M : Type 1} → statement M
 read-survey-spec =

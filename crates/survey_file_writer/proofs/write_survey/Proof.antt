@@ -11,7 +11,7 @@ use Rattle.variogram.proofs.Variogram.Laws as variogram-laws
 use Rattle.survey.specs.Survey.{Survey, surveyOf}
 use Rattle.survey.proofs.UniversalKrigingOptions as options
 use Rattle.survey.proofs.UniversalKrigingOptions.Laws as options-laws
-use Rattle.survey_file_theory.specs.File.{baseVersion}
+use Rattle.survey_file_theory.specs.File.{newestVersion}
 use Rattle.survey_file_theory.specs.Refusals.{writerRefusal}
 use Rattle.survey_file_writer.proofs.Promised.{Handed, refused-there, written-there, room-there, promised}
 use Rattle.survey_file_writer.proofs.write_survey.Statement.{statement}
@@ -82,7 +82,7 @@ enum-told : tie.Need-enum-told
 enum-told c = search needs
 
 -- let count = put_file(
-none-applies : (c : tie.After-enum-told) → let f = c .before .before in writerRefusal baseVersion (survey-of f) (file-of f) ≡ 0
+none-applies : (c : tie.After-enum-told) → let f = c .before .before in writerRefusal newestVersion (survey-of f) (file-of f) ≡ 0
 none-applies c = sym (c .before .before .writer-refusal .ensures) ∙ ap judged (c .enum-told .given .1)
 
 put-file-requires : tie.Need-put-file-requires

@@ -2,7 +2,7 @@
 use mathlib.Core.Path.{_≡_, refl, ap, subst, _∙_}
 use borrow.Author.Needs.{needs}
 use Rattle.survey_file_theory.specs.declared.Read.{Read}
-use Rattle.survey_file_theory.specs.File.{baseVersion}
+use Rattle.survey_file_theory.specs.File.{newestVersion}
 use Rattle.survey_file_theory.specs.Areas.{Areas}
 use Rattle.survey_file_theory.specs.Reader.{outcomeOf, Ends}
 use Rattle.survey_file_reader.specs.Counts.{areasOf}
@@ -37,15 +37,16 @@ left c =
     areasOf (values .0) (values .1 .0) (values .1 .1 .0) (external .0) (external .1 .0) (external .1 .1 .0)
 
 -- how the reader's call ended
-ended : (c : tie.After-read-survey) → Ends baseVersion (at-entry c .args .bytes .now) ownLists (outcomeOf (c .read-survey .result) (left c))
+ended : (c : tie.After-read-survey) → Ends newestVersion (at-entry c .args .bytes .now) ownLists (outcomeOf (c .read-survey .result) (left c))
 unfolding ownLists
 ended c = c .read-survey .ensures .1
 
-ended-as : (c : tie.After-read-survey) (r : Read) → c .read-survey .result ≡ r → Ends baseVersion (at-entry c .args .bytes .now) ownLists (outcomeOf r (left c))
-ended-as c r e = subst (λ (r : Read). Ends baseVersion (at-entry c .args .bytes .now) ownLists (outcomeOf r (left c))) e (ended c)
+ended-as : (c : tie.After-read-survey) (r : Read) → c .read-survey .result ≡ r
+    → Ends newestVersion (at-entry c .args .bytes .now) ownLists (outcomeOf r (left c))
+ended-as c r e = subst (λ (r : Read). Ends newestVersion (at-entry c .args .bytes .now) ownLists (outcomeOf r (left c))) e (ended c)
 
 read : (c : tie.After-read) → let r = at-reader (c .before .before) in
-    Ends baseVersion (at-entry r .args .bytes .now) ownLists (outcomeOf (Read.Done (c .read .given .0 .0)) (left r))
+    Ends newestVersion (at-entry r .args .bytes .now) ownLists (outcomeOf (Read.Done (c .read .given .0 .0)) (left r))
 read c = ended-as (at-reader (c .before .before)) _ (c .read .given .1)
 
 -- &mut values,

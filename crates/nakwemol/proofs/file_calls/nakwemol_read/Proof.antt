@@ -4,7 +4,7 @@ use mathlib.Core.Path.{_≡_, ap, _∙_}
 use borrow.Author.Needs.{needs}
 use Rattle.survey_file_theory.specs.declared.Read.{Read}
 use Rattle.survey_file_theory.specs.Areas.{Areas}
-use Rattle.survey_file_theory.specs.File.{baseVersion}
+use Rattle.survey_file_theory.specs.File.{newestVersion}
 use Rattle.survey_file_theory.specs.Reader.{Outcome, outcomeOf, reader}
 use Rattle.survey_file_reader.specs.Counts.{areasOf}
 use Rattle.nakwemol.specs.Told.{Heading, ending, headingOf, headingTold}
@@ -42,7 +42,7 @@ abbrev behind : tie.Start → Outcome
 behind c =
     let a = c .args in
     let lent = areasOf (a .values .now) (a .coords .now) (a .bases .now) (a .external .now) (a .nodes .now) (a .node-external .now) in
-    reader baseVersion (a .bytes .now) lent
+    reader newestVersion (a .bytes .now) lent
 
 abbrev left : tie.After-read-survey → Areas
 left c =

@@ -8,7 +8,7 @@ use Rattle.variogram.specs.declared.VariogramModel.{VariogramModel}
 use Rattle.survey.specs.declared.UniversalKrigingOptions.{UniversalKrigingOptions}
 use Rattle.survey.specs.Survey.{surveyOf}
 use Rattle.survey_file_theory.specs.declared.Written.{Written}
-use Rattle.survey_file_theory.specs.File.{baseVersion}
+use Rattle.survey_file_theory.specs.File.{newestVersion}
 use Rattle.survey_file_theory.specs.Writer.{Outcome, outcomeOf, writer}
 use Rattle.nakwemol.specs.declared.codes.CodedModel.{CodedModel}
 use Rattle.nakwemol.specs.Codes.{modelOf, byModel, unknownCode, variogramOf}
@@ -38,7 +38,7 @@ abbrev with-variogram : tie.Start → Variogram → Outcome
 with-variogram c v =
     let a = c .args in
     let options : UniversalKrigingOptions = record { variogram = v; regularization = a .regularization } in
-    writer baseVersion
+    writer newestVersion
     (surveyOf (a .values .now) (a .coords .now) (a .bases .now) (a .external .now) options (a .nodes .now) (a .node-external .now) (a .tolerance))
     (a .file .now)
 

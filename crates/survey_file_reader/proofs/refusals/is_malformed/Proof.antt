@@ -8,7 +8,7 @@ use borrow.Author.Tests.{lt-ltb, le-ltb}
 use lib.Dec.{eqb, ltb}
 use lib.ListN.{length}
 use Rattle.error.proofs.First.{one, other}
-use Rattle.survey_file_theory.specs.File.{longestFile, baseVersion}
+use Rattle.survey_file_theory.specs.File.{longestFile, newestVersion}
 use Rattle.survey_file_theory.specs.Trailer.{lengthIn}
 use Rattle.survey_file_theory.specs.Refusals.{malformed}
 use Rattle.survey_file_reader.specs.Counts.{wrongEnding}
@@ -17,7 +17,7 @@ use Rattle.survey_file_reader.proofs.refusals.is_malformed.Tie as tie
 
 -- The tests that are left, one after another.
 abbrev from-lengths : List ℕ → Bool
-from-lengths xs = not (eqb (length xs) (lengthIn xs)) || wrongEnding baseVersion xs
+from-lengths xs = not (eqb (length xs) (lengthIn xs)) || wrongEnding newestVersion xs
 
 abbrev from-longest : List ℕ → Bool
 from-longest xs = ltb longestFile (length xs) || from-lengths xs
@@ -33,7 +33,7 @@ entry-3 c = let longest = c .before .before in entry-1 (longest .before)
 returns : tie.Need-returns
 returns c = let xs = c .before .before .args .bytes .now in sym (one (from-longest xs) (lt-ltb (length xs) 14 (c .if1 .taken)))
 
-past-1 : (c : tie.Else1) → let xs = entry-1 c .args .bytes .now in malformed baseVersion xs ≡ from-longest xs
+past-1 : (c : tie.Else1) → let xs = entry-1 c .args .bytes .now in malformed newestVersion xs ≡ from-longest xs
 past-1 c = let xs = entry-1 c .args .bytes .now in other (from-longest xs) (le-ltb (length xs) 14 (c .if1 .left))
 
 -- if bytes.len() > LONGEST
@@ -42,7 +42,7 @@ returns-2 c =
     let xs = entry-1 (c .before) .args .bytes .now in
     sym (past-1 (c .before) ∙ one (from-lengths xs) (lt-ltb longestFile (length xs) (c .if2 .taken)))
 
-past-2 : (c : tie.Else2) → let xs = entry-1 (c .before) .args .bytes .now in malformed baseVersion xs ≡ from-lengths xs
+past-2 : (c : tie.Else2) → let xs = entry-1 (c .before) .args .bytes .now in malformed newestVersion xs ≡ from-lengths xs
 past-2 c =
     let xs = entry-1 (c .before) .args .bytes .now in
     past-1 (c .before) ∙ other (from-lengths xs) (le-ltb longestFile (length xs) (c .if2 .left))
@@ -54,7 +54,8 @@ lengths-differ-requires c κs = search needs
 returns-3 : tie.Need-returns-3
 returns-3 c =
     let h = c .before in
-    sym (past-2 (h .before) ∙ one (wrongEnding baseVersion (entry-1 (h .before .before) .args .bytes .now)) (sym (h .lengths-differ .ensures) ∙ c .if3 .taken))
+    let xs = entry-1 (h .before .before) .args .bytes .now in
+    sym (past-2 (h .before) ∙ one (wrongEnding newestVersion xs) (sym (h .lengths-differ .ensures) ∙ c .if3 .taken))
 
 -- has_wrong_ending(bytes)
 has-wrong-ending-requires : tie.Need-has-wrong-ending-requires
@@ -65,7 +66,7 @@ returns-4 c =
     let h = c .before in
     let d = h .before in
     c .has-wrong-ending .ensures
-    ∙ sym (past-2 (d .before) ∙ other (wrongEnding baseVersion (entry-3 h .args .bytes .now)) (sym (d .lengths-differ .ensures) ∙ h .if3 .left))
+    ∙ sym (past-2 (d .before) ∙ other (wrongEnding newestVersion (entry-3 h .args .bytes .now)) (sym (d .lengths-differ .ensures) ∙ h .if3 .left))
 
 pub is-malformed-spec : {M : Type 1} → statement M
 is-malformed-spec =

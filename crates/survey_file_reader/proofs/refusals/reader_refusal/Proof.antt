@@ -6,7 +6,7 @@ use borrow.Author.Needs.{needs}
 use Rattle.error.specs.Tests.{Test, test, firstOf}
 use Rattle.error.specs.Short.{tooShort}
 use Rattle.error.proofs.First.{here, past, none}
-use Rattle.survey_file_theory.specs.File.{baseVersion}
+use Rattle.survey_file_theory.specs.File.{newestVersion}
 use Rattle.survey_file_theory.specs.Areas.{Areas, listAreas}
 use Rattle.survey_file_theory.specs.Refusals.{malformed, readerRefusal}
 use Rattle.survey_file_reader.specs.Counts.{areasOf}
@@ -20,12 +20,12 @@ abbrev lent : tie.Start → Areas
 lent c = let a = c .args in areasOf (a .values .now) (a .coords .now) (a .bases .now) (a .external .now) (a .nodes .now) (a .node-external .now)
 
 abbrev whole : tie.Start → ℕ
-whole c = readerRefusal baseVersion (c .args .bytes .now) (lent c)
+whole c = readerRefusal newestVersion (c .args .bytes .now) (lent c)
 
 abbrev from-areas : tie.Start → List Test
 from-areas c = test 18 (tooShort (listAreas (c .args .bytes .now) (lent c))) ∷ []
 
-opens : (c : tie.Start) → whole c ≡ firstOf (test 16 (malformed baseVersion (c .args .bytes .now)) ∷ from-areas c)
+opens : (c : tie.Start) → whole c ≡ firstOf (test 16 (malformed newestVersion (c .args .bytes .now)) ∷ from-areas c)
 unfolding readerRefusal
 opens c = refl
 
@@ -53,7 +53,7 @@ past-1 c = let h = c .before in opens (entry-0 h) ∙ past 16 (from-areas (entry
 read-counts-requires : tie.Need-read-counts-requires
 read-counts-requires c κs =
     let h = c .before in
-    codes-inside baseVersion (entry-0 h .args .bytes .now) (sym (h .is-malformed .ensures) ∙ c .if1 .left)
+    codes-inside newestVersion (entry-0 h .args .bytes .now) (sym (h .is-malformed .ensures) ∙ c .if1 .left)
 
 is-short-requires : tie.Need-is-short-requires
 is-short-requires c κs = search needs

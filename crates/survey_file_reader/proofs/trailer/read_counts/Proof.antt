@@ -11,7 +11,7 @@ use Rattle.survey_file_reader.proofs.trailer.read_counts.Statement.{sta
 use Rattle.survey_file_reader.proofs.trailer.read_counts.Tie as tie
 
 -- The states that the needs look back to: a name takes a later state back to its own.
-abbrev at-wells : tie.After-external-columns → tie.After-number2
+abbrev at-wells : tie.After-external-columns → tie.After-well-count
 at-wells c = c .before .before .before
 
 abbrev at-start : tie.After-external-columns → tie.After-number
@@ -39,19 +39,16 @@ sub-from c = search needs
 number-requires : tie.Need-number-requires
 number-requires c κs = search needs
 
--- wells: number(bytes, end + 4, 2) as usize,
+-- wells: well_count(bytes),
+well-count-requires : tie.Need-well-count-requires
+well-count-requires c κs = search needs
+
+-- nodes: number(bytes, end + 6, 2) as usize,
 add-number : tie.Need-add-number
 add-number c = search needs
 
 number-requires-2 : tie.Need-number-requires-2
 number-requires-2 c κs = search needs
-
--- nodes: number(bytes, end + 6, 2) as usize,
-add-number-2 : tie.Need-add-number-2
-add-number-2 c = search needs
-
-number-requires-3 : tie.Need-number-requires-3
-number-requires-3 c κs = search needs
 
 -- externals: external_columns(&bytes[from..end]),
 sub-external-columns : tie.Need-sub-external-columns
@@ -80,11 +77,11 @@ returns c =
     let k = externals-are c in
     let b = at-bases c .base-count .ensures in
     let start = at-start c .number .ensures in
-    let wells = at-wells c .number2 .ensures in
-    let nodes = c .before .before .number3 .ensures in (
+    let wells = at-wells c .well-count .ensures in
+    let nodes = c .before .before .number2 .ensures in (
       (λ i. record {
         start = start .0 i;
-        wells = (wells .0 ∙ number-in xs 4 2) i;
+        wells = wells .0 i;
         nodes = (nodes .0 ∙ number-in xs 6 2) i;
         bases = b .0 i;
         externals = k i;
@@ -106,10 +103,9 @@ read-counts-spec =
     base-count-requires
     sub-from
     number-requires
+    well-count-requires
     add-number
     number-requires-2
-    add-number-2
-    number-requires-3
     sub-external-columns
     part-external-columns-start
     part-external-columns-end

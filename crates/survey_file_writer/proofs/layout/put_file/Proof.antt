@@ -9,7 +9,7 @@ use Rattle.ieee.specs.Bytes.{f64Bytes}
 use Rattle.ieee.proofs.Bytes.{length-f64Bytes}
 use Rattle.survey.specs.Survey.{Survey, surveyOf}
 use Rattle.survey_file_theory.specs.Contents.{numbers}
-use Rattle.survey_file_theory.specs.File.{baseVersion, writerFile}
+use Rattle.survey_file_theory.specs.File.{newestVersion, writerFile}
 use Rattle.area.specs.Placed.{Put}
 use Rattle.area.proofs.Placed.{put-then, put-length}
 use Rattle.survey_file_writer.proofs.Lengths.{length-written}
@@ -46,7 +46,7 @@ survey c =
 
 -- there is room for the numbers, the codes and the trailer
 room : (c : tie.Start) → 8 * length (numbers (survey c)) + length (c .args .bases .now) + 14 ≤ length (c .args .file .now)
-room c = let l = length-written baseVersion (survey c) in omega (arith, c .pre)
+room c = let l = length-written newestVersion (survey c) in omega (arith, c .pre)
 
 -- let mut at = put_all_numbers(
 put-all-numbers-requires : tie.Need-put-all-numbers-requires

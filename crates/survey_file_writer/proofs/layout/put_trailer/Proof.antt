@@ -5,7 +5,7 @@ use mathlib.Core.List.{List, [], _∷_}
 use borrow.Author.Needs.{needs}
 use lib.ListN.{length}
 use Rattle.survey.specs.Survey.{Survey, wells, nodeCount}
-use Rattle.survey_file_theory.specs.File.{baseVersion, modelNumber, trailer}
+use Rattle.survey_file_theory.specs.File.{newestVersion, versionFor, modelNumber, trailer}
 use Rattle.area.proofs.Placed.{put-as}
 use Rattle.survey_file_writer.proofs.layout.put_trailer.Statement.{statement}
 use Rattle.survey_file_writer.proofs.layout.put_trailer.Tie as tie
@@ -17,10 +17,10 @@ at-codes c = c .before .before .before
 abbrev at-nodes : tie.After-high2 → tie.After-high
 at-nodes c = c .before .before
 
-abbrev at-entry : tie.After-model-number → tie.Start
-at-entry c = at-nodes (at-codes c) .before .before .before
+abbrev at-entry : tie.After-version-of → tie.Start
+at-entry c = at-nodes (at-codes (c .before)) .before .before .before
 
--- low(n), high(n), low(m), high(m), low(codes), high(codes), model_number(model),
+-- low(n), high(n), low(m), high(m), low(codes), high(codes), model_number(model), version_of(n),
 low-requires : tie.Need-low-requires
 low-requires c κs = search needs
 
@@ -42,6 +42,9 @@ high-requires-3 c κs = search needs
 model-number-requires : tie.Need-model-number-requires
 model-number-requires c κs = search needs
 
+version-of-requires : tie.Need-version-of-requires
+version-of-requires c κs = search needs
+
 -- the bytes of a count
 low-of : {x n k : ℕ} → x ≡ n % 256 → k ≡ n → x ≡ k % 256
 low-of {x} {n} {k} e h = e ∙ ap (λ (z : ℕ). z % 256) (sym h)
@@ -49,9 +52,10 @@ low-of {x} {n} {k} e h = e ∙ ap (λ (z : ℕ). z % 256) (sym h)
 high-of : {x n k : ℕ} → x ≡ n / 256 % 256 → k ≡ n → x ≡ k / 256 % 256
 high-of {x} {n} {k} e h = e ∙ ap (λ (z : ℕ). z / 256 % 256) (sym h)
 
-abbrev bytes-of : tie.After-model-number → List ℕ
+abbrev bytes-of : tie.After-version-of → List ℕ
 bytes-of c =
-    let p = at-codes c in
+    let k = c .before in
+    let p = at-codes k in
     let h = at-nodes p in
     0
     ∷ 0
@@ -61,19 +65,20 @@ bytes-of c =
     ∷ h .high .result
     ∷ p .before .low2 .result
     ∷ p .high2 .result
-    ∷ c .before .before .low3 .result
-    ∷ c .before .high3 .result
-    ∷ c .model-number .result
-    ∷ 1
+    ∷ k .before .before .low3 .result
+    ∷ k .before .high3 .result
+    ∷ k .model-number .result
+    ∷ c .version-of .result
     ∷ 0
     ∷ 0
     ∷ []
 
-trailer-is : (c : tie.After-model-number) (s : Survey) → let a = at-entry c .args in
-    wells s ≡ a .n → nodeCount s ≡ a .m → length (s .bases) ≡ a .codes → s .options .variogram .model ≡ a .model → bytes-of c ≡ trailer baseVersion 0 s
+trailer-is : (c : tie.After-version-of) (s : Survey) → let a = at-entry c .args in
+    wells s ≡ a .n → nodeCount s ≡ a .m → length (s .bases) ≡ a .codes → s .options .variogram .model ≡ a .model → bytes-of c ≡ trailer newestVersion 0 s
 unfolding trailer
 trailer-is c s en em ec ek i =
-    let p = at-codes c in
+    let k = c .before in
+    let p = at-codes k in
     let h = at-nodes p in
     0
     ∷ 0
@@ -83,10 +88,10 @@ trailer-is c s en em ec ek i =
     ∷ high-of (h .high .ensures) en i
     ∷ low-of (p .before .low2 .ensures) em i
     ∷ high-of (p .high2 .ensures) em i
-    ∷ low-of (c .before .before .low3 .ensures) ec i
-    ∷ high-of (c .before .high3 .ensures) ec i
-    ∷ (c .model-number .ensures ∙ ap modelNumber (sym ek)) i
-    ∷ 1
+    ∷ low-of (k .before .before .low3 .ensures) ec i
+    ∷ high-of (k .before .high3 .ensures) ec i
+    ∷ (k .model-number .ensures ∙ ap modelNumber (sym ek)) i
+    ∷ (c .version-of .ensures ∙ ap (versionFor newestVersion) (sym en)) i
     ∷ 0
     ∷ 0
     ∷ []
@@ -118,6 +123,7 @@ put-trailer-spec =
     low-requires-3
     high-requires-3
     model-number-requires
+    version-of-requires
     slice-aggregate-put-bytes
     put-bytes-requires
     same-length

@@ -2,6 +2,7 @@
 -- room, in that order.
 use Prim.Native.Nat.{ℕ}
 use mathlib.Core.Path.{_≡_, refl, sym, ap, _∙_}
+use mathlib.Core.Bool.{_||_}
 use mathlib.Core.List.{List, [], _∷_, _++_}
 use borrow.Author.Needs.{needs}
 use lib.Dec.{ltb}
@@ -9,9 +10,10 @@ use lib.ListN.{length}
 use lib.Ieee.{ne}
 use Rattle.error.specs.Tests.{Test, test, firstOf}
 use Rattle.error.proofs.First.{here, past, none, refused, accepted}
-use Rattle.survey.specs.Survey.{Survey, surveyOf}
+use Rattle.survey.specs.Limits.{library}
+use Rattle.survey.specs.Survey.{Survey, surveyOf, wells}
 use Rattle.survey_file_theory.specs.Contents.{numbers}
-use Rattle.survey_file_theory.specs.File.{longestFile, baseVersion, writerFile}
+use Rattle.survey_file_theory.specs.File.{longestFile, newestVersion, writerFile}
 use Rattle.survey_file_theory.specs.Refusals.{someNumberNotFinite, otherSpot, tooLong, shortFile, writerRefusal}
 use Rattle.survey_file_writer.specs.Parts.{lengthTests, bytesFor}
 use Rattle.survey_file_writer.proofs.Lengths.{length-written, too-long-is}
@@ -25,13 +27,13 @@ survey c =
     surveyOf (a .values .now) (a .coords .now) (a .bases .now) (a .external .now) (a .options) (a .nodes .now) (a .node-external .now) (a .tolerance)
 
 abbrev whole : tie.Start → ℕ
-whole c = writerRefusal baseVersion (survey c) (c .args .file .now)
+whole c = writerRefusal newestVersion (survey c) (c .args .file .now)
 
 abbrev of-room : tie.Start → List Test
-of-room c = test 18 (shortFile baseVersion (survey c) (c .args .file .now)) ∷ []
+of-room c = test 18 (shortFile newestVersion (survey c) (c .args .file .now)) ∷ []
 
 abbrev of-length : tie.Start → List Test
-of-length c = test 16 (tooLong baseVersion (survey c)) ∷ of-room c
+of-length c = test 16 (tooLong newestVersion (survey c)) ∷ of-room c
 
 abbrev of-spot : tie.Start → List Test
 of-spot c = test 22 (otherSpot (survey c)) ∷ of-length c
@@ -117,19 +119,21 @@ number-count-requires c κs = search needs
 counted : (c : tie.After-number-count) → c .number-count .result ≡ length (numbers (survey (at-count c)))
 counted c = let a = at-count c .args in c .number-count .ensures (a .options) (a .tolerance)
 
--- if longer(count, codes, LONGEST_FILE) {
-longer-requires : tie.Need-longer-requires
-longer-requires c κs = search needs
+-- if is_too_long(values.len(), count, codes) {
+is-too-long-requires : tie.Need-is-too-long-requires
+is-too-long-requires c κs = search needs
 
 -- what is held to a limit is the file's length
 bytes-are : (c : tie.After-number-count) → let s = survey (at-count c) in
-    bytesFor (c .number-count .result) (length (s .bases)) ≡ length (writerFile baseVersion s)
+    bytesFor (c .number-count .result) (length (s .bases)) ≡ length (writerFile newestVersion s)
 bytes-are c =
     let s = survey (at-count c) in
-    ap (λ (k : ℕ). bytesFor k (length (s .bases))) (counted c) ∙ sym (length-written baseVersion s)
+    ap (λ (k : ℕ). bytesFor k (length (s .bases))) (counted c) ∙ sym (length-written newestVersion s)
 
-length-is : (c : tie.After-longer) → c .longer .result ≡ tooLong baseVersion (survey (at-count (c .before)))
-length-is c = c .longer .ensures ∙ ap (ltb longestFile) (bytes-are (c .before)) ∙ too-long-is baseVersion (survey (at-count (c .before)))
+length-is : (c : tie.After-is-too-long) → c .is-too-long .result ≡ tooLong newestVersion (survey (at-count (c .before)))
+length-is c =
+    let s = survey (at-count (c .before)) in
+    c .is-too-long .ensures ∙ ap (λ (k : ℕ). ltb longestFile k || ltb (library .wells) (wells s)) (bytes-are (c .before)) ∙ too-long-is s
 
 returns-4 : tie.Need-returns-4
 returns-4 c = let h = c .before in sym (past-spot (h .before .before) ∙ here 16 _ (sym (length-is h) ∙ c .if3 .taken))
@@ -138,11 +142,11 @@ past-length : (c : tie.Else3) → whole (at-length c) ≡ firstOf (of-room (at-l
 past-length c = let h = c .before in past-spot (h .before .before) ∙ past 16 _ (sym (length-is h) ∙ c .if3 .left)
 
 -- if longer(count, codes, file.len()) {
-longer-requires-2 : tie.Need-longer-requires-2
-longer-requires-2 c κs = search needs
+longer-requires : tie.Need-longer-requires
+longer-requires c κs = search needs
 
-room-is : (c : tie.After-longer2) → let s = at-length (c .before) in c .longer2 .result ≡ shortFile baseVersion (survey s) (s .args .file .now)
-room-is c = c .longer2 .ensures ∙ ap (ltb (length (at-length (c .before) .args .file .now))) (bytes-are (c .before .before .before))
+room-is : (c : tie.After-longer) → let s = at-length (c .before) in c .longer .result ≡ shortFile newestVersion (survey s) (s .args .file .now)
+room-is c = c .longer .ensures ∙ ap (ltb (length (at-length (c .before) .args .file .now))) (bytes-are (c .before .before .before))
 
 returns-5 : tie.Need-returns-5
 returns-5 c = let h = c .before in sym (past-length (h .before) ∙ here 18 _ (sym (room-is h) ∙ c .if4 .taken))
@@ -163,8 +167,8 @@ writer-refusal-spec =
     returns-2
     returns-3
     number-count-requires
-    longer-requires
+    is-too-long-requires
     returns-4
-    longer-requires-2
+    longer-requires
     returns-5
     returns-6)
