@@ -67,7 +67,8 @@ fn interpolations_of_a_row() {
 fn semivariograms_of_a_row() {
     for n in COUNTS {
         let wells = n as f64;
-        let wanted = Semivariogram { distances: vec![(wells - 1.0) / 2.0], semivariances: vec![wells * (wells + 1.0) / 12.0], counts: vec![n * (n - 1) / 2] };
+        let wanted =
+            Semivariogram { distances: vec![(wells - 1.0) / 2.0], semivariances: vec![wells * (wells + 1.0) / 12.0], counts: vec![n * (n - 1) / 2] };
         assert_eq!(semivariogram(n).unwrap(), wanted);
     }
 }
