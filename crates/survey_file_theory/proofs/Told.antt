@@ -27,7 +27,7 @@ same-length : (bytes : List ℕ) → lengthIn bytes ≡ statedLength bytes
 same-length bytes = omega arith
 
 from-49-to-96 : (n : ℕ) → Tells (ltb mostInVersion1 n && not (ltb (library .wells) n)) ((49 ≤ n) × (n ≤ 96))
-from-49-to-96 n = both (told-as (below 48 n) (λ h. omega arith) (λ h. omega arith)) (not-below 96 n)
+from-49-to-96 n = both (told-as (below mostInVersion1 n) (λ h. omega arith) (λ h. omega arith)) (not-below (library .wells) n)
 
 pub version-told : (newest version n : ℕ) → Tells (versionTaken newest version n) (VersionTaken newest version n)
 version-told zero version n = equal version 1
