@@ -5,7 +5,7 @@ from mapper.making import Made
 from mapper.options import options
 from mapper.runs import building
 from mapper.runs.by_library import ByLibrary
-from mapper.runs.by_program import ByProgram
+from mapper.runs.by_program import ByProgram, printed
 from mapper.runs.lost_digits import drawn_map
 from mapper.runs.origin import AS_ENTERED
 from mapper.runs.sheets import Sheets
@@ -92,7 +92,8 @@ class Otherwise(Folder):
         self.assertIn('The arithmetic held at 12 of 12 nodes', said.splitlines()[-1])
 
     def test_a_kept_survey_file(self):
-        """Version 2, the third byte from its end, above 48 wells; the proved reader reads it, and it is what the proved writer writes."""
+        """Version 2, the third byte from its end, above 48 wells; the proved reader reads it, and it is what the proved writer writes. The program refuses it
+        by 9, as the page says."""
         for count, version in ((48, 1), (49, 2), (96, 2)):
             wells, file = self.file(some(count)), self.folder / 'kept.survey'
             self.made(wells, *NUMBERS, '--grid', '3x3', '--survey', file)
@@ -101,6 +102,7 @@ class Otherwise(Folder):
             self.assertEqual((data[-3], len(found.values), len(found.nodes)), (version, count, 18))
             self.assertEqual(found.values, [20 + 0.25 * (i % 7) for i in range(count)])
             self.assertEqual(nakwemol.write_survey(found), data)
+            self.assertEqual(printed(building.program(print), data) == b'refused 9\n', version == 2)
 
     def test_what_the_program_is_to_run(self):
         """Sheets for elsewhere and the program's own lines: 48 wells, the nearest to a place where there are more."""
