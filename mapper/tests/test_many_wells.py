@@ -9,7 +9,7 @@ from mapper.runs.by_program import ByProgram, printed
 from mapper.runs.lost_digits import drawn_map
 from mapper.runs.origin import AS_ENTERED
 from mapper.runs.sheets import Sheets
-from mapper.runs.survey_file import DRIFT, NODES, WELLS, packed
+from mapper.runs.survey_file import DRIFT, NODES, WELLS, packed, version
 from mapper.runs.ways import BY_CALL, TOO_MANY
 from mapper.tests.support import NUMBERS, SAMPLES, Folder, nakwemol
 from mapper.tests.test_ways import ended
@@ -79,7 +79,7 @@ class Otherwise(Folder):
 
     def test_near_96_of_200(self):
         self.assertIn('This list has 200 wells. --near X,Y takes the 96 nearest', self.refused(self.file(some(200)), *NUMBERS))
-        said = self.made(self.file(some(200)), *NUMBERS, '--near', '50,50', '--grid', '3x3')
+        said = self.made(self.file(some(200)), *NUMBERS, '--near', '50,50', '--at', '50,50')
         self.assertIn('Of the 200 wells in the list the 96 nearest to 50,50 are taken, as asked by --near', said)
         self.assertIn(NOTE, said)
 
@@ -94,15 +94,16 @@ class Otherwise(Folder):
     def test_a_kept_survey_file(self):
         """Version 2, the third byte from its end, above 48 wells; the proved reader reads it, and it is what the proved writer writes. The program refuses it
         by 9, as the page says."""
-        for count, version in ((48, 1), (49, 2), (96, 2)):
+        self.assertEqual([version(count) for count in (1, 48, 49, 96, 97)], [1, 1, 2, 2, 1])
+        for count, written in ((48, 1), (60, 2)):
             wells, file = self.file(some(count)), self.folder / 'kept.survey'
             self.made(wells, *NUMBERS, '--grid', '3x3', '--survey', file)
             data = file.read_bytes()
             found = nakwemol.read_survey(data)
-            self.assertEqual((data[-3], len(found.values), len(found.nodes)), (version, count, 18))
+            self.assertEqual((data[-3], len(found.values), len(found.nodes)), (written, count, 18))
             self.assertEqual(found.values, [20 + 0.25 * (i % 7) for i in range(count)])
             self.assertEqual(nakwemol.write_survey(found), data)
-            self.assertEqual(printed(building.program(print), data) == b'refused 9\n', version == 2)
+            self.assertEqual(printed(building.program(print), data) == b'refused 9\n', written == 2)
 
     def test_what_the_program_is_to_run(self):
         """Sheets for elsewhere and the program's own lines: 48 wells, the nearest to a place where there are more."""
