@@ -34,14 +34,14 @@ enum nakwemol_number {
     NAKWEMOL_EXTERNAL_LENGTH = 6,      /* externals not k times n */
     NAKWEMOL_TOO_FEW_WELLS = 7,        /* n < p */
     NAKWEMOL_NODE_EXTERNAL_LENGTH = 8, /* k > 0 and node externals not k times m */
-    NAKWEMOL_TOO_MANY = 9,             /* n > 48, p > 12 or m > 100, as far as the call has them */
+    NAKWEMOL_TOO_MANY = 9,             /* n > 96, p > 12 or m > 100, as far as the call has them */
     NAKWEMOL_TOLERANCE = 10,           /* t negative or not finite */
     NAKWEMOL_NOT_FINITE = 11,          /* another number that is not finite */
     NAKWEMOL_MODEL = 12,               /* Exponential with a range that is not above zero */
     NAKWEMOL_DIMENSION = 13,           /* d not 1, 2 or 3, or d = 1 with Universal */
     NAKWEMOL_TOO_FEW_SAMPLES = 14,     /* fewer than 2 samples */
     NAKWEMOL_BINS = 15,                /* bins not 1 to 64 */
-    NAKWEMOL_SURVEY_FILE = 16,         /* survey file malformed, or it would be too long */
+    NAKWEMOL_SURVEY_FILE = 16,         /* survey file malformed, or it would be too long or have over 96 wells */
     NAKWEMOL_WORK_AREA = 17,           /* work area under 2 s s numbers */
     NAKWEMOL_ANSWER_AREA = 18,         /* an answer area too short */
     NAKWEMOL_SINGULAR = 19,            /* a pivot below 2^-52 */
@@ -76,9 +76,14 @@ enum nakwemol_basis {            /* columns at (x, y)                  */
  * equal to it is not the same spot. A larger one does more harm than good where two wells lie nearer than it and are told apart all the same: section 3. */
 #define NAKWEMOL_SAME_SPOT 2.220446049250313e-16
 
-/* Numbers of a work area that serve every fit, and every interpolation. */
-#define NAKWEMOL_WORK_OF_A_FIT 7200
-#define NAKWEMOL_WORK_OF_AN_INTERPOLATION 5408
+/* What a call takes at most, as far as it has them: wells (points, samples), columns of the trend, nodes (targets). Past these it is refused by 9. */
+#define NAKWEMOL_MOST_WELLS 96
+#define NAKWEMOL_MOST_COLUMNS 12
+#define NAKWEMOL_MOST_NODES 100
+
+/* Numbers of a work area that serve every fit, 23,328, and every interpolation, 20,000. */
+#define NAKWEMOL_WORK_OF_A_FIT (2 * (NAKWEMOL_MOST_WELLS + NAKWEMOL_MOST_COLUMNS) * (NAKWEMOL_MOST_WELLS + NAKWEMOL_MOST_COLUMNS))
+#define NAKWEMOL_WORK_OF_AN_INTERPOLATION (2 * (NAKWEMOL_MOST_WELLS + 4) * (NAKWEMOL_MOST_WELLS + 4))
 
 /* Universal kriging with external drift: sections 1 to 9.
  *
@@ -165,7 +170,7 @@ uint8_t nakwemol_semivariogram(
     size_t *counts, size_t counts_count,
     size_t *kept);
 
-/* Reads a survey file: section 12. What the lists hold is not judged; the fit does that.
+/* Reads a survey file: section 12. What the lists hold is not judged; the fit does that. Version 1 is read with any number of wells, version 2 with 49 to 96.
  *
  *   bytes          the file, at most 65,536 bytes
  * Areas, with n, m and c as the file has them (8,192 numbers and 65,536 codes serve every file):
@@ -192,13 +197,14 @@ uint8_t nakwemol_read(
     size_t counts[3], double numbers[5], uint8_t *model);
 
 /* Writes a survey file: section 12. The lists are those of a fit; what was written reads back bit for bit. A file has no place for the same-spot distance:
- * any but NAKWEMOL_SAME_SPOT is refused by 22, and what nakwemol_read hands out has that.
+ * any but NAKWEMOL_SAME_SPOT is refused by 22, and what nakwemol_read hands out has that. From 49 to 96 wells it is written with version 2, which a reader of
+ * before refuses by 16, else with version 1; the version is the third byte from the end.
  *
  * Areas:
  *   file    the file's length: 54 + 8 (3n + k n + 2m + k m) + the number of codes
  *   length  how many bytes were written
  *
- * Numbers, in this order: 100, 1, 2, 6, 8, 11 (r and t included), 22, 16 (over 65,536 bytes), 18.
+ * Numbers, in this order: 100, 1, 2, 6, 8, 11 (r and t included), 22, 16 (over 96 wells or 65,536 bytes), 18.
  */
 uint8_t nakwemol_write(
     const double *values, size_t values_count,

@@ -28,9 +28,9 @@ from mapper.runs.refusals import refusal
 from mapper.runs.running import run
 from mapper.runs.sheets import Sheets
 from mapper.runs.survey import Survey
-from mapper.runs.survey_file import DRIFT, WELLS, columns
+from mapper.runs.survey_file import DRIFT, columns
 from mapper.runs.telling_apart import tell_apart
-from mapper.runs.ways import way_notes, way_of
+from mapper.runs.ways import most_wells, way_notes, way_of
 from mapper.source import source_of
 
 REGULARIZATION = 1e-10  # where none is given; but joined wells get another (runs/telling_apart.py)
@@ -41,7 +41,7 @@ class Made:
 
     def __init__(self, options, tell):
         self.options, self.tell, self.notes, self.turned_away = options, tell, [], []
-        self.left_out, self.source = [], None
+        self.left_out, self.source, self.most = [], None, most_wells(options)
         self.read(options)
         self.judge(options)
         self.grid, self.nodes, self.outside = self.places(options)
@@ -66,10 +66,10 @@ class Made:
         self.doubts = list(found.doubts)
         if options.near is not None:
             self.doubts += far_near_doubts(self.wells, options.near)
-            self.wells, left = nearest_wells(self.wells, options.near)
+            self.wells, left = nearest_wells(self.wells, options.near, self.most)
             self.say(near_note(self.wells, left, options.near))
         # Of a list that is too long only what ends the run is of use: it is refused below.
-        few = len(self.wells) <= WELLS
+        few = len(self.wells) <= self.most
         self.corner = corner(self.wells)
         if few and options.same_spot is not None:
             self.join(options.same_spot)
@@ -90,7 +90,7 @@ class Made:
 
     def refused(self, number):
         asked = self.options.at[0][:2] if self.options.at else None
-        return Stop(refusal(number, self.wells, self.options.trend, self.external, asked))
+        return Stop(refusal(number, self.wells, self.options.trend, self.external, asked, self.most))
 
     def refusable(self, call, *arguments):
         """A call's answer; a refusal becomes its words."""
@@ -100,11 +100,11 @@ class Made:
             raise self.refused(refused.number)
 
     def judge(self, options):
-        """Turns away at once what the program would turn away after the bins are made and fitted."""
+        """Turns away at once what the proved code would turn away after the bins are made and fitted."""
         rows = len(columns(options.trend, self.external))
         if len(self.wells) < rows:
             raise self.refused(7)
-        if len(self.wells) > WELLS or rows > DRIFT:
+        if len(self.wells) > self.most or rows > DRIFT:
             raise self.refused(9)
         spots, least = len({(well.x, well.y) for well in self.wells}), len(columns(options.trend, None))
         if options.same_spot is not None and spots < least:

@@ -1,4 +1,4 @@
-"""The wells nearest to a place, where a list has more than the program takes."""
+"""The wells nearest to a place, where a list has more than are taken."""
 import math
 
 from mapper.doubts.well_words import length
@@ -7,11 +7,11 @@ from mapper.numbers import counted, shown
 from mapper.runs.survey_file import WELLS
 
 
-def nearest_wells(wells, place):
-    """The wells nearest to a place, as many as the program takes, and the others; each in the list's order."""
+def nearest_wells(wells, place, most=WELLS):
+    """The wells nearest to a place, as many as are taken, and the others; each in the list's order."""
     ordered = sorted(range(len(wells)), key=lambda i: math.dist((wells[i].x, wells[i].y), place))
-    taken = set(ordered[:WELLS])
-    return [wells[i] for i in sorted(taken)], [wells[i] for i in sorted(ordered[WELLS:])]
+    taken = set(ordered[:most])
+    return [wells[i] for i in sorted(taken)], [wells[i] for i in sorted(ordered[most:])]
 
 
 def named(place):
@@ -35,10 +35,10 @@ def middle(wells):
     return tuple(round(each[len(each) // 2], places) for each in (xs, ys))
 
 
-def near_advice(wells, asked=None):
+def near_advice(wells, asked=None, most=WELLS):
     """What to do about too many wells: the nearest to the place that was asked for, else to the middle of the list, as an example."""
     place = asked or middle(wells)
-    _, left = nearest_wells(wells, place)
+    _, left = nearest_wells(wells, place, most)
     where = 'the place asked for' if asked else 'the middle of the list'
-    return (f'--near X,Y takes the {WELLS} nearest to a place: --near {named(place)}, for example, which is {where}, '
+    return (f'--near X,Y takes the {most} nearest to a place: --near {named(place)}, for example, which is {where}, '
             f'leaves out {several(well.name for well in left)}.')

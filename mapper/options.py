@@ -6,7 +6,7 @@ import sys
 
 from mapper.lists.grid import MOST
 from mapper.runs.survey import SAME_SPOT
-from mapper.runs.survey_file import CODES, MODELS
+from mapper.runs.survey_file import CODES, MODELS, PROGRAM_WELLS, WELLS
 
 ROLES = {
     'name': "the wells' column with names, where its header is another word",
@@ -103,7 +103,8 @@ def parser():
         add('--' + role, metavar='COLUMN', help=ROLES[role])
     add('--skip-unreadable', action='store_true', help='leaves out the lines that have no level, place or number that can be read, and lists them')
     add('--readings', choices=READINGS, help='which of several readings of one well is taken (the newest by a date column)')
-    add('--near', type=place, metavar='X,Y', help='takes the 48 wells nearest to a place, where the list has more')
+    add('--near', type=place, metavar='X,Y', help=f'takes the {WELLS} wells nearest to a place, where the list has more; {PROGRAM_WELLS} with --sheets or '
+        '--listing')
     add('--at', type=spot, action='append', metavar='X,Y[,GROUND]', help='answers at this place in the terminal and makes no map; may be given again')
     add('--anyway', action='store_true', help='draws what cannot be a water table all the same, with the doubt on the page')
     add('--nodes', metavar='nodes.csv', help='a list of nodes, in place of a grid over the wells')

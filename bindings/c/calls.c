@@ -13,10 +13,15 @@ static void same(const char *what, double is, double should) {
     }
 }
 
-/* The same but for the last digits, which depend on the order of the sums. */
-static void near(const char *what, double is, double should) {
+/* The same but for so much, which depends on the order of the sums. */
+static void within(const char *what, double much, double is, double should) {
     double off = is - should;
-    same(what, off < 1e-14 && off > -1e-14 ? should : is, should);
+    same(what, off < much && off > -much ? should : is, should);
+}
+
+/* The same but for the last digits. */
+static void near(const char *what, double is, double should) {
+    within(what, 1e-14, is, should);
 }
 
 /* Two wells, (0, 0) with 2 and (2, 0) with 6, and the node (1, 0). */
@@ -214,6 +219,107 @@ static void files(void) {
          NAKWEMOL_SURVEY_FILE);
 }
 
+/* Wells a metre apart in a row, well i with the level i, one more than a call takes; and areas that serve every call. */
+enum { MANY = NAKWEMOL_MOST_WELLS + 1 };
+static double row_levels[MANY], row_places[2 * MANY], row_work[NAKWEMOL_WORK_OF_A_FIT], row_weights[MANY];
+
+static uint8_t fit_row(size_t n, size_t lent) {
+    const double away[] = {-9, 0};
+    clear();
+    return nakwemol_fit(row_levels, n, row_places, 2 * n, bases, 1, none, 0, NAKWEMOL_SPHERICAL, 0, 1, 0.5, NAKWEMOL_SAME_SPOT, 0, away, 2, none, 0, 1e-9,
+                        row_work, lent, predicted, 1, variance, 1, verdicts, 1, row_weights, MANY, multipliers, 1, trend, 1);
+}
+
+static uint8_t interpolate_row(size_t n, size_t lent) {
+    const double away[] = {-9, 0};
+    predicted[0] = variance[0] = -1;
+    return nakwemol_interpolate(row_levels, n, row_places, 2 * n, away, 2, 2, NAKWEMOL_ORDINARY, NAKWEMOL_SPHERICAL, 0, 1, 0.5, NAKWEMOL_SAME_SPOT,
+                                row_work, lent, predicted, 1, variance, 1);
+}
+
+static uint8_t bin_row(size_t n, double *semivariance, size_t *pairs) {
+    double middle;
+    size_t kept;
+    return nakwemol_semivariogram(row_places, 2 * n, row_levels, n, 2, 1, &middle, 1, semivariance, 1, pairs, 1, &kept);
+}
+
+/* The model reaches half a metre, so that all wells say as much: the weights are 1 / n, the figure is the average of 0 to n - 1 and the variance 1 + 1 / n.
+ * Half the average square of all differences is n (n + 1) / 12. */
+static void rows(void) {
+    const size_t counts[] = {48, 49, 60, NAKWEMOL_MOST_WELLS};
+    double half;
+    size_t pairs;
+    for (size_t i = 0; i < MANY; i++) row_levels[i] = row_places[2 * i] = (double)i;
+    for (int c = 0; c < 4; c++) {
+        const size_t n = counts[c];
+        const double wells = (double)n, average = (wells - 1) / 2;
+        same("a row", fit_row(n, NAKWEMOL_WORK_OF_A_FIT), NAKWEMOL_OK);
+        within("its figure", 1e-12, predicted[0] / average, 1);
+        within("its variance", 1e-12, variance[0], 1 + 1 / wells);
+        same("its verdict", verdicts[0], 0);
+        within("its trend", 1e-12, trend[0] / average, 1);
+        for (size_t i = 0; i < n; i++) near("its weight", row_weights[i], 1 / wells);
+        same("an interpolated row", interpolate_row(n, NAKWEMOL_WORK_OF_AN_INTERPOLATION), NAKWEMOL_OK);
+        within("its figure", 1e-12, predicted[0] / average, 1);
+        within("its variance", 1e-12, variance[0], 1 + 1 / wells);
+        same("a binned row", bin_row(n, &half, &pairs), NAKWEMOL_OK);
+        same("its pairs", (double)pairs, wells * (wells - 1) / 2);
+        same("its semivariance", half, wells * (wells + 1) / 12);
+    }
+    same("a row too long", fit_row(MANY, NAKWEMOL_WORK_OF_A_FIT), NAKWEMOL_TOO_MANY);
+    same("9 before 17", fit_row(MANY, 0), NAKWEMOL_TOO_MANY);
+    same("what it leaves", predicted[0], -1);
+    same("a row too long to interpolate", interpolate_row(MANY, 0), NAKWEMOL_TOO_MANY);
+    same("a row too long to bin", bin_row(MANY, &half, &pairs), NAKWEMOL_TOO_MANY);
+    same("the work of 96 wells", fit_row(NAKWEMOL_MOST_WELLS, 2 * 97 * 97), NAKWEMOL_OK);
+    same("one number less", fit_row(NAKWEMOL_MOST_WELLS, 2 * 97 * 97 - 1), NAKWEMOL_WORK_AREA);
+    same("the work of every fit", NAKWEMOL_WORK_OF_A_FIT, 23328);
+    same("the work of every interpolation", NAKWEMOL_WORK_OF_AN_INTERPOLATION, 20000);
+}
+
+/* A row's file; its version, which is the third byte from the end; and what the reader says of it. */
+static uint8_t write_row(size_t n, double spot, uint8_t *file, size_t lent, size_t *length) {
+    return nakwemol_write(row_levels, n, row_places, 2 * n, bases, 1, none, 0, NAKWEMOL_LINEAR, 1, 2, 3, spot, 4, nodes, 2, none, 0, 5, file, lent, length);
+}
+
+static uint8_t read_row(const uint8_t *file, size_t length) {
+    static double read_levels[MANY], read_places[2 * MANY];
+    double read_nodes[2], unread[1], numbers[5];
+    uint8_t codes[1], model;
+    size_t sizes[3];
+    uint8_t number = nakwemol_read(file, length, read_levels, MANY, read_places, 2 * MANY, codes, 1, unread, 0, read_nodes, 2, unread, 0, sizes, numbers,
+                                   &model);
+    if (number == NAKWEMOL_OK) {
+        same("levels read", memcmp(read_levels, row_levels, 8 * sizes[0]), 0);
+        same("places read", memcmp(read_places, row_places, 16 * sizes[0]), 0);
+    }
+    return number;
+}
+
+static void versions(void) {
+    static uint8_t file[54 + 24 * MANY + 17];
+    const size_t counts[] = {48, 49, 60, NAKWEMOL_MOST_WELLS};
+    size_t length = 99;
+    for (int c = 0; c < 4; c++) {
+        const int second = counts[c] > 48;
+        same("a row's file", write_row(counts[c], NAKWEMOL_SAME_SPOT, file, sizeof file, &length), NAKWEMOL_OK);
+        same("its length", (double)length, 54 + 24 * (double)counts[c] + 17);
+        same("its version", file[length - 3], 1 + second);
+        same("read", read_row(file, length), NAKWEMOL_OK);
+        file[length - 3] = 1;
+        same("read as version 1, at any n", read_row(file, length), NAKWEMOL_OK);
+        file[length - 3] = 2;
+        same("read as version 2, from 49 wells on", read_row(file, length), second ? NAKWEMOL_OK : NAKWEMOL_SURVEY_FILE);
+        file[length - 3] = 3;
+        same("read as version 3", read_row(file, length), NAKWEMOL_SURVEY_FILE);
+    }
+    length = 99;
+    same("over 96 wells", write_row(MANY, NAKWEMOL_SAME_SPOT, file, sizeof file, &length), NAKWEMOL_SURVEY_FILE);
+    same("16 after 22", write_row(MANY, 1, file, sizeof file, &length), NAKWEMOL_SAME_SPOT_DISTANCE);
+    same("16 before 18", write_row(MANY, NAKWEMOL_SAME_SPOT, file, 0, &length), NAKWEMOL_SURVEY_FILE);
+    same("the length that they leave", (double)length, 99);
+}
+
 int main(void) {
     fits();
     trends();
@@ -223,6 +329,8 @@ int main(void) {
     spots();
     semivariograms();
     files();
+    rows();
+    versions();
     printf("%d compared, %d differ\n", compared, differ);
     return differ != 0;
 }

@@ -70,10 +70,23 @@ def yard():
         yield f'{name},{EAST + x:.3f},{NORTH + y:.3f},{level:.2f}'
 
 
+def two_counties():
+    """72 wells of two counties side by side, 36 of either, over 9 by 6 kilometres: their surveys joined. The water falls to the south-east, with a swell."""
+    draw = random.Random('two_counties.csv')
+    yield 'name,x,y,level'
+    for county, west in (('W', 0), ('E', 4600)):
+        for i, (x, y) in enumerate(apart(draw, 36, 4400, 6000, 500)):
+            level = 138 - 0.0009 * (west + x) + 0.0006 * y + 0.6 * math.sin((west + x) / 1300) * math.cos(y / 1500) + draw.gauss(0, 0.06)
+            yield f'{county}{i + 1},{EAST + west + x:.1f},{NORTH + y:.1f},{level:.2f}'
+
+
+LISTS = {'plain.csv': plain, 'valley.csv': valley, 'valley_nodes.csv': valley_nodes, 'yard.csv': yard, 'two_counties.csv': two_counties}
+
+
 def main(arguments):
     different = 0
-    for name, lines in (('plain.csv', plain()), ('valley.csv', valley()), ('valley_nodes.csv', valley_nodes()), ('yard.csv', yard())):
-        path, text = SAMPLES / name, ''.join(line + '\n' for line in lines)
+    for name, lines in LISTS.items():
+        path, text = SAMPLES / name, ''.join(line + '\n' for line in lines())
         same = path.exists() and path.read_text() == text
         different += not same
         if '--check' not in arguments:

@@ -31,6 +31,7 @@ def bins_of(wells, levels, tell, progress=False):
     except nakwemol.Refused as refused:
         raise Refused(refused.number)
     bins = [Bin(*each) for each in zip(found.distances, found.semivariances, found.counts)]
+    nearer = NEARER * greatest_distance(wells)
     for each in bins[LEAST_FITTED:]:
-        each.used = each.distance <= NEARER * greatest_distance(wells)
+        each.used = each.distance <= nearer
     return bins

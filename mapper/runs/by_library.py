@@ -1,4 +1,5 @@
-"""The second way to run a sheet: the library's proved call `nakwemol_fit`, for what a survey file cannot say. It answers what a listing says.
+"""The second way to run a sheet: the library's proved call `nakwemol_fit`, for what a survey file cannot say, and for more wells than the program takes. It
+answers what a listing says.
 
 Calls have no state and leave Python's lock while they run, so that sheets run side by side here too.
 """

@@ -13,6 +13,6 @@ def library_calls(tell, progress, without_compiler):
         sys.path.append(calls)
     try:
         import nakwemol
-    except OSError as error:  # it is no shared object, or of before the same-spot distance
+    except OSError as error:  # it is no shared object, or of before the same-spot distance or 96 wells
         raise Stop(f'{error}. Remove it, and the archive beside it, and both are built anew by the next run.')
     return path, nakwemol

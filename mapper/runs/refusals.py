@@ -3,7 +3,7 @@ from mapper.doubts.spots import spots_of
 from mapper.naming import called, several
 from mapper.nearest_wells import near_advice
 from mapper.numbers import counted
-from mapper.runs.survey_file import DRIFT, NODES, WELLS, columns
+from mapper.runs.survey_file import DRIFT, NODES, PROGRAM_WELLS, WELLS, columns
 
 REFUSALS = {
     1: 'A well has a level without a place, or a place without a level. Look for the well whose x, y or level is missing; fill it in, or take the well out.',
@@ -15,8 +15,8 @@ REFUSALS = {
     7: 'There are fewer wells than the trend needs: constant needs 1, linear 3, quadratic 6, and an external column one more. '
        'Measure more wells, or choose a simpler trend.',
     8: 'The external column does not have one number for each node. Fill it in at every node, or leave --external out.',
-    9: f'This is more than the program takes: at most {WELLS} wells, {DRIFT} columns of the trend and {NODES} nodes a sheet. '
-       f'Keep the {WELLS} wells that matter most for the place, or make several maps.',
+    9: f'This is more than is taken: at most {WELLS} wells ({PROGRAM_WELLS} by the program wellmap, as for --sheets and --listing), {DRIFT} columns of the '
+       f'trend and {NODES} nodes a sheet. Keep the wells that matter most for the place, or make several maps.',
     10: 'The tolerance is below zero or not a number. Give 0 or a number above it, such as --tolerance 1e-9.',
     11: 'A number is not finite: of the model, or a level, a coordinate or an external value that is empty or too large. '
         'Correct it, or leave its well or node out.',
@@ -34,15 +34,23 @@ REFUSALS = {
 }
 
 
-def refusal(number, wells=(), trend='constant', external=None, asked=None):
-    """The sentence for a refusal, with what these wells have to do with it; `asked` is the place that was asked for, if any."""
+def refusal(number, wells=(), trend='constant', external=None, asked=None, most=WELLS):
+    """The sentence for a refusal, with what these wells have to do with it; `asked` is the place that was asked for, if any, and `most` how many are taken."""
     said = f'Refused ({number}). {REFUSALS.get(number, "The program gave a number that is not known here; build it anew.")}'
     if number == 7 and wells:
         need = len(columns(trend, external))
         said += f' The {trend} trend{f" with {external}" if external else ""} needs {counted(need, "well")}; this list has {len(wells)}.'
     if number == 9 and wells:
-        said += f' This list has {counted(len(wells), "well")}.' + (f' {near_advice(wells, asked)}' if len(wells) > WELLS else '')
+        said += f' This list has {counted(len(wells), "well")}.{too_many(wells, asked, most)}'
     return said + (f' {unsettled(wells, trend, external)}' if number == 19 else '')
+
+
+def too_many(wells, asked, most):
+    """What to do about wells past what is taken: nothing where they are not too many."""
+    if len(wells) <= most:
+        return ''
+    whole = ' Without --sheets and --listing all of them are taken.' if len(wells) <= WELLS else ''
+    return f'{whole} {near_advice(wells, asked, most)}'
 
 
 def unsettled(wells, trend, external):

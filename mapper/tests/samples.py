@@ -138,7 +138,7 @@ def large_map(columns=400, rows=250, **more):
 
 
 def crowded(**more):
-    """As many wells as a survey has, with names as spreadsheets have them, and an external column."""
+    """As many wells as the program takes, with names as spreadsheets have them, and an external column."""
     wells = made_wells(48, seed=11)
     for k, name in ((3, 'Brunnen <Süd> & "Nord" am alten Wasserwerk'), (9, '深井十二号'), (20, "O'Neill's")):
         wells[k].name = name

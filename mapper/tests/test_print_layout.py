@@ -5,11 +5,12 @@ import unittest
 from mapper.page.page import page
 from mapper.page.print_layout import GOOD, LEAST, LINE, MOST, SHEET, head, layout, lines, refused, side, wells
 from mapper.records import Doubt, Run
+from mapper.runs.survey_file import WELLS
 from mapper.tests import samples
 
 
 def worst():
-    """Much to say: all verdicts, many notes, doubts, as many wells as a survey has, with long names."""
+    """Much to say: all verdicts, many notes, doubts, many wells with long names."""
     m = samples.crowded()
     for well in m.wells:
         well.name = 'Observation well of the lower meadow'
@@ -28,7 +29,14 @@ def on_first(m):
 
 class Paper(unittest.TestCase):
     def test_few_wells_on_one_sheet_many_on_a_second(self):
-        self.assertEqual([on_first(samples.grid_map(4, 4, wells=n)) for n in (3, 6, 48)], [3, 3, 2])
+        self.assertEqual([on_first(samples.grid_map(4, 4, wells=n)) for n in (3, 6, 48, 96)], [3, 3, 2, 2])
+
+    def test_as_many_wells_as_are_taken(self):
+        """96 on the second sheet, in letters of the usual size."""
+        m = samples.grid_map(4, 4, wells=WELLS)
+        self.assertEqual(layout(m), layout(samples.grid_map(4, 4, wells=48)))
+        self.assertLess(wells(m), SHEET)
+        self.assertEqual(len(re.findall(r'<td class="x n">', page(m))), WELLS)
 
     def test_wells_are_printed_with_their_places_however_many(self):
         """No part of the table is hidden on paper, and nothing stands in place of it."""

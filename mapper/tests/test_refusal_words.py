@@ -4,6 +4,7 @@ import unittest
 
 from mapper.records import Well
 from mapper.runs.refusals import REFUSALS, refusal
+from mapper.runs.survey_file import DRIFT, NODES, PROGRAM_WELLS, WELLS
 from mapper.tests.support import section
 
 
@@ -24,10 +25,17 @@ class Words(unittest.TestCase):
             self.assertRegex(said, r'(Choose|choose|Give|give|Look|look|Fill|Measure|Keep|Correct|Ask|Write|build|Name)', number)
 
     def test_limits_are_those_of_the_reference(self):
-        found = re.search(r'\| 9 \| n > (\d+), p > (\d+) or m > (\d+) \|', section(8)).groups()
+        found = re.search(r'\| 9 \| n > (\d+) \(in `wellmap` n > (\d+)\), p > (\d+) or m > (\d+) \|', section(8)).groups()
         for limit in found:
             self.assertIn(limit, refusal(9))
-        self.assertIn('This list has 60 wells.', refusal(9, some(60)))
+        self.assertEqual(tuple(map(int, found)), (WELLS, PROGRAM_WELLS, DRIFT, NODES))
+
+    def test_how_many_wells_are_taken(self):
+        self.assertTrue(refusal(9, some(96)).endswith(' This list has 96 wells.'))
+        self.assertIn(' This list has 97 wells. --near X,Y takes the 96 nearest to a place: ', refusal(9, some(97)))
+        self.assertIn(' This list has 60 wells. Without --sheets and --listing all of them are taken. --near X,Y takes the 48 nearest to a place: ',
+                      refusal(9, some(60), most=48))
+        self.assertIn(' This list has 97 wells. --near X,Y takes the 48 nearest to a place: ', refusal(9, some(97), most=48))
 
     def test_how_many_wells_a_trend_needs(self):
         self.assertIn('The quadratic trend needs 6 wells; this list has 5.', refusal(7, some(5), 'quadratic'))

@@ -45,10 +45,9 @@ class BeforeIt(Folder):
             self.assertIn(f'The {trend} trend needs {need} wells; this list has {count}.', self.refused(self.file(many(count)), '--trend', trend))
 
     def test_9(self):
-        said = self.refused(self.file(many(49)))
-        self.assertIn('at most 48 wells, 12 columns of the trend and 100 nodes a sheet', said)
-        self.assertIn('This list has 49 wells.', said)
-        self.made(self.file(many(48)), '--grid', '3x3')
+        said = self.refused(self.file(many(97)))
+        self.assertIn('at most 96 wells (48 by the program wellmap, as for --sheets and --listing), 12 columns of the trend and 100 nodes a sheet', said)
+        self.assertIn('This list has 97 wells.', said)
 
     def test_14(self):
         one, nodes = self.file(many(1)), self.file('x,y\n1,1\n', 'nodes.csv')

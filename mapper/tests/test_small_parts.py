@@ -77,7 +77,7 @@ class Samples(Folder):
     def test_as_they_are_made(self):
         with contextlib.redirect_stdout(io.StringIO()) as said:
             self.assertEqual(samples.main(['--check']), 0)
-        self.assertEqual(said.getvalue().count('same'), 4)
+        self.assertEqual(said.getvalue().count('same'), len(samples.LISTS))
 
     def test_a_changed_one_is_told(self):
         with mock.patch.object(samples, 'SAMPLES', self.folder), contextlib.redirect_stdout(io.StringIO()):

@@ -1,4 +1,4 @@
-"""The two ways to run a sheet, by the program and by the library's call: the same bits wherever a survey file says it, and which of them is taken."""
+"""The two ways to run a sheet, by the program and by the library's call: the same bits wherever both take it, and which of them is asked."""
 import hashlib
 import math
 import os
@@ -24,7 +24,7 @@ from mapper.runs.running import run
 from mapper.runs.sheets import Sheets
 from mapper.runs.survey import SAME_SPOT, Survey
 from mapper.runs.survey_file import packed
-from mapper.runs.ways import BY_CALL, way_of
+from mapper.runs.ways import BY_CALL, NO_DISTANCE, TOO_MANY, way_notes, way_of
 from mapper.tests.support import FOUR, NUMBERS, ROOT, SAMPLES, Folder, nakwemol
 from mapper.tests.test_sheets import read
 
@@ -87,7 +87,7 @@ class SameBits(unittest.TestCase):
         self.assertEqual(self.both(*read('singular')[1:]), [19])
 
     def test_refused_sheets(self):
-        many = [Well(str(i), 37.0 * i % 100, 61.0 * i % 97, 1.0) for i in range(49)]
+        many = [Well(str(i), 37.0 * i % 100, 61.0 * i % 97, 1.0) for i in range(97)]
         for number, survey in ((5, Survey(TWO, 'constant', None, ONE, -1.0, 0.0)), (7, Survey(TWO, 'linear', None, ONE, 0.0, 0.0)),
                                (9, Survey(many, 'constant', None, ONE, 0.0, 0.0)), (10, Survey(TWO, 'constant', None, ONE, 0.0, math.nan)),
                                (11, Survey([Well('A', 0.0, math.inf, 2.0)], 'constant', None, ONE, 0.0, 0.0)),
@@ -103,12 +103,15 @@ class SameBits(unittest.TestCase):
 
 
 class WhichWay(Folder):
-    def survey(self, same_spot):
-        return Survey(TWO, 'constant', None, ONE, 0.0, 0.0, same_spot)
+    def survey(self, same_spot, wells=TWO):
+        return Survey(wells, 'constant', None, ONE, 0.0, 0.0, same_spot)
 
-    def test_the_program_wherever_a_file_says_it(self):
-        for same_spot, kind in ((None, ByProgram), (SAME_SPOT, ByProgram), (2 * SAME_SPOT, ByLibrary), (0.01, ByLibrary)):
-            self.assertIs(type(way_of(self.survey(same_spot), print)), kind, same_spot)
+    def test_the_program_wherever_it_takes_the_survey(self):
+        for same_spot, wells, why in ((None, 2, []), (SAME_SPOT, 2, []), (None, 48, []), (2 * SAME_SPOT, 2, [NO_DISTANCE]), (0.01, 48, [NO_DISTANCE]),
+                                      (None, 49, [TOO_MANY]), (None, 96, [TOO_MANY]), (0.01, 49, [TOO_MANY, NO_DISTANCE])):
+            survey = self.survey(same_spot, TWO[:1] * wells)
+            self.assertIs(type(way_of(survey, print)), ByLibrary if why else ByProgram, (same_spot, wells))
+            self.assertEqual(way_notes(survey), [BY_CALL % ', and '.join(why)] if why else [])
 
     def test_no_file_says_another_survey(self):
         with self.assertRaises(ValueError):
@@ -141,6 +144,9 @@ class WhichWay(Folder):
                 way_of(self.survey(0.01), print)
             self.assertIn('There is no C compiler (cc) to link the library of the proved calls with. Install one, or leave --same-spot out.',
                           str(stopped.exception))
+            with self.assertRaises(Stop) as stopped:
+                way_of(self.survey(None, TWO[:1] * 49), print)
+            self.assertIn('Install one, or keep at most 48 wells.', str(stopped.exception))
             self.assertIn('or give --nugget, --sill and --range yourself.', self.refused(self.file(FOUR)))
 
 
@@ -166,8 +172,8 @@ class OnTheMap(Folder):
             with open(way.path, 'rb') as file:
                 self.assertEqual((m.source.program, m.source.by), (hashlib.sha256(file.read()).hexdigest(), by))
             said = self.made(*words, *more)
-            self.assertEqual(BY_CALL in said, bool(more))
+            self.assertEqual(BY_CALL % NO_DISTANCE in said, bool(more))
             self.assertEqual(self.judgements()[-1], f'Worked out by {by}.')
             page = (self.folder / 'wells.html').read_text().replace('&#x27;', "'")
             self.assertIn(f' by {by} (SHA-256 <span class="checksum" title="{m.source.program}">', page)
-            self.assertEqual(BY_CALL in page, bool(more))
+            self.assertEqual(BY_CALL % NO_DISTANCE in page, bool(more))

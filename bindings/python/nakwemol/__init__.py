@@ -4,6 +4,7 @@ Lists are sequences of numbers, sequences of rows, or what has `tolist`, as nump
 docs/REFERENCE.md has the formulas.
 """
 from nakwemol.fit import External, DriftBasis, UniversalKrigingOptions, UniversalKrigingResult, universal_kriging_fit
+from nakwemol.limits import MOST_COLUMNS, MOST_NODES, MOST_WELLS
 from nakwemol.older_calls import KrigingInterpolator, KrigingResult, KrigingType, Semivariogram, SemivariogramCalculator
 from nakwemol.refused import Refused
 from nakwemol.survey_file import Survey, read_survey, write_survey
@@ -15,6 +16,9 @@ __all__ = [
     "KrigingInterpolator",
     "KrigingResult",
     "KrigingType",
+    "MOST_COLUMNS",
+    "MOST_NODES",
+    "MOST_WELLS",
     "Refused",
     "Semivariogram",
     "SemivariogramCalculator",

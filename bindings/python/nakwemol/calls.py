@@ -7,8 +7,11 @@ import os
 from ctypes import POINTER, c_double, c_size_t, c_uint8
 from pathlib import Path
 
+from nakwemol.limits import MOST_WELLS
+
 HERE = Path(__file__).resolve().parent
 LIBRARY = HERE.parents[2] / "target" / "staticlib" / "libnakwemol.so"
+MAKE_ANEW = "make it anew by `rt staticlib nakwemol` and `bindings/python/link`"
 
 NUMBERS = [POINTER(c_double), c_size_t]
 BYTES = [POINTER(c_uint8), c_size_t]
@@ -36,16 +39,17 @@ def load():
     for name, parameters in PARAMETERS.items():
         getattr(library, name).argtypes = parameters
         getattr(library, name).restype = c_uint8
-    if not takes_same_spot(library):
-        raise OSError(f"{path} is older than the same-spot distance, and would take it for r: make it anew by `rt staticlib nakwemol` and "
-                      "`bindings/python/link`")
+    if not takes_same_spot(library, 1):
+        raise OSError(f"{path} is older than the same-spot distance, and would take it for r: {MAKE_ANEW}")
+    if not takes_same_spot(library, MOST_WELLS):
+        raise OSError(f"{path} is of before {MOST_WELLS} wells, and would refuse what is taken now: {MAKE_ANEW}")
     return library
 
 
-def takes_same_spot(library):
-    """Whether a shared object takes the same-spot distance after the range: one of 0 is refused by 22 then. One of before takes that 0 for r, and goes on to
-    the work area, which is lent too short: 17."""
-    wells, nodes, areas = (numbers([1]), numbers([0, 0]), codes([1]), area(0)), (area(0), area(0)), [area(0) if at != 3 else codes([]) for at in range(7)]
+def takes_same_spot(library, n):
+    """Whether a shared object takes the same-spot distance after the range with n wells: one of 0 is refused by 22 then. One of before takes that 0 for r, and
+    goes on to the work area, which is lent too short: 17. One that takes fewer wells says so before it looks at either: 9."""
+    wells, nodes, areas = (area(n), area(2 * n), codes([1]), area(0)), (area(0), area(0)), [area(0) if at != 3 else codes([]) for at in range(7)]
     return library.nakwemol_fit(*handed(*wells, 1, 0.0, 1.0, 1.0, 0.0, 0.0, *nodes, 0.0, *areas)) == 22
 
 

@@ -4,12 +4,11 @@ from enum import IntEnum
 from typing import NamedTuple, Sequence
 
 from nakwemol import calls
+from nakwemol.limits import MOST_COLUMNS, MOST_NODES, MOST_WELLS
 from nakwemol.lists import flat, is_text, number
 from nakwemol.refused import unless_0
 from nakwemol.variogram import Variogram, VariogramModel
 
-# What a fit takes at most: past these it is refused by 9, so that no area is made longer.
-WELLS, COLUMNS, NODES = 48, 12, 100
 EXTERNAL_CODE = 4
 COLUMNS_OF = {1: 1, 2: 3, 3: 6, 4: 1}
 
@@ -85,7 +84,8 @@ def universal_kriging_fit(coords, values, options, query_points, query_external_
     codes, external = [code_of(basis) for basis in bases], external_list(bases, len(values))
     k = codes.count(EXTERNAL_CODE)
     node_external = flat(query_external_drift, k, "query_external_drift") if k and query_external_drift is not None else []
-    n, p, m = min(len(values), WELLS), min(sum(COLUMNS_OF.get(code, 0) for code in codes), COLUMNS), min(len(nodes) // 2, NODES)
+    columns = sum(COLUMNS_OF.get(code, 0) for code in codes)
+    n, p, m = min(len(values), MOST_WELLS), min(columns, MOST_COLUMNS), min(len(nodes) // 2, MOST_NODES)
     work, predicted, variance, weights, multipliers, trend = map(calls.area, (2 * (n + p) ** 2, m, m, n * m, p, p))
     verdicts = calls.codes([0] * m)
     unless_0(calls.call(

@@ -4,12 +4,11 @@ from enum import IntEnum
 from typing import NamedTuple
 
 from nakwemol import calls
+from nakwemol.limits import MOST_BINS, MOST_NODES, MOST_WELLS
 from nakwemol.lists import flat, table
 from nakwemol.refused import unless_0
 from nakwemol.variogram import Variogram
 
-# What the calls take at most: past these they are refused by 9 and 15, so that no area is made longer.
-POINTS, TARGETS, BINS = 48, 100, 64
 MOST_TERMS = 4
 
 
@@ -51,8 +50,8 @@ class KrigingInterpolator(NamedTuple):
         """The values at targets, from those at points. A list without rows needs the dimension. Raises Refused."""
         points, d = points_of(points, dimension)
         values, targets = flat(values, 1, "values"), flat(targets, d, "targets")
-        m = min(len(targets) // d, TARGETS) if d > 0 else 0
-        work, figures, variances = map(calls.area, (2 * (min(len(values), POINTS) + MOST_TERMS) ** 2, m, m))
+        m = min(len(targets) // d, MOST_NODES) if d > 0 else 0
+        work, figures, variances = map(calls.area, (2 * (min(len(values), MOST_WELLS) + MOST_TERMS) ** 2, m, m))
         unless_0(calls.call(
             "nakwemol_interpolate",
             *map(calls.numbers, (values, points, targets)),
@@ -71,7 +70,7 @@ class SemivariogramCalculator:
     def calculate(points, values, n_bins, dimension=None):
         """The semivariogram of points with a value at each. A list without rows needs the dimension. Raises Refused."""
         points, d = points_of(points, dimension)
-        bins = min(max(n_bins, 0), BINS)
+        bins = min(max(n_bins, 0), MOST_BINS)
         distances, semivariances, counts, kept = calls.area(bins), calls.area(bins), (ctypes.c_size_t * bins)(), ctypes.c_size_t()
         unless_0(calls.call(
             "nakwemol_semivariogram",

@@ -27,7 +27,7 @@ TOLD = {
     14: (DATA, "Give at least two."),
     15: (ADDED, "Ask for 1 to 64 bins."),
     16: (ADDED, "Write the file anew, and see that it is carried over whole and byte for byte."),
-    17: (ADDED, "Lend a longer one; 7,200 numbers serve every fit."),
+    17: (ADDED, "Lend a longer one; 23,328 numbers serve every fit."),
     18: (ADDED, "Lend areas of the lengths in sections 1, 10, 11 and 12."),
     19: (MATRIX, "Look for two wells at one place (leave one out, or raise r) and for columns that say the same at every well (leave one out)."),
     22: (ADDED, "Give the same-spot distance in metres, 2^-52 or more; to write a survey file leave it at 2^-52."),

@@ -27,7 +27,7 @@ class Survey(NamedTuple):
 
 
 def read_survey(data):
-    """The survey of a file's bytes. Raises Refused."""
+    """The survey of a file's bytes: version 1 with any number of wells, version 2 with 49 to 96. Raises Refused."""
     most = min(len(data), LONGEST)
     values, coords, external, nodes, node_external = (calls.area(most // 8) for _ in range(5))
     bases, model = calls.codes([0] * most), ctypes.c_uint8()
@@ -53,7 +53,7 @@ def read_survey(data):
 
 
 def write_survey(survey):
-    """The bytes of a survey's file, with no note. Raises Refused."""
+    """The bytes of a survey's file, with no note: version 2 from 49 to 96 wells, else version 1; more are 16. Raises Refused."""
     file, length = calls.codes([0] * LONGEST), ctypes.c_size_t()
     codes = [code_of(basis) for basis in listed(survey.bases)]
     unless_0(calls.call(

@@ -129,7 +129,7 @@ class Calls(unittest.TestCase):
         self.assertEqual(universal_kriging_fit(COORDS, VALUES, external, NODE, [[1]], tolerance=0.0).predicted, [4.0])
 
     def test_numbers_that_are_given(self):
-        self.refused(9, universal_kriging_fit, [[0, i] for i in range(49)], range(49), CONSTANT, NODE, tolerance=0.0)
+        self.refused(9, universal_kriging_fit, [[0, i] for i in range(97)], range(97), CONSTANT, NODE, tolerance=0.0)
         self.refused(9, universal_kriging_fit, COORDS, VALUES, CONSTANT, NODE * 101, tolerance=0.0)
         self.refused(11, universal_kriging_fit, COORDS, [2, math.nan], CONSTANT, NODE, tolerance=0.0)
         for model in (0, 5, -1, 257):

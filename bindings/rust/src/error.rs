@@ -67,7 +67,7 @@ fn told(number: u8) -> (ErrorKind, &'static str) {
         14 => (InsufficientData, "Give at least two."),
         15 => (Added, "Ask for 1 to 64 bins."),
         16 => (Added, "Write the file anew, and see that it is carried over whole and byte for byte."),
-        17 => (Added, "Lend a longer one; 7,200 numbers serve every fit."),
+        17 => (Added, "Lend a longer one; 23,328 numbers serve every fit."),
         18 => (Added, "Lend areas of the lengths in sections 1, 10, 11 and 12."),
         19 => (
             MatrixError,

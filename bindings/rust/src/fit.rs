@@ -1,5 +1,5 @@
 //! Universal kriging with external drift.
-use crate::{calls, work_area, Error, Result, Variogram, VariogramModel, COLUMNS, NODES, WELLS};
+use crate::{calls, work_area, Error, Result, Variogram, VariogramModel, MOST_COLUMNS, MOST_NODES, MOST_WELLS};
 
 /// What the drift is made of: columns at a place (x, y), in the order of the bases.
 #[derive(Debug, Clone, PartialEq)]
@@ -91,9 +91,9 @@ pub fn universal_kriging_fit(
 ) -> Result<UniversalKrigingResult> {
     let codes: Vec<u8> = options.drift_bases.iter().map(DriftBasis::code).collect();
     let external = external_list(&options.drift_bases, values.len());
-    let n = values.len().min(WELLS);
-    let p = options.drift_bases.iter().map(DriftBasis::columns).sum::<usize>().min(COLUMNS);
-    let m = (query_points.len() / 2).min(NODES);
+    let n = values.len().min(MOST_WELLS);
+    let p = options.drift_bases.iter().map(DriftBasis::columns).sum::<usize>().min(MOST_COLUMNS);
+    let m = (query_points.len() / 2).min(MOST_NODES);
     let mut answer = UniversalKrigingResult {
         predicted: vec![0.0; m],
         variance: vec![0.0; m],

@@ -1,5 +1,5 @@
 //! Kriging interpolation.
-use crate::{calls, work_area, Error, Result, Variogram, NODES, WELLS};
+use crate::{calls, work_area, Error, Result, Variogram, MOST_NODES, MOST_WELLS};
 
 /// Kriging types.
 #[derive(Debug, Clone, Copy, PartialEq, Eq)]
@@ -50,7 +50,7 @@ impl KrigingInterpolator {
 
     /// The values at targets, from those at points. Points and targets have `dimension` numbers each, row after row.
     pub fn interpolate(&self, points: &[f64], values: &[f64], targets: &[f64], dimension: usize) -> Result<KrigingResult> {
-        let m = targets.len().checked_div(dimension).unwrap_or(0).min(NODES);
+        let m = targets.len().checked_div(dimension).unwrap_or(0).min(MOST_NODES);
         let mut answer = KrigingResult { values: vec![0.0; m], variances: vec![0.0; m] };
         Error::of(calls::interpolate(
             values,
@@ -63,7 +63,7 @@ impl KrigingInterpolator {
             self.variogram.sill,
             self.variogram.range,
             self.variogram.same_spot,
-            &mut work_area(values.len().min(WELLS) + self.kriging_type.terms()),
+            &mut work_area(values.len().min(MOST_WELLS) + self.kriging_type.terms()),
             &mut answer.values,
             &mut answer.variances,
         ))?;

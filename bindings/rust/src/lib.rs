@@ -14,10 +14,12 @@ pub use interpolator::{KrigingInterpolator, KrigingResult, KrigingType};
 pub use semivariogram::{Semivariogram, SemivariogramCalculator};
 pub use variogram::{Variogram, VariogramModel};
 
-/// What a call takes at most: past these it is refused by 9, so that no area is made longer.
-const WELLS: usize = 48;
-const COLUMNS: usize = 12;
-const NODES: usize = 100;
+/// Wells, points and samples that a call takes at most: past them it is refused by 9, so that no area is made longer.
+pub const MOST_WELLS: usize = 96;
+/// Columns of the drift.
+pub const MOST_COLUMNS: usize = 12;
+/// Nodes and targets.
+pub const MOST_NODES: usize = 100;
 
 /// Numbers of the work area of a system of this size.
 fn work_area(size: usize) -> Vec<f64> {

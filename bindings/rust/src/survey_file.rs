@@ -18,7 +18,7 @@ pub struct Survey {
     pub tolerance: f64,
 }
 
-/// Reads a survey file.
+/// Reads a survey file: version 1 with any number of wells, version 2 with 49 to 96.
 pub fn read(bytes: &[u8]) -> Result<Survey> {
     // A list of a file that is not malformed is no longer than the file.
     let numbers_most = LONGEST.min(bytes.len()) / 8;
@@ -52,7 +52,8 @@ pub fn read(bytes: &[u8]) -> Result<Survey> {
     Ok(Survey { values, coords, bases, external, nodes, node_external, variogram, regularization, tolerance })
 }
 
-/// Writes a survey file, with no note. A file has no place for the same-spot distance: any but 2^-52 is refused by 22.
+/// Writes a survey file, with no note: version 2 from 49 to 96 wells, else version 1; more are refused by 16. A file has no place for the same-spot
+/// distance: any but 2^-52 is refused by 22.
 pub fn write(survey: &Survey) -> Result<Vec<u8>> {
     let mut file = vec![0; LONGEST];
     let mut length = 0;

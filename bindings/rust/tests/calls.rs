@@ -156,10 +156,11 @@ fn node_externals_are_asked_for() {
 fn too_many() {
     let constant = options(vec![DriftBasis::Constant]);
     let fit = |n: usize, m: usize| number(universal_kriging_fit(&vec![0.5; 2 * n], &vec![1.0; n], &constant, &vec![0.0; 2 * m], None, 0.0));
-    assert_eq!(fit(49, 1), 9);
+    assert_eq!(fit(97, 1), 9);
     assert_eq!(fit(1, 101), 9);
     assert_eq!(fit(1, 100), 0);
-    assert_eq!(number(KrigingInterpolator::new(KrigingType::Universal, SPHERICAL).interpolate(&[0.5; 98], &[1.0; 49], &NODE, 2)), 9);
+    assert_eq!(number(KrigingInterpolator::new(KrigingType::Universal, SPHERICAL).interpolate(&[0.5; 194], &[1.0; 97], &NODE, 2)), 9);
+    assert_eq!(number(SemivariogramCalculator::calculate(&[0.5; 194], &[1.0; 97], 2, 1)), 9);
 }
 
 #[test]
