@@ -11,6 +11,8 @@ from tools.reading.variogram import EXPONENTIAL, GAUSSIAN, LINEAR, SPHERICAL, Va
 
 COUNTS = (49, 60, 95, 96)
 MODELS = (SPHERICAL, EXPONENTIAL, GAUSSIAN, LINEAR)
+# how far points are drawn apart, so that of so many none are at one spot
+WIDE = {1: 9000.0, 2: 900.0, 3: 90.0}
 # the work area of 48 points and Universal
 OF_48 = 2 * 52 * 52
 
@@ -20,14 +22,14 @@ def shaped(draw):
     for turn, n in enumerate(COUNTS):
         for place, (kind, d) in enumerate(SHAPES):
             for model in (SPHERICAL, LINEAR, MODELS[1 + (turn + place) % 2]):
-                query = plain(draw, kind, d, n, draw.choice([1, 2, 3]), model=model)
+                query = plain(draw, kind, d, n, draw.choice([1, 2, 3]), high=WIDE[d], model=model)
                 yield Case(query, longer(query, draw))
 
 
 def hundreds(draw):
     """As many targets as there may be, and none."""
     for kind, d, n, m, model in [(UNIVERSAL, 3, 96, 100, SPHERICAL), (ORDINARY, 1, 96, 100, LINEAR), (ORDINARY, 2, 95, 100, GAUSSIAN), (UNIVERSAL, 2, 96, 0, LINEAR)]:
-        query = plain(draw, kind, d, n, m, model=model)
+        query = plain(draw, kind, d, n, m, high=WIDE[d], model=model)
         yield Case(query, longer(query, draw))
 
 
@@ -46,13 +48,21 @@ def far_origins(draw):
 
 
 def stopped(draw):
-    """The first of 96 points there twice; points on one line; nothing at the first step; and a field that joins two of them."""
+    """The first of 96 points there twice; points on one line; nothing at the first step."""
     query = plain(draw, ORDINARY, 2, 96, 1, model=SPHERICAL)
     query = query._replace(variogram=query.variogram._replace(nugget=0.0))
-    yield query._replace(coords=query.coords[:-2] + query.coords[:2]), True
-    yield query._replace(coords=query.coords[:-2] + [query.coords[0] + 0.125, query.coords[1]], variogram=query.variogram._replace(same_spot=0.25)), False
-    yield plain(draw, ORDINARY, 1, 60, 1)._replace(variogram=Variogram(SPHERICAL, 0.0, 0.0, 1.0)), True
-    yield plain(draw, UNIVERSAL, 3, 49, 1)._replace(coords=[x for i in range(49) for x in (float(i), 0.0, float(i * i % 7))]), True
+    yield query._replace(coords=query.coords[:-2] + query.coords[:2])
+    yield plain(draw, ORDINARY, 1, 60, 1)._replace(variogram=Variogram(SPHERICAL, 0.0, 0.0, 1.0))
+    yield plain(draw, UNIVERSAL, 3, 49, 1)._replace(coords=[x for i in range(49) for x in (float(i), 0.0, float(i * i % 7))])
+
+
+def in_one_yard(draw):
+    """Two of 96 points so near to each other that the field joins them."""
+    for kind, model in ((ORDINARY, SPHERICAL), (UNIVERSAL, LINEAR)):
+        query = plain(draw, kind, 2, 96, 1, model=model)
+        coords = query.coords[:-2] + [query.coords[0] + 0.125, query.coords[1]]
+        query = query._replace(coords=coords, variogram=query.variogram._replace(same_spot=0.25))
+        yield Case(query, longer(query, draw))
 
 
 def inside():
@@ -69,7 +79,8 @@ def accepted_cases(draw):
     yield from hundreds(draw)
     yield from whole_areas(draw)
     yield from far_origins(draw)
-    yield from (Case(query, longer(query, draw), whole=whole, number=19) for query, whole in stopped(draw))
+    yield from (Case(query, longer(query, draw), whole=True, number=19) for query in stopped(draw))
+    yield from in_one_yard(draw)
 
 
 def many(n, **fields):
