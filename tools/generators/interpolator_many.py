@@ -2,7 +2,7 @@
 too short for so many, refused. The number that a refused one has to give stands here, apart from the reading's."""
 import math
 
-from tools.generators.draw import Draw
+from tools.generators.draw import Draw, flat
 from tools.generators.interpolator_case import LONGEST, SHAPES, Case, enough, longer
 from tools.generators.interpolator_cases import plain
 from tools.reading import edges
@@ -48,12 +48,13 @@ def far_origins(draw):
 
 
 def stopped(draw):
-    """The first of 96 points there twice; points on one line; nothing at the first step."""
+    """The first of 96 points there twice; no sill, where the second step finds nothing; points on the axes, where xy is a column of zeros, which the last step finds."""
     query = plain(draw, ORDINARY, 2, 96, 1, model=SPHERICAL)
     query = query._replace(variogram=query.variogram._replace(nugget=0.0))
     yield query._replace(coords=query.coords[:-2] + query.coords[:2])
     yield plain(draw, ORDINARY, 1, 60, 1)._replace(variogram=Variogram(SPHERICAL, 0.0, 0.0, 1.0))
-    yield plain(draw, UNIVERSAL, 3, 49, 1)._replace(coords=[x for i in range(49) for x in (float(i), 0.0, float(i * i % 7))])
+    on_axes = flat([float(i), 0.0, 1.0] if i % 2 else [0.0, float(i), 1.0] for i in range(49))
+    yield plain(draw, UNIVERSAL, 3, 49, 1)._replace(coords=on_axes)
 
 
 def in_one_yard(draw):

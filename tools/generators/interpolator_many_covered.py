@@ -16,7 +16,8 @@ def covered_many(all_ended):
     assert {(q.kind, q.d) for ended, q in zip(answered, queries) if q.n == 96 and ended.case.lent == enough(q)} == set(SHAPES)
     whole = {(ended.number, ended.case.query.s) for ended in many if ended.case.whole}
     assert {(0, 100), (0, 50), (19, 97)} <= whole, whole
-    assert {stop(ended) for ended in many if ended.number == 19 and ended.case.whole} == {"first", "middle", "last"}
+    # the first step finds the drift's one
+    assert {stop(ended) for ended in many if ended.number == 19 and ended.case.whole} == {"middle", "last"}
     beyond = [ended for ended in many if ended.case.query.n == 97]
     assert {ended.number for ended in beyond} == {13, 1, 2, 9} and any(applying(ended) == {9} for ended in beyond)
     later = [applying(ended) - {9} for ended in beyond if ended.number == 9]
