@@ -113,7 +113,8 @@ def accepted_cases(draw):
 def one_more():
     """97 wells: 9, whatever else is wrong of what counts later; and what counts earlier."""
     largest = edges.survey(n=97, m=100, codes=[1] * 12)
-    yield Case(edges.survey(n=97), enough(edges.survey(n=97)), number=9)
+    lists = edges.survey(n=97)
+    yield from (Case(survey, enough(lists), number=9) for survey in (lists, lists._replace(values=lists.values[:96] + [math.nan])))
     yield Case(largest, LONGEST, number=9)
     yield Case(largest._replace(t=math.nan), LONGEST, number=9)
     wrong = edges.MODEL._replace(model=EXPONENTIAL, sill=math.nan, range=0.0, same_spot=0.0)
