@@ -15,7 +15,8 @@ def covered_reads(reads):
     assert {(1, n, 0) for n in (0, 48, 49, 60, 96, 97, 500)} <= ended
     assert {(2, n, 0) for n in (49, 60, 96)} | {(2, n, 16) for n in (0, 1, 48, 97, 305, 316, 500)} | {(2, n, 18) for n in (49, 96)} <= ended
     assert {(version, n, 16) for version in (0, 3, 255) for n in (1, 49, 96)} <= ended
-    assert {n for version, n, number in ended if version == 2 and number == 0} <= {*range(49, 97)} and not any(number == 0 and version not in (1, 2) for version, _, number in ended)
+    taken = {(version, n) for version, n, number in ended if number == 0}
+    assert {version for version, _ in taken} == {1, 2} and {n for version, n in taken if version == 2} <= {*range(49, 97)}
     # what is not 60, where n is: m, the code count and S
     assert any(trailer(e.case.data) == (2, 48) and e.case.data[-8:-6] == bytes([60, 0]) for e in reads if e.number == 16)
     assert {e.header[3] for e in reads if e.number == 0 and trailer(e.case.data)[0] == 2} == {1, 2, 3, 4}

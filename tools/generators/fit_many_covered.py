@@ -39,9 +39,10 @@ def covered_refusals(refused):
     assert {10, 11, 22, 12, 17, 18} <= set().union(*later) and any({10, 11, 22, 12, 17, 18} <= numbers for numbers in later)
     assert all({number} in later for number in (10, 11, 22, 12, 17, 18)), later
     assert {ended.number for ended in beyond if 9 in applying(ended)} == {1, 2, 3, 4, 5, 6, 7, 8, 9}
-    assert {ended.number for ended in beyond if ended.case.survey.r < 0.0} >= {5} and {ended.number for ended in beyond if math.isnan(ended.case.survey.t)} >= {9}
+    assert 5 in {ended.number for ended in beyond if ended.case.survey.r < 0.0} and 9 in {ended.number for ended in beyond if math.isnan(ended.case.survey.t)}
     at = [(ended.number, ended.case.lent) for ended in refused if ended.case.survey.n == 96 and len(applying(ended)) == 1]
-    assert {(17, 23327), (17, 7200)} <= {(number, lent.work) for number, lent in at} and {(18, 9599), (18, 4800)} <= {(number, lent.weights) for number, lent in at}
+    assert {(17, 23327), (17, 7200)} <= {(number, lent.work) for number, lent in at}
+    assert {(18, 9599), (18, 4800)} <= {(number, lent.weights) for number, lent in at}
     assert not any(ended.number == 9 for ended in refused if 48 < ended.case.survey.n < 97 and ended.case.survey.p < 13 and ended.case.survey.m < 101)
 
 

@@ -28,7 +28,8 @@ def shaped(draw):
 
 def hundreds(draw):
     """As many targets as there may be, and none."""
-    for kind, d, n, m, model in [(UNIVERSAL, 3, 96, 100, SPHERICAL), (ORDINARY, 1, 96, 100, LINEAR), (ORDINARY, 2, 95, 100, GAUSSIAN), (UNIVERSAL, 2, 96, 0, LINEAR)]:
+    sizes = [(UNIVERSAL, 3, 96, 100, SPHERICAL), (ORDINARY, 1, 96, 100, LINEAR), (ORDINARY, 2, 95, 100, GAUSSIAN), (UNIVERSAL, 2, 96, 0, LINEAR)]
+    for kind, d, n, m, model in sizes:
         query = plain(draw, kind, d, n, m, high=WIDE[d], model=model)
         yield Case(query, longer(query, draw))
 
@@ -48,7 +49,8 @@ def far_origins(draw):
 
 
 def stopped(draw):
-    """The first of 96 points there twice; no sill, where the second step finds nothing; points on the axes, where xy is a column of zeros, which the last step finds."""
+    """The first of 96 points there twice; no sill, where the second step finds nothing; points on the axes, where xy is a column of zeros, which the last
+    step finds."""
     query = plain(draw, ORDINARY, 2, 96, 1, model=SPHERICAL)
     query = query._replace(variogram=query.variogram._replace(nugget=0.0))
     yield query._replace(coords=query.coords[:-2] + query.coords[:2])
