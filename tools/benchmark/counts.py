@@ -4,7 +4,7 @@ import subprocess
 
 from tools.benchmark.tables import Measured, Parts, table
 
-SIZES = [(12, 1, 25), (24, 1, 100), (24, 6, 100), (48, 1, 100), (48, 6, 100)]
+SIZES = [(12, 1, 25), (24, 1, 100), (24, 6, 100), (48, 1, 100), (48, 6, 100), (96, 1, 100)]
 ZEROS = ("stopped", "near", "one-place")
 KINDS = ("whole", "first-row", "exact", "refused", *ZEROS)
 RUNS = {"original": "bench::kriging::original::Fit::run", "port": "bench::port::Fit::run"}
@@ -44,7 +44,7 @@ def figures(program, out):
 def by_function(program, out):
     """What the functions that stay functions take, with all that they call: thousands of instructions."""
     rows = []
-    for sizes in [(12, 1, 25), (48, 1, 100), (48, 6, 100)]:
+    for sizes in [(12, 1, 25), (48, 1, 100), (48, 6, 100), (96, 1, 100)]:
         for side, names in NAMED.items():
             profile, _ = profiled(program, out, side, ["fit", *map(str, sizes), "whole"])
             text = subprocess.run(["callgrind_annotate", "--inclusive=yes", "--threshold=100", profile], text=True, capture_output=True, check=True).stdout
@@ -76,6 +76,6 @@ def small(figures):
             ["one row of an audit of 48 wells that sums with rounding show, p = 6", "", f"{of[48, 6].shown_row():.0f}"],
             ["one such row by exact sums", "", f"{of[48, 6].row():.0f}"],
             ["what is no product in it", "", f"{of[48, 6].row() - 48 * product:.0f}"]]
-    for n in (12, 24, 48):
+    for n in (12, 24, 48, 96):
         rows.append([f"one elimination of {n + 1} rows, thousands", *(thousands(of[n, 1].elimination(side)) for side in RUNS)])
     return table(["instructions", "original", "port"], rows)

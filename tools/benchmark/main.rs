@@ -29,13 +29,13 @@ use kriging::original;
 use std::hint::black_box;
 use timing::{in_turns, Case};
 
-const SIZES: [usize; 3] = [12, 24, 48];
+const SIZES: [usize; 4] = [12, 24, 48, 96];
 const COLUMNS: [usize; 3] = [1, 3, 6];
 const NODES: [usize; 3] = [1, 25, 100];
-const GROWTH_N: [usize; 7] = [12, 18, 24, 30, 36, 42, 48];
+const GROWTH_N: [usize; 10] = [12, 18, 24, 30, 36, 42, 48, 60, 72, 96];
 const GROWTH_M: [usize; 6] = [1, 10, 25, 50, 75, 100];
-const PARTS: [(usize, usize, usize); 5] = [(12, 1, 25), (24, 1, 100), (24, 6, 100), (48, 1, 100), (48, 6, 100)];
-const MODELS: [(usize, usize, usize); 6] = [(12, 1, 25), (12, 1, 100), (24, 1, 100), (48, 1, 1), (48, 1, 100), (48, 6, 100)];
+const PARTS: [(usize, usize, usize); 6] = [(12, 1, 25), (24, 1, 100), (24, 6, 100), (48, 1, 100), (48, 6, 100), (96, 1, 100)];
+const MODELS: [(usize, usize, usize); 7] = [(12, 1, 25), (12, 1, 100), (24, 1, 100), (48, 1, 1), (48, 1, 100), (48, 6, 100), (96, 1, 100)];
 const POWERS: usize = 100;
 const BINS: usize = 10;
 const PLACES: [usize; 8] = [66, 60, 50, 40, 30, 20, 10, 0];

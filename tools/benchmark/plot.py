@@ -2,7 +2,7 @@
 WIDTH, HEIGHT, LEFT, TOP, GAP = 320, 240, 60, 56, 70
 SIDES = {"original": "#888888", "port": "#0060b0"}
 DASHES = {"1": "", "6": ' stroke-dasharray="5 3"'}
-PANELS = [("growth-n", "n wells (m = 100)", 1, 50, (12, 24, 36, 48)), ("growth-m", "m nodes (n = 48)", 3, 104, (1, 25, 50, 75, 100))]
+PANELS = [("growth-n", "n wells (m = 100)", 1, 100, (12, 24, 48, 72, 96)), ("growth-m", "m nodes (n = 48)", 3, 104, (1, 25, 50, 75, 100))]
 
 
 def text(x, y, words, anchor="middle"):

@@ -1,9 +1,9 @@
 """The measurements as tables."""
 from typing import NamedTuple
 
-SIZES, COLUMNS, NODES = (12, 24, 48), (1, 3, 6), (1, 25, 100)
+SIZES, COLUMNS, NODES = (12, 24, 48, 96), (1, 3, 6), (1, 25, 100)
 TYPES = {1: "Ordinary", 2: "Universal"}
-PARTS = [(12, 1, 25), (48, 1, 100), (48, 6, 100)]
+PARTS = [(12, 1, 25), (48, 1, 100), (48, 6, 100), (96, 1, 100)]
 MODELS = {"2": "Exponential", "3": "Gaussian"}
 
 
@@ -165,7 +165,7 @@ def parts(figures, shown=time):
 
 def small(figures):
     """One root, one exact product, one row of an audit and one elimination."""
-    of = {(n, p): Parts(figures, n, p, m) for n, p, m in [(12, 1, 25), (24, 1, 100), (48, 1, 100), (24, 6, 100), (48, 6, 100)]}
+    of = {(n, p): Parts(figures, n, p, m) for n, p, m in [(12, 1, 25), (24, 1, 100), (48, 1, 100), (24, 6, 100), (48, 6, 100), (96, 1, 100)]}
     at = of[48, 1]
     product = 1000 * (of[48, 6].row() - of[24, 6].row()) / 24
     rows = [["one root", nanoseconds(at.root("original")), nanoseconds(at.root("port"))],

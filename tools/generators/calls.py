@@ -91,8 +91,8 @@ def more_points(draw, coords, axes):
     return coords + [0.0] * axes if draw.randrange(25) == 0 else coords
 
 
-def interpolate_call(draw):
-    n, axes, style = draw.count(48, 10), draw.choice([1, 2, 2, 3]), draw.style()
+def interpolate_call(draw, most=48):
+    n, axes, style = draw.count(most, 10), draw.choice([1, 2, 2, 3]), draw.style()
     points = draw.places(n, axes, style)
     targets = draw.targets(points, draw.count(100, 4) if n < 25 else 1, axes, style)
     values = draw.measures(n)
@@ -101,8 +101,8 @@ def interpolate_call(draw):
     return Interpolate(kind, axes, values, coords, flat(targets), draw.variogram(style))
 
 
-def calculate_call(draw):
-    n, axes, style = draw.count(48, 12), draw.choice([1, 2, 3]), draw.style()
+def calculate_call(draw, most=48):
+    n, axes, style = draw.count(most, 12), draw.choice([1, 2, 3]), draw.style()
     values = draw.measures(n)
     coords = more_points(draw, flat(draw.places(n, axes, style)), axes)
     return Calculate(axes, values, coords, draw.choice([1, 2, 3, 5, 10, 63, 64, draw.randrange(1, 65)]))

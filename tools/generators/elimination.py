@@ -1,4 +1,4 @@
-"""crates/vectors_elimination: inverses of the original, as records.py has them, and then whole work areas before and after.
+"""crates/vectors_elimination: inverses of the original, as records.py has them, and then whole work areas before and after; and last the largest inverses.
 
 The original hands out the inverse alone. What stands in the left half, and what a stop leaves, is tools/reading's; where the original has an
 inverse, the right half is held to it, and where it has none, the reading has to stop.
@@ -100,5 +100,26 @@ def area_records():
     return [area_record(rows, call, answer) for (rows, call), (_, answer) in zip(told, answers)]
 
 
+def largest(draw):
+    """As many rows as a fit has at most, by the fit's elimination, and as an interpolation has, by its own: with an inverse, and with a column of zeros, at
+    which a step on the way stops, or the last one; and one row more than a fit of 48 wells has at most, by both."""
+    for size, call, stop in ((108, CALLS[0], 71), (100, CALLS[1], 99)):
+        rows = plain_matrix(draw, size)
+        yield call, rows
+        yield call, [row[:stop] + [0.0] + row[stop + 1:] for row in rows]
+    yield from ((call, plain_matrix(draw, 61)) for call in CALLS)
+
+
+def plain_matrix(draw, size):
+    return [[round(draw.uniform(-9, 9), 3) for _ in range(size)] for _ in range(size)]
+
+
+def largest_records():
+    calls = [[call, len(rows), *numbers(flat(rows))] for call, rows in largest(Draw("nakwemol inverse, ninety-six wells"))]
+    records = list(answered(calls))
+    assert [(call[1], answer == "none") for call, answer in records] == [(108, False), (108, True), (100, False), (100, True), (61, False), (61, False)]
+    return [record(call, answer) for call, answer in records]
+
+
 def files():
-    return made_files(inverse_records() + area_records())
+    return made_files(inverse_records() + area_records() + largest_records())

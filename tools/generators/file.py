@@ -1,5 +1,5 @@
-"""crates/vectors_file: files that are read and surveys that are written, as file_cases.py, file_refusals.py and file_spots.py have them, with all that is
-left in the areas.
+"""crates/vectors_file: files that are read and surveys that are written, as file_cases.py, file_refusals.py, file_spots.py and file_versions.py have them,
+with all that is left in the areas.
 
 The bytes of every file are put together by file_case.py from the paper's sentence, the answers are tools/reading's; where what the one writes is not what
 the other has, or a call ends by another number than is written down for it, nothing is written. The original has no survey file.
@@ -22,6 +22,8 @@ from tools.generators.file_cases import read_cases, write_cases
 from tools.generators.file_covered import covered
 from tools.generators.file_refusals import refused_reads, refused_writes
 from tools.generators.file_spots import spot_writes
+from tools.generators.file_versions import version_reads, version_writes
+from tools.generators.file_versions_covered import covered_versions
 from tools.generators.replay import made_files, marked, untouched, written_lines
 from tools.patterns import bits
 from tools.reading import survey_file
@@ -168,7 +170,9 @@ def counted(all_ended):
 def files():
     reads = [*map(read, read_cases()), *map(read, refused_reads())]
     all_ended = [*reads, *map(write, write_cases()), *map(write, refused_writes()), *map(write, spot_writes())]
+    all_ended += [*map(read, version_reads()), *map(write, version_writes())]
     for ended in all_ended:
         assert fits_program(ended.case) and ended.number == ended.case.number, (ended.case.number, ended.number)
     covered(all_ended)
+    covered_versions(all_ended)
     return made_files(map(record, all_ended), written_lines([ended.number for ended in all_ended], counted(all_ended)), MOST_STORED)

@@ -98,8 +98,9 @@ def survey_of(n, m, codes, model=1):
 
 
 def written_file(survey):
-    """The file of a survey whose lengths fit: its patterns one by one, by struct."""
+    """The file of a survey whose lengths fit: its patterns one by one, by struct. "A survey above 48 wells is written with version 2"."""
     taken = survey.node_external if EXTERNAL in survey.codes else []
     numbers = [*survey.variogram.numbers(), survey.r, survey.t, *survey.values, *survey.coords, *survey.external, *survey.nodes, *taken]
     patterns = [NAN if x != x else struct.unpack("<Q", struct.pack("<d", x))[0] for x in numbers]
-    return File(b"", patterns, survey.codes, len(survey.values), len(survey.nodes) // 2, 0, len(survey.codes), survey.variogram.model)
+    n, m, version = len(survey.values), len(survey.nodes) // 2, 1 + (len(survey.values) >= 49)
+    return File(b"", patterns, survey.codes, n, m, 0, len(survey.codes), survey.variogram.model, version)

@@ -1,4 +1,5 @@
-"""Files that are read and surveys that are written: every count and every length at its edge, any pattern of a number, the longest file in five shapes."""
+"""Files of version 1 that are read and surveys that are written: every count and every length at its edge, any pattern of a number, the longest file in five
+shapes. One of these and one of the longest have more wells than a writer takes."""
 import math
 
 from tools.generators.file_case import CODE_PERIOD, Read, Write, cycled, file_of, room, survey_of, with_pattern, written_file
@@ -65,7 +66,8 @@ def read_cases():
 
 
 def writes(survey, past=0):
-    return Write(survey, len(written_file(survey).data()) + past, 0)
+    """A survey that is written, with bytes enough and some more; 97 wells and more no file is written of."""
+    return Write(survey, len(written_file(survey).data()) + past, 16 if len(survey.values) >= 97 else 0)
 
 
 def odd_numbers(survey):

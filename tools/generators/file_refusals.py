@@ -151,7 +151,8 @@ def refused_writes():
     yield from (Write(SURVEY, lent, 18) for lent in (0, 1, 14, length - 14, length - 8, length - 1))
     for n, m, codes, note in LONGEST:
         survey = survey_of(n, m, codes + [1] * note)
-        yield Write(survey, 65535, 18)
+        # more than 96 wells, of which no file is written
+        yield Write(survey, 65535, 16 if n > 96 else 18)
         # a byte too long, with room for it, with room for less, and with none: 16 counts before 18
         yield from (Write(survey._replace(codes=survey.codes + [1]), lent, 16) for lent in (65537, 65536, 0))
     # "a count over 65,535"

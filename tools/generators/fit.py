@@ -1,5 +1,5 @@
-"""crates/vectors_fit: fits, as fit_cases.py, fit_models.py, fit_trends.py, fit_refusals.py, fit_spots.py and fit_spot_refusals.py draw them, with all
-that they leave.
+"""crates/vectors_fit: fits, as fit_cases.py, fit_models.py, fit_trends.py, fit_refusals.py, fit_spots.py, fit_spot_refusals.py and fit_many.py draw them,
+with all that they leave.
 
 Figures, variances and multipliers are the original's; with a same-spot distance that it does not have, those of its second build. Weights, trends, verdicts, work areas and the numbers of refusals are tools/reading's, which has
 to agree with the original wherever that answers: else nothing is written. The original has no trend; it has the inverse, and a trend is held to that.
@@ -22,6 +22,8 @@ from tools.generators.calls import Fit
 from tools.generators.fit_case import LONGEST, NOTHING
 from tools.generators.fit_cases import accepted_cases
 from tools.generators.fit_covered import covered
+from tools.generators.fit_many import many_cases
+from tools.generators.fit_many_covered import covered_many
 from tools.generators.fit_models import model_cases
 from tools.generators.fit_refusals import refused_cases
 from tools.generators.fit_spot_refusals import spot_refusals
@@ -39,8 +41,8 @@ from tools.reading.lent import fit_lengths
 from tools.reading.original import asked_inverse, trend_by_inverse
 
 MARK_BYTE = 99
-MOST_BYTES = 2_700_000
-MOST_NUMBERS, MOST_CODES = 3072, 64
+MOST_BYTES = 5_100_000
+MOST_NUMBERS, MOST_CODES = 3072, 128
 PARTS = {
     "figures": "figures",
     "variances": "variances",
@@ -151,7 +153,7 @@ def counted(all_ended):
 
 
 def files():
-    cases = [*accepted_cases(), *refused_cases(), *model_cases(), *trend_cases(), *spot_cases(), *spot_refusals()]
+    cases = [*accepted_cases(), *refused_cases(), *model_cases(), *trend_cases(), *spot_cases(), *spot_refusals(), *many_cases()]
     assert all(map(fits_program, cases))
     calls = [Fit(*case.survey[:6], tuple(case.survey.variogram), case.survey.r).words() for case in cases]
     answers = [answer for _, answer in answered(calls)]
@@ -164,5 +166,6 @@ def files():
     covered(all_ended)
     covered_trends(all_ended)
     covered_spots(all_ended)
+    covered_many(all_ended)
     records = [packed([*asked_words(e.case), *told_words(e, a)]) for e, a in zip(all_ended, answers)]
     return made_files(records, written_lines([ended.number for ended in all_ended], counted(all_ended)), MOST_BYTES)

@@ -22,7 +22,7 @@ class Case(NamedTuple):
 
 
 # the program's own arrays are as long as this
-LONGEST = Areas(figures=108, variances=108, verdicts=108, weights=4808, multipliers=16, trend=16, work=7208)
+LONGEST = Areas(figures=108, variances=108, verdicts=108, weights=9608, multipliers=16, trend=16, work=23336)
 NOTHING = Areas(*[0] * len(LONGEST))
 
 

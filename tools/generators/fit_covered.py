@@ -54,7 +54,7 @@ def covered(all_ended):
     assert {ended.number for ended in all_ended} == NUMBERS
     assert {v for ended in answered for v in ended.areas.verdicts[:ended.case.survey.m]} == {*range(14), 255}
     assert {(s.variogram.model, s.k) for s in surveys} >= {(model, k) for model in (1, 2, 3, 4) for k in range(4)}
-    assert {*range(1, 49)} == {s.n for s in surveys} and {0, 100} <= {s.m for s in surveys} and {*range(1, 13)} <= {s.p for s in surveys}
+    assert {*range(1, 49)} <= {s.n for s in surveys} and {0, 100} <= {s.m for s in surveys} and {*range(1, 13)} <= {s.p for s in surveys}
     for model in (EXPONENTIAL, GAUSSIAN):
         covered_powers(surveys, model)
     by = set().union(*map(causes, answered))

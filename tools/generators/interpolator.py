@@ -1,5 +1,5 @@
-"""crates/vectors_interpolator: interpolations, as interpolator_cases.py, interpolator_models.py, interpolator_refusals.py and interpolator_spots.py have
-them, with all that they leave.
+"""crates/vectors_interpolator: interpolations, as interpolator_cases.py, interpolator_models.py, interpolator_refusals.py, interpolator_spots.py and
+interpolator_many.py have them, with all that they leave.
 
 Figures and variances are the original's; with a same-spot distance that it does not have, those of its second build. Work areas and the numbers of refusals are tools/reading's, which has to agree with the original wherever
 that answers: else nothing is written.
@@ -16,6 +16,8 @@ from tools.generators.calls import Interpolate
 from tools.generators.interpolator_case import LONGEST, MOST_NUMBERS
 from tools.generators.interpolator_cases import accepted_cases
 from tools.generators.interpolator_covered import covered
+from tools.generators.interpolator_many import many_cases
+from tools.generators.interpolator_many_covered import covered_many
 from tools.generators.interpolator_models import model_cases
 from tools.generators.interpolator_refusals import refused_cases
 from tools.generators.interpolator_spots import spot_cases
@@ -26,7 +28,7 @@ from tools.patterns import bits
 from tools.reading import interpolator
 from tools.reading.lent import query_lengths
 
-MOST_BYTES = 1_250_000
+MOST_BYTES = 2_200_000
 PARTS = {"figures": "figures", "variances": "variances", "work areas": "work", "places not to be written": "untouched"}
 
 
@@ -97,7 +99,7 @@ def counted(all_ended):
 
 
 def files():
-    cases = [*accepted_cases(), *refused_cases(), *model_cases(), *spot_cases()]
+    cases = [*accepted_cases(), *refused_cases(), *model_cases(), *spot_cases(), *many_cases()]
     assert all(map(fits_program, cases))
     calls = [Interpolate(*case.query[:5], tuple(case.query.variogram)).words() for case in cases]
     answers = [answer for _, answer in answered(calls)]
@@ -107,5 +109,6 @@ def files():
         assert ended.case.number in (None, ended.number), (ended.case, ended.number)
     covered(all_ended)
     covered_spots(all_ended)
+    covered_many(all_ended)
     records = [packed([*asked_words(e.case), *told_words(e, a)]) for e, a in zip(all_ended, answers)]
     return made_files(records, written_lines([ended.number for ended in all_ended], counted(all_ended)), MOST_BYTES)

@@ -15,7 +15,7 @@ class Case(NamedTuple):
 # the types with their dimensions
 SHAPES = [(ORDINARY, 1), (ORDINARY, 2), (ORDINARY, 3), (UNIVERSAL, 2), (UNIVERSAL, 3)]
 # the program's own arrays are as long as this
-LONGEST = Areas(figures=108, variances=108, work=5416)
+LONGEST = Areas(figures=108, variances=108, work=20008)
 MOST_NUMBERS = 2048
 
 

@@ -51,7 +51,7 @@ def covered(all_ended):
     queries = [ended.case.query for ended in answered]
     assert {ended.number for ended in all_ended} == NUMBERS
     assert {(q.kind, q.d, q.variogram.model) for q in queries} == {(kind, d, model) for kind, d in SHAPES for model in MODELS}
-    assert {q.n for q in queries} == {*range(1, 49)} and {0, 1, 100} <= {q.m for q in queries} and (48, 100) in {(q.n, q.m) for q in queries}
+    assert {q.n for q in queries} >= {*range(1, 49)} and {0, 1, 100} <= {q.m for q in queries} and (48, 100) in {(q.n, q.m) for q in queries}
     assert {(ended.case.query.kind, ended.case.query.d) for ended in stopped if ended.case.query.n == 0 and ended.case.whole} == set(SHAPES)
     assert {stop(ended) for ended in stopped if ended.case.whole} == {"first", "middle", "last"}
     assert {(q.kind, q.d) for q in queries if any(q.target(j) == q.point(i) for j in range(q.m) for i in range(q.n))} == set(SHAPES)

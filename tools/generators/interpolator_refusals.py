@@ -9,7 +9,7 @@ from tools.reading.interpolator import UNIVERSAL, Areas, tests
 BASE = edges.QUERY
 FAR = 2**64 - 1
 # lists at their limits, of which what stood in them stays
-MANY_WELLS = edges.edit(values=lambda call: (call.values + edges.spread(49))[:49], coords=lambda call: (call.coords + edges.spread(98))[:98])
+MANY_WELLS = edges.edit(values=lambda call: (call.values + edges.spread(97))[:97], coords=lambda call: (call.coords + edges.spread(194))[:194])
 MANY_TARGETS = edges.edit(targets=lambda call: (call.targets + edges.spread(202))[:202])
 EDITS = {
     **edges.QUERY_EDITS,

@@ -1,4 +1,5 @@
-"""crates/vectors_semivariogram: semivariograms, as semivariogram_cases.py and semivariogram_refusals.py have them, with all that they leave.
+"""crates/vectors_semivariogram: semivariograms, as semivariogram_cases.py, semivariogram_refusals.py and
+semivariogram_many.py have them, with all that they leave.
 
 Distances and semivariances are the original's. Counts and the numbers of refusals are tools/reading's, which has to agree with the original wherever
 that answers: else nothing is written.
@@ -14,6 +15,8 @@ from tools.generators.replay import MARK, hold_refusal, made_files, marked, unto
 from tools.generators.semivariogram_case import LONGEST, MOST_NUMBERS
 from tools.generators.semivariogram_cases import accepted_cases
 from tools.generators.semivariogram_covered import covered
+from tools.generators.semivariogram_many import many_cases
+from tools.generators.semivariogram_many_covered import covered_many
 from tools.generators.semivariogram_refusals import refused_cases
 from tools.patterns import bits
 from tools.reading import semivariogram
@@ -89,7 +92,7 @@ def asked(case):
 
 
 def files():
-    cases = [*accepted_cases(), *refused_cases()]
+    cases = [*accepted_cases(), *refused_cases(), *many_cases()]
     assert all(map(fits_program, cases))
     answers = [answer for _, answer in answered(list(map(asked, cases)))]
     all_ended = list(map(read, cases))
@@ -97,5 +100,6 @@ def files():
         held(ended, answer)
         assert ended.case.number in (None, ended.number), (ended.case, ended.number)
     covered(all_ended)
+    covered_many(all_ended)
     records = [packed([*asked_words(e.case), *told_words(e, a)]) for e, a in zip(all_ended, answers)]
     return made_files(records, written_lines([ended.number for ended in all_ended], counted(all_ended)), MOST_BYTES)

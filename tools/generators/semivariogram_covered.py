@@ -33,7 +33,7 @@ def covered(all_ended):
     answered = [ended for ended in all_ended if ended.number == 0]
     samples = [ended.case.samples for ended in answered]
     assert {ended.number for ended in all_ended} == NUMBERS
-    assert {s.bins for s in samples} == {*range(1, 65)} and {s.n for s in samples} == {*range(2, 49)}
+    assert {s.bins for s in samples} == {*range(1, 65)} and {s.n for s in samples} == {*range(2, 97)}
     assert {(s.d, s.bins) for s in samples} >= {(d, bins) for d in (1, 2, 3) for bins in (1, 5, 64)} and {(s.n, s.bins) for s in samples} >= {(48, 1), (48, 64)}
     places = {place for s in samples for place in placed(s)}
     # the greatest distance over the width is the number of bins, or beside it by rounding
@@ -43,5 +43,6 @@ def covered(all_ended):
     averages = [x for ended in answered for x in ended.areas.semivariances[:ended.kept]]
     assert math.inf in averages and 0.0 in averages and any(0.0 < x < 2.0**-1022 for x in averages)
     assert {ended.kept for ended in answered} >= {1, 2, 10, 64} and any(ended.kept < ended.case.samples.bins for ended in answered)
-    assert any(1128 in ended.areas.counts[:ended.kept] for ended in answered)
+    # every pair in one bin: 48 samples and 96
+    assert all(any(most in ended.areas.counts[:ended.kept] for ended in answered) for most in (1128, 4560))
     assert {length - ended.case.samples.bins for ended in answered for length in ended.case.lent} == {0, 1, 2, 3}

@@ -12,10 +12,10 @@ EDITS = {
     # what stood first in the lists stays
     14: [edges.edit(values=lambda call: call.values[:1], coords=lambda call: call.coords[:2]), edges.edit(values=[], coords=[])],
     15: [edges.edit(bins=65), edges.edit(bins=0), edges.edit(bins=FAR)],
-    9: [edges.edit(values=lambda call: (call.values + edges.spread(49))[:49], coords=lambda call: (call.coords + edges.spread(98))[:98])],
+    9: [edges.edit(values=lambda call: (call.values + edges.spread(97))[:97], coords=lambda call: (call.coords + edges.spread(194))[:194])],
 }
 WAYS = {**changes(EDITS), 18: too_short([0, 1, 2])}
-# what is not finite stands first of the values; fewer than 2 samples are not more than 48
+# what is not finite stands first of the values; fewer than 2 samples are not more than 96
 SAMPLES = Refusals(edges.SAMPLES_ORDER, WAYS, {11: changes({11: edges.spoilt("values", 0)})[11][0]}, {(14, 9)})
 
 

@@ -5,7 +5,7 @@ from tools.reading import case_text
 from tools.reading.case_fits import EXTERNALS, NO_NODES
 from tools.reading.outcomes import shown
 from tools.reading.survey import CONSTANT, EXTERNAL, LINEAR as LINEAR_DRIFT, Survey
-from tools.reading.survey_file import Lists, read, write
+from tools.reading.survey_file import Lists, body, read, trailer, write
 from tools.reading.variogram import EXPONENTIAL, GAUSSIAN, LINEAR, SPHERICAL, Variogram
 from tools.reading.wellmap import printed
 
@@ -153,6 +153,34 @@ def print_models():
         print(f"  byte {byte}: refused by 16")
 
 
+def of_wells(n):
+    """A survey of n wells and no node."""
+    return SURVEY._replace(values=[3.0] * n, coords=[5.0, 7.0] * n, codes=[CONSTANT], external=[], nodes=[], node_external=[])
+
+
+def with_version(survey, version):
+    return body(survey) + trailer(survey, version=version)
+
+
+def read_number(data):
+    return read(data, Lists(*([0.0] * 1500 for _ in range(6))))[0]
+
+
+def print_versions():
+    case_text.title("survey file: the version's byte, the third from the end, by the wells")
+    for n, version in ((0, 1), (48, 1), (49, 2), (96, 2)):
+        area = bytearray(2400)
+        number, length = write(of_wells(n), area)
+        assert number == 0 and area[length - 3] == version and bytes(area[:length]) == with_version(of_wells(n), version)
+        print(f"  {n} wells are written with version {version}")
+    assert [write(of_wells(97), bytearray(lent))[0] for lent in (2400, 0)] == [16, 16]
+    told = {1: {n: 0 for n in (0, 48, 49, 60, 97, 500)}, 2: {0: 16, 48: 16, 49: 0, 60: 0, 96: 0, 97: 16, 305: 16}, 0: {60: 16}, 3: {60: 16}}
+    for version, numbers in told.items():
+        assert {n: read_number(with_version(of_wells(n), version)) for n in numbers} == numbers, version
+        print(f"  version {version} is read with wells and number", *(f"{n}: {number}," for n, number in numbers.items()))
+    print("  97 wells are not written: 16, with room and without")
+
+
 def print_reports():
     case_text.title("what wellmap prints for the files of fits 1 and 2")
     for survey in (EXTERNALS, NO_NODES):
@@ -167,4 +195,5 @@ def print_all():
     print_three_codes()
     print_orders()
     print_models()
+    print_versions()
     print_reports()

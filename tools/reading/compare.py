@@ -92,7 +92,7 @@ def read_calculate(draw, call):
 
 def draw_fit(draw):
     """Mostly some wells and nodes; one in ten with something wrong, one in fifty large."""
-    n = draw.randrange(1, 49) if draw.randrange(50) == 0 else draw.randrange(1, 11)
+    n = draw.randrange(1, 97) if draw.randrange(50) == 0 else draw.randrange(1, 11)
     m = draw.randrange(0, 101) if draw.randrange(50) == 0 else draw.randrange(0, 5)
     codes = draw.bases(n)
     if draw.randrange(10):
@@ -102,13 +102,13 @@ def draw_fit(draw):
 
 def draw_interpolate(draw):
     while True:
-        call = interpolate_call(draw)
+        call = interpolate_call(draw, 96)
         if len(call.values) < 12 or draw.randrange(8) == 0:
             return call
 
 
 def draw_calculate(draw):
-    call = calculate_call(draw)
+    call = calculate_call(draw, 96)
     return call._replace(bins=draw.choice([0, 65, 1000])) if draw.randrange(100) == 0 else call
 
 

@@ -91,7 +91,7 @@ FIT_EDITS = {
     6: [longer("external"), shorter("external")],
     7: [more_columns],
     8: [longer("node_external"), shorter("node_external")],
-    9: [grown(n=49), grown(m=101), grown(n=20, codes=[3, 3, 4])],
+    9: [grown(n=97), grown(m=101), grown(n=20, codes=[3, 3, 4])],
     10: [edit(t=t) for t in [-TINY, -1.0, *ODD]],
     11: SURVEY_LISTS + spoilt_variogram(),
     22: spots(WRONG_SPOTS),
@@ -101,7 +101,7 @@ QUERY_EDITS = {
     13: [edit(d=0), edit(d=4), edit(d=1, kind=UNIVERSAL)],
     1: [longer("coords"), longer("coords", 2), shorter("coords")],
     2: [longer("targets"), shorter("targets")],
-    9: [edit(values=spread(49), coords=spread(98)), edit(targets=spread(202))],
+    9: [edit(values=spread(97), coords=spread(194)), edit(targets=spread(202))],
     11: LISTS + spoilt("targets") + spoilt_variogram(),
     22: spots(WRONG_SPOTS),
     12: without_range(),
@@ -111,12 +111,12 @@ SAMPLES_EDITS = {
     1: [longer("coords"), longer("coords", 2), shorter("coords")],
     14: [edit(values=[1.0], coords=[1.0, 2.0]), edit(values=[], coords=[])],
     15: [edit(bins=0), edit(bins=65)],
-    9: [edit(values=spread(49), coords=spread(98))],
+    9: [edit(values=spread(97), coords=spread(194))],
     11: LISTS,
 }
 WRITER_EDITS = {
     **{number: FIT_EDITS[number] for number in (1, 2, 6, 8)},
     11: FIT_EDITS[11] + [edit(r=bad) for bad in ODD] + [edit(t=bad) for bad in ODD],
     22: spots(OTHER_SPOTS),
-    16: [grown(n=2500), grown(m=3000), edit(codes=[1] * 65536 + [4])],
+    16: [grown(n=97), grown(m=3000), edit(codes=[1] * 65536 + [4]), grown(n=2500)],
 }

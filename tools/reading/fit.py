@@ -1,4 +1,4 @@
-"""Paper 01, "One fit, followed through", and paper 02, "Trend slopes on the report" and "Two wells in one yard"."""
+"""Paper 01, "One fit, followed through", and paper 02, "Trend slopes on the report", "Two wells in one yard" and "Ninety-six wells"."""
 from typing import NamedTuple
 
 from tools.reading import refusals
@@ -21,8 +21,8 @@ class Areas(NamedTuple):
     work: list
 
 
-def tests(survey, areas):
-    """"The lowest applying number wins in a fit"; 22 "straight after 11"."""
+def tests(survey, areas, most_wells=refusals.MOST_WELLS):
+    """"The lowest applying number wins in a fit"; 22 "straight after 11". 9 is by the wells that the library takes, or the program."""
     n, m, p, k, s = survey.n, survey.m, survey.p, survey.k, survey.s
     yield 1, len(survey.coords) != 2 * n
     yield 2, len(survey.nodes) % 2 != 0
@@ -32,7 +32,7 @@ def tests(survey, areas):
     yield 6, len(survey.external) != k * n
     yield 7, n < p
     yield 8, k > 0 and len(survey.node_external) != k * m
-    yield 9, n > refusals.MOST_WELLS or p > refusals.MOST_COLUMNS or m > refusals.MOST_NODES
+    yield 9, n > most_wells or p > refusals.MOST_COLUMNS or m > refusals.MOST_NODES
     yield 10, refusals.negative_or_not_finite(survey.t)
     yield 11, refusals.some_not_finite(survey.judged())
     yield 22, survey.variogram.wrong_spot()
@@ -124,9 +124,9 @@ def answer_node(survey, q, columns, matrix_inverse, areas):
     put(areas.multipliers, 0, multipliers_of(z, survey.p))
 
 
-def fit(survey, areas):
+def fit(survey, areas, most_wells=refusals.MOST_WELLS):
     """A fit's number: 0 and the answers in the areas, or a refusal."""
-    number = refusals.first(tests(survey, areas))
+    number = refusals.first(tests(survey, areas, most_wells))
     if number:
         return number
     rows = beside_identity(assembled(survey))

@@ -1,7 +1,9 @@
-"""Paper 01, "What turns a call away": the conditions that more than one call has, and their order."""
+"""Paper 01, "What turns a call away", and paper 02, "Ninety-six wells": the conditions that more than one call has, and their order."""
 from tools.reading.floats import all_finite, is_finite
 
-MOST_WELLS, MOST_COLUMNS, MOST_NODES = 48, 12, 100
+# slip 7: "Number 9 reads n > 96 in place of n > 48 in the library calls"; "`wellmap` gives 9 above 48"
+MOST_WELLS, MOST_COLUMNS, MOST_NODES = 96, 12, 100
+MOST_WELLS_OF_PROGRAM = 48
 KINDS = {
     1: ("DimensionMismatch",),
     2: ("DimensionMismatch",),

@@ -1,4 +1,4 @@
-"""Paper 01, "Survey file", and what paper 02, "Two wells in one yard", says of it."""
+"""Paper 01, "Survey file", and what paper 02, "Two wells in one yard" and "Ninety-six wells", says of it."""
 import struct
 from typing import NamedTuple
 
@@ -9,7 +9,9 @@ from tools.reading.variogram import SAME_SPOT, Variogram
 
 TRAILER = "<IHHHBBH"
 TRAILER_LENGTH = 14
-MOST_BYTES, MOST_COUNT, VERSION = 65536, 65535, 1
+MOST_BYTES, MOST_COUNT = 65536, 65535
+# slip 7: "a version 2 file must have n from 49 to 96"
+SECOND_VERSION = range(49, 97)
 
 
 class Lists(NamedTuple):
@@ -45,9 +47,15 @@ def body(survey):
     return packed(head + lists) + bytes(survey.codes)
 
 
-def trailer(survey, start=0):
+def version_for(n):
+    """"A survey above 48 wells is written with version 2 in the same trailer, and others stay version 1"."""
+    return 2 if n > 48 else 1
+
+
+def trailer(survey, start=0, version=None):
     """"S (4 bytes), n, m, code count (2 each), model 1 to 4 in the enum's order and version 1 (a byte each), two zero bytes, little-endian"."""
-    return struct.pack(TRAILER, start, survey.n, survey.m, len(survey.codes), survey.variogram.model, VERSION, 0)
+    told = version_for(survey.n) if version is None else version
+    return struct.pack(TRAILER, start, survey.n, survey.m, len(survey.codes), survey.variogram.model, told, 0)
 
 
 def file_length(survey):
@@ -57,7 +65,7 @@ def file_length(survey):
 
 def writer_tests(survey, area):
     """"refuses by 1, 2, 6, 8, 11 (r and t included), 16 (over 65,536 bytes or a count over 65,535), 18, in that order"; "Survey files don't carry it and
-    take 2^-52; a writer handed any other refuses by 22", "straight after 11"."""
+    take 2^-52; a writer handed any other refuses by 22", "straight after 11"; "The writer refuses n > 96 by 16"."""
     n, m, k = survey.n, survey.m, survey.k
     yield 1, len(survey.coords) != 2 * n
     yield 2, len(survey.nodes) % 2 != 0
@@ -65,7 +73,7 @@ def writer_tests(survey, area):
     yield 8, k > 0 and len(survey.node_external) != k * m
     yield 11, refusals.some_not_finite([*survey.judged(), survey.r, survey.t])
     yield 22, survey.variogram.same_spot != SAME_SPOT
-    yield 16, file_length(survey) > MOST_BYTES or max(n, m, len(survey.codes)) > MOST_COUNT
+    yield 16, file_length(survey) > MOST_BYTES or max(n, m, len(survey.codes)) > MOST_COUNT or n > 96
     yield 18, len(area) < file_length(survey)
 
 
@@ -84,6 +92,11 @@ def lengths(n, m, k):
     return [n, 2 * n, k * n, 2 * m, k * m]
 
 
+def wrong_version(version, n):
+    """"The new reader takes both, version 1 at any n as before; a version 2 file must have n from 49 to 96, else 16"."""
+    return version not in (1, 2) or (version == 2 and n not in SECOND_VERSION)
+
+
 def malformed(data):
     """"16: under 14 or over 65,536 bytes, lengths that do not meet exactly, another model or version, trailer zeros not zero"."""
     if not TRAILER_LENGTH <= len(data) <= MOST_BYTES:
@@ -93,7 +106,7 @@ def malformed(data):
     if c > end:
         return True
     k = data[end - c:end].count(EXTERNAL)
-    return start + 8 * (5 + sum(lengths(n, m, k))) + c != end or model not in (1, 2, 3, 4) or version != VERSION or zeros != 0
+    return start + 8 * (5 + sum(lengths(n, m, k))) + c != end or model not in (1, 2, 3, 4) or wrong_version(version, n) or zeros != 0
 
 
 def parsed(data):

@@ -1,7 +1,7 @@
 """Paper 01, "Program `wellmap` reads one from standard input", and the lines that paper 02 adds: what it prints."""
 from tools.patterns import bits, word
 from tools.reading.fit import Areas, fit
-from tools.reading.refusals import MOST_COLUMNS, MOST_NODES, MOST_WELLS
+from tools.reading.refusals import MOST_COLUMNS, MOST_NODES, MOST_WELLS_OF_PROGRAM as MOST_WELLS
 from tools.reading.survey_file import malformed, parsed
 
 SIZE = MOST_WELLS + MOST_COLUMNS
@@ -26,11 +26,11 @@ def column_lines(name, numbers):
 
 def lines(data):
     """"node count; node number from 1, figure bits, variance bits, verdict; one coef line a column"; "`trend` lines after the coef lines";
-    "A refusal prints only `refused N`"."""
+    "A refusal prints only `refused N`"; it "gives 9 above 48", in 9's own place."""
     if malformed(data):
         return ["refused 16"]
     survey, areas = parsed(data), own_areas()
-    number = fit(survey, areas)
+    number = fit(survey, areas, MOST_WELLS)
     if number:
         return [f"refused {number}"]
     nodes = [f"{q + 1} {shown(areas.figures[q])} {shown(areas.variances[q])} {areas.verdicts[q]}" for q in range(survey.m)]

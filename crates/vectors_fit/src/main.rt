@@ -29,7 +29,7 @@ use vectors::counts::write_last;
 // The most numbers of a record's lists together, and the most codes.
 const NUMBERS: usize = 3072;
 
-const CODES: usize = 64;
+const CODES: usize = 128;
 
 // The most of each area that a record lends: what the largest fit needs, and some past that.
 const WORK: usize = 2 * MOST_SIZE * MOST_SIZE + 8;
