@@ -30,7 +30,7 @@ ghost use Rattle.semivariogram_theory.specs.Binned.{Ends};
 // The pairs of the most samples.
 const MOST_PAIRS: usize = MOST_WELLS * (MOST_WELLS - 1) / 2;
 
-// The pairs of as many samples as the program takes of wells: most calls have no more, and need a quarter of the room.
+// The pairs of as many samples as the program takes of wells: a quarter of the room.
 const FEW_PAIRS: usize = PROGRAM_WELLS * (PROGRAM_WELLS - 1) / 2;
 
 // How a call of the calculator ends.
@@ -98,8 +98,8 @@ fn bins_with(
     )
 }
 
-// The bins of a call that is not refused. Zeros are laid out for the squares of its pairs, which for all pairs of the most samples would take as long as few
-// samples need for all the rest.
+// The bins of a call that is not refused: the kept ones to the answer areas, and how many they are. Zeros are laid out for the squares of its pairs first; room
+// for those of the most samples would make a call of few samples longer by a quarter, so these get less.
 fn kept_bins(
     points: &[f64],
     values: &[f64],

@@ -25,7 +25,7 @@ fitText zero s a =
     (take (columns s) (a .trend))
 fitText (suc k) s a = refusedText (suc k)
 
--- of a survey
+-- of a survey, by the limits of the program: "`wellmap` gives 9 above 48"
 unfoldable pub surveyText : Survey → List ℕ
 unfolding ownAreas fitted
 surveyText s = let o = fitted program s ownAreas in fitText (o .number) s (o .areas)
