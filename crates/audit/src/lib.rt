@@ -1,4 +1,6 @@
 // The audit of one node: which numbers are finite, which rows are met, the verdict. What it answers is defined in specs/.
+#![tactic(auto)]
+
 ghost use Rattle.std.specs.Prelude.{◌≡◌, [], ◌+◌, ◌*◌, ◌^◌, ◌<◌, length};
 ghost use Rattle.std.specs.Float.Ieee.Scale.{finite};
 ghost use Rattle.exact.specs.Products.{dotted};
@@ -39,7 +41,7 @@ pub fn drift_finite(drift: &[f64], wells: usize, columns: usize) -> bool
 }
 
 // Two sums with rounding: of terms, and of their magnitudes.
-#[derive(Drop)]
+#[derive(Clone, Copy)]
 struct Sums {
     sum: f64,
     size: f64,

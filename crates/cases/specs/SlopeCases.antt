@@ -1,5 +1,5 @@
 -- Sounding B's wells in exact arithmetic, by hand: its matrix has an exact inverse, and the trend is their mean.
-use Rattle.std.specs.Prelude.{ℕ, ◌*◌, ◌^◌, ◌≡◌, cond, [], ◌∷◌, ℤ, pos, negsuc, ◌*ℤ◌}
+use Rattle.std.specs.Prelude.{◌*◌, ◌^◌, ◌≡◌, cond, [], ◌∷◌, ℤ, pos, negsuc, ◌*ℤ◌}
 use Rattle.exact.specs.Units.{units}
 use Rattle.ieee.specs.Floats.{zero_float, one_float}
 use Rattle.variogram.specs.Model.{variogram}

@@ -1,5 +1,7 @@
 // Gauss–Jordan elimination on a lent work area, which holds the matrix beside the identity: `size` rows of 2 * size numbers, row after row.
 // The Rust has it twice: the fit's skips a row whose factor is zero, the interpolator's does not. On zeros with a sign and on NaNs the two differ.
+#![tactic(auto)]
+
 pub mod layout; // layout.rt: the matrix beside the identity
 
 ghost use Rattle.std.specs.Prelude.{◌≡◌, true, false, ◌+◌, ◌*◌, ◌≤◌, ◌<◌, length, ltb};
@@ -7,7 +9,7 @@ ghost use Rattle.elimination.specs.Elimination.{hold, swapped, divided, reduced,
 ghost use Rattle.elimination.specs.Parts.{lessened};
 
 // How an elimination ends.
-#[derive(Drop)]
+#[derive(Clone, Copy)]
 pub enum Elimination {
     // Every step went through: the right half is the inverse.
     Done,

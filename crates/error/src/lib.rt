@@ -1,10 +1,12 @@
 // What turns a call away: one named case for each number of the paper, with its number and its kind.
+#![tactic(auto)]
+
 ghost use Rattle.std.specs.Prelude.{◌≡◌};
 ghost use Rattle.error.specs.Numbers.{number_of};
 ghost use Rattle.error.specs.Kinds.{kind_of};
 
 // One case for each numbered refusal.
-#[derive(Drop)]
+#[derive(Clone, Copy)]
 pub enum Refusal {
     // 1: coordinates not 2n long (n times d in the two older calls)
     CoordinatesLength,
@@ -49,14 +51,14 @@ pub enum Refusal {
 }
 
 // What the tests of a call come to: no refusal, or the first one that applies.
-#[derive(Drop)]
+#[derive(Clone, Copy)]
 pub enum Judgement {
     Accepted,
     Refused(Refusal),
 }
 
 // The error kinds of error.rs that the three calls use, and one for the numbers that are added here.
-#[derive(Drop)]
+#[derive(Clone, Copy)]
 pub enum ErrorKind {
     InvalidInput,
     InsufficientData,

@@ -1,5 +1,7 @@
 // Exact sums of products of f64, in 67 words of 64 bits, in two's complement: nothing is ever rounded.
 // The unit is 2^-2148, the product of two of the smallest f64 above zero.
+#![tactic(auto)]
+
 ghost use Rattle.std.specs.Prelude.{◌≡◌, ◌+◌, ◌*◌, ◌^◌, ◌<◌, ◌≤◌, pos, ◌+ℤ◌, ◌-ℤ◌, ◌*ℤ◌};
 ghost use Rattle.ieee.specs.Values.{signed};
 ghost use Rattle.exact.specs.Units.{units};
@@ -7,7 +9,7 @@ ghost use Rattle.exact.specs.Products.{dotted};
 ghost use Rattle.words.specs.Words.{reading, held};
 
 // A number by its sign, its significand and its shift: ±significand·2^shift, in units of 2^-1074.
-#[derive(Drop)]
+#[derive(Clone, Copy)]
 struct Parts {
     negative: bool,
     significand: u64,
@@ -45,7 +47,7 @@ fn parts_of(x: f64) -> Parts
 }
 
 // A number in two words.
-#[derive(Drop)]
+#[derive(Clone, Copy)]
 struct Wide {
     low: u64,
     high: u64,
@@ -73,7 +75,7 @@ fn multiply(a: u64, b: u64) -> Wide
 }
 
 // A term of a sum: three words at a place, to be added, or taken away where it is negative.
-#[derive(Drop)]
+#[derive(Clone, Copy)]
 struct Term {
     negative: bool,
     place: usize,
@@ -126,7 +128,7 @@ fn term_of(x: f64, y: f64) -> Term
 }
 
 // A word of a sum after a step, and the carry or the borrow that goes to the next word.
-#[derive(Drop)]
+#[derive(Clone, Copy)]
 struct Step {
     word: u64,
     carry: u64,

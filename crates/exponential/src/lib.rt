@@ -1,4 +1,6 @@
 // e^−u for an f64 u, worked out in whole multiples of 2^-62: a table for the whole part of u, one for its 512ths, and a short series for what is left.
+#![tactic(auto)]
+
 ghost use Rattle.std.specs.Prelude.{◌≡◌, ◌+◌, ◌*◌, ◌/◌, ◌^◌, ◌<◌, ◌≤◌, min, T, length, slice_index_or};
 ghost use Rattle.std.specs.Float.{nan};
 ghost use Rattle.std.specs.Float.Ieee.{le, lt};

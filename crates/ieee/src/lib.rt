@@ -1,4 +1,6 @@
 // Floating-point functions that the Rust takes from its standard library, worked out by the program.
+#![tactic(auto)]
+
 ghost use Rattle.std.specs.Prelude.{◌≡◌, ◌+◌, ◌*◌, ◌/◌, ◌^◌, ◌<◌, ◌≤◌, true, false, T, ◌==◌};
 ghost use Rattle.std.specs.Float.Ieee.Scale.{finite};
 ghost use Rattle.std.specs.Float.Ieee.Positive.{positive};
@@ -55,7 +57,7 @@ pub fn min(x: f64, y: f64) -> f64
 }
 
 // A significand with its leading one at bit 52, and a power of two.
-#[derive(Drop)]
+#[derive(Clone, Copy)]
 struct Scaled {
     significand: u64,
     exponent: u64,

@@ -1,4 +1,6 @@
 // Kriging interpolation. What the call answers is defined in specs/.
+#![tactic(auto)]
+
 mod refusals; // refusals.rt: 13, 1, 2, 9, 11, 12, 17, 18
 mod trend; // trend.rt: the terms beside the covariances
 mod assembly; // assembly.rt: the matrix beside the identity, and its elimination
@@ -18,7 +20,7 @@ use survey::Limits;
 use variogram::Variogram;
 
 // How a call of the interpolator ends.
-#[derive(Drop)]
+#[derive(Clone, Copy)]
 pub enum Interpolation {
     // Each target has its figure and its variance.
     Done,
@@ -27,7 +29,7 @@ pub enum Interpolation {
 }
 
 // Kriging interpolator
-#[derive(Drop)]
+#[derive(Clone, Copy)]
 pub struct KrigingInterpolator {
     pub kriging_type: KrigingType,
     pub variogram: Variogram,

@@ -54,7 +54,7 @@ fn sill_less(sill: f64, z: &[f64], b: &[f64], size: usize) -> f64
 }
 
 // What a target gets.
-#[derive(Drop)]
+#[derive(Clone, Copy)]
 pub struct Estimate {
     pub value: f64,
     pub variance: f64,

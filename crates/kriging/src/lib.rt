@@ -1,4 +1,6 @@
 // Universal kriging with external drift, by the Rust's parts. What the fit answers is defined in specs/.
+#![tactic(auto)]
+
 mod refusals; // refusals.rt: 1 to 11, 22, 12, 17, 18
 mod drift; // drift.rt: the drift columns at the wells and at a node
 mod assembly; // assembly.rt: the matrix beside the identity
@@ -29,7 +31,7 @@ use error::{Judgement, Refusal};
 use survey::{Limits, MOST_DRIFT, UniversalKrigingOptions};
 
 // How a fit ends.
-#[derive(Drop)]
+#[derive(Clone, Copy)]
 pub enum Fit {
     // The areas hold the answer.
     Done,

@@ -59,7 +59,7 @@ fn fill_right_hand(
 }
 
 // A node without the values: z, its variance, and the verdict of rows 1 to p.
-#[derive(Drop)]
+#[derive(Clone, Copy)]
 struct Solution {
     z: [f64; MOST_SIZE],
     variance: f64,
@@ -94,7 +94,7 @@ fn solve_node(
 }
 
 // What a node gets: z with its weights, its figure, its variance and its verdict.
-#[derive(Drop)]
+#[derive(Clone, Copy)]
 pub struct Node {
     pub z: [f64; MOST_SIZE],
     pub figure: f64,

@@ -10,14 +10,14 @@ use variogram::{Variogram, VariogramModel};
 pub(crate) const UNKNOWN_CODE: u8 = 100;
 
 // What a model's code says.
-#[derive(Drop)]
+#[derive(Clone, Copy)]
 pub(crate) enum CodedModel {
     Known(VariogramModel),
     Unknown,
 }
 
 // What a kriging type's code says.
-#[derive(Drop)]
+#[derive(Clone, Copy)]
 pub(crate) enum CodedType {
     Known(KrigingType),
     Unknown,

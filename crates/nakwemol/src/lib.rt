@@ -1,5 +1,7 @@
 // The calls for programs in other languages: lists and areas as slices, options as numbers and codes, and the answer's number back.
 // Each is the call behind it; specs/ says what the codes stand for. In C a slice is a pointer and a count.
+#![tactic(auto)]
+
 mod codes; // codes.rt: models and kriging types by their codes
 mod exponential_call; // exponential_call.rt: exp_neg
 mod fit_call; // fit_call.rt: universal_kriging_fit

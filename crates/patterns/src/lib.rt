@@ -1,4 +1,6 @@
 // Numbers as bytes and f64 by their patterns: words of 64 bits, lowest byte first. A NaN has no pattern in the language, and none is handed over.
+#![tactic(auto)]
+
 ghost use Rattle.std.specs.Prelude.{◌≡◌, ◌≤◌, ◌<◌, ◌+◌, ◌^◌, min, get_or};
 ghost use Rattle.std.specs.Float.{binary64};
 ghost use Rattle.std.specs.Float.Ieee.{of_bits, to_bits};

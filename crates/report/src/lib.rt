@@ -1,4 +1,6 @@
 // What `wellmap` prints, as bytes in a lent area.
+#![tactic(auto)]
+
 mod put;
 mod room;
 
@@ -10,7 +12,7 @@ ghost use Rattle.report.specs.Printed.{outcome_of, printed, listed, TextNumbered
 use error::Refusal;
 
 // How printing ends.
-#[derive(Drop)]
+#[derive(Clone, Copy)]
 pub enum Printed {
     // So many bytes stand at the start of the area.
     Done(usize),

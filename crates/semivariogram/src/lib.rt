@@ -1,4 +1,6 @@
 // The experimental semivariogram. What its call answers is defined in specs/.
+#![tactic(auto)]
+
 mod binning; // binning.rt: the pairs to their bins, and the kept bins to the areas
 mod bounds; // bounds.rt: the bin of a pair
 mod distances; // distances.rt: the squared distances and the greatest
@@ -28,7 +30,7 @@ const MOST_PAIRS: usize = MOST_WELLS * (MOST_WELLS - 1) / 2;
 const FEW_PAIRS: usize = PROGRAM_WELLS * (PROGRAM_WELLS - 1) / 2;
 
 // How a call of the calculator ends.
-#[derive(Drop)]
+#[derive(Clone, Copy)]
 pub enum Semivariogram {
     // How many bins are kept, and stand at the beginning of the answer areas.
     Bins(usize),
@@ -137,7 +139,7 @@ fn kept_bins(
 }
 
 // Semivariogram calculator
-#[derive(Drop)]
+#[derive(Clone, Copy)]
 pub struct SemivariogramCalculator;
 
 impl SemivariogramCalculator {

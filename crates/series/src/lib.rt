@@ -1,1 +1,2 @@
 // The alternating series of e^−u in whole numbers: definitions in specs/, theorems about them in proofs/.
+#![tactic(auto)]

@@ -1,4 +1,6 @@
 // z = inverse · b and the trend, from a finished elimination; and sums of products in turn.
+#![tactic(auto)]
+
 ghost use Rattle.std.specs.Prelude.{◌≡◌, ◌+◌, ◌*◌, ◌≤◌, ◌<◌, length, get_or, List, Float};
 ghost use Rattle.std.specs.Float.{nan, binary64};
 ghost use Rattle.std.specs.Float.Ieee.{mul};
@@ -9,7 +11,7 @@ ghost use Rattle.solution.specs.Solution.{solved};
 ghost use Rattle.solution.specs.Slopes.{estimated};
 
 // Four entries of z, one below the other.
-#[derive(Drop)]
+#[derive(Clone, Copy)]
 struct Four {
     first: f64,
     second: f64,

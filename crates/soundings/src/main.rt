@@ -1,13 +1,17 @@
 // The soundings that are marked for proof. specs/ has their numbers, and proofs/ the one lemma that holds them all by the definitions.
 // This program runs A to H through the functions: it writes each number that comes out, and beside it the one that the scope expects.
+#![tactic(auto)]
+
 use interpolator::{Interpolation, KrigingInterpolator};
 use interpolator_theory::KrigingType;
 use kriging::Fit;
-use libc::STDOUT_FILENO;
 use semivariogram::{Semivariogram, SemivariogramCalculator};
 use survey::UniversalKrigingOptions;
 use variogram::{Variogram, VariogramModel};
 use vectors::Tally;
+
+// the descriptors of standard input and output, by the names of the C library
+const STDOUT_FILENO: i32 = 1;
 
 // A float and the one that is expected, by their bits.
 fn show(t: Tally, name: &[u8], got: f64, expected: f64) -> Tally {
@@ -34,7 +38,7 @@ fn show_number(t: Tally, name: &[u8], got: u64, expected: u64) -> Tally {
 }
 
 // What a fit with one node gives.
-#[derive(Drop)]
+#[derive(Clone, Copy)]
 struct Answer {
     number: u64,
     figure: f64,

@@ -1,5 +1,6 @@
 // A survey besides its lists: the options of a fit, and what a call takes at most.
 // The counts of its codes and what turns it away are defined in specs/; their code is in the crate survey_checks.
+#![tactic(auto)]
 
 ghost use Rattle.std.specs.Prelude.{◌≡◌};
 ghost use Rattle.survey.specs.Options.{default_bases, default_options};
@@ -29,7 +30,7 @@ pub const PROGRAM_WELLS: usize = 48;
 pub const PROGRAM_SIZE: usize = PROGRAM_WELLS + MOST_COLUMNS;
 
 // Options of a fit. Its drift bases, a list of codes, are lent beside them.
-#[derive(Drop)]
+#[derive(Clone, Copy)]
 pub struct UniversalKrigingOptions {
     // Variogram of the wells and of the nodes, with its same-spot distance.
     pub variogram: Variogram,
@@ -61,7 +62,7 @@ impl UniversalKrigingOptions {
 }
 
 // What a call takes at most.
-#[derive(Drop)]
+#[derive(Clone, Copy)]
 pub struct Limits {
     // Wells, n.
     pub wells: usize,

@@ -1,4 +1,6 @@
 // The reader of the survey file. What it answers is defined in survey_file.
+#![tactic(auto)]
+
 mod header; // header.rt: what a file says besides its lists
 mod lists; // lists.rt: the lists into the areas
 mod refusals; // refusals.rt: 16 and 18

@@ -11,7 +11,7 @@ use survey_checks::counts::external_columns;
 pub(crate) const LENGTH: usize = 14;
 
 // What the trailer says of lengths: S, where the body begins, n, m and the code count, and k, the count of code 4 among the codes.
-#[derive(Drop)]
+#[derive(Clone, Copy)]
 pub struct Counts {
     pub start: usize,
     pub wells: usize,

@@ -1,4 +1,6 @@
 // The survey file: what its reader and its writer answer. The reader fills lent areas with the lists.
+#![tactic(auto)]
+
 use error::Refusal;
 use survey::UniversalKrigingOptions;
 
@@ -11,7 +13,7 @@ pub const NEWEST_VERSION: u8 = 2;
 pub const MOST_IN_VERSION_1: usize = 48;
 
 // What a survey file says besides its lists: how many wells, nodes and bases there are, the options, and the tolerance.
-#[derive(Drop)]
+#[derive(Clone, Copy)]
 pub struct Header {
     pub wells: usize,
     pub nodes: usize,
@@ -21,14 +23,14 @@ pub struct Header {
 }
 
 // The reader's answer.
-#[derive(Drop)]
+#[derive(Clone, Copy)]
 pub enum Read {
     Done(Header),
     Refused(Refusal),
 }
 
 // The writer's answer: how many bytes it wrote.
-#[derive(Drop)]
+#[derive(Clone, Copy)]
 pub enum Written {
     Done(usize),
     Refused(Refusal),

@@ -1,4 +1,6 @@
 // The writer of the survey file. What a file is, and that it reads back, stands in survey_file.
+#![tactic(auto)]
+
 mod refusals; // refusals.rt: 1, 2, 6, 8, 11, 22, 16, 18
 mod bytes; // bytes.rt: numbers and lists as bytes of a file
 mod layout; // layout.rt: the body and the trailer

@@ -1,4 +1,6 @@
 // From the bytes of a survey file to the text that `wellmap` prints: the reader, the fit and the report, one after another.
+#![tactic(auto)]
+
 ghost use Rattle.std.specs.Prelude.{◌≡◌, ◌≤◌, length, take, replicate};
 ghost use Rattle.survey.specs.Survey.{survey_of, column_sum};
 ghost use Rattle.survey.specs.Limits.{program};

@@ -1,4 +1,6 @@
 // What stands inside the library and is exported for the benchmark alone, so that it can be timed by itself.
+#![tactic(auto)]
+
 ghost use Rattle.std.specs.Prelude.{◌≡◌};
 ghost use Rattle.words.specs.Words.{reading};
 ghost use Rattle.words.specs.Compared.{order_of, words_taken};

@@ -1,11 +1,13 @@
 // The variogram models, and the distances at which they are evaluated.
+#![tactic(auto)]
+
 ghost use Rattle.std.specs.Prelude.{◌≡◌, ◌+◌, ◌≤◌, ◌<◌, length, ltb};
 ghost use Rattle.std.specs.Float.{nan};
 ghost use Rattle.variogram.specs.Model.{variogram, with_same_spot, semivariance, semivariance_by};
 ghost use Rattle.variogram.specs.Distance.{squared_distance2d, distance2d, squares, axis_from, has_point, distance};
 
 // Variogram models, in the Rust's order.
-#[derive(Drop)]
+#[derive(Clone, Copy)]
 pub enum VariogramModel {
     Spherical,
     Exponential,
@@ -14,7 +16,7 @@ pub enum VariogramModel {
 }
 
 // Variogram parameters, made by `new`, and by `with_same_spot` for another same-spot distance.
-#[derive(Drop)]
+#[derive(Clone, Copy)]
 pub struct Variogram {
     pub nugget: f64,
     pub sill: f64,

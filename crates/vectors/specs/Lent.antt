@@ -1,5 +1,5 @@
 -- What the places of a lent area are held to: what is told of the call's answer, and past what is written a mark.
-use Rattle.std.specs.Prelude.{ℕ, zero, suc, ◌+◌, ◌-◌, ◌%◌, ◌^◌, cond, ◌||◌, List, [], length, ◌==◌, nat_lt, slice_index, slice_range}
+use Rattle.std.specs.Prelude.{ℕ, zero, suc, ◌+◌, ◌%◌, ◌^◌, cond, ◌||◌, List, [], length, ◌==◌, nat_lt, slice_index, slice_range}
 use Rattle.vectors.specs.Counted.{compared_in, untouched}
 
 -- the pattern that a place holds before a call

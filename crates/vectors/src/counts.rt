@@ -4,7 +4,9 @@ ghost use Rattle.vectors.specs.Tallied.{one_more};
 ghost use Rattle.vectors.specs.Counted.{counted_at, compared_in, ended_by, differences};
 
 use crate::Tally;
-use libc::STDOUT_FILENO;
+
+// the descriptors of standard input and output, by the names of the C library
+const STDOUT_FILENO: i32 = 1;
 
 // The counts: at 0 to 29 the calls that ended by that number, and then two places for each part, how many were compared and how many of them differ.
 // The first parts are the same for each program, the number that a call ended by and the places that are not to be written; then all that differ, in one

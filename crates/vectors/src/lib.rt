@@ -1,5 +1,7 @@
 // What the programs that replay stored answers share: the words of standard input and the tally; and, of those that replay whole calls, the counts,
 // the lent areas and the variogram.
+#![tactic(auto)]
+
 pub mod areas; // areas.rt: lists that come in, and areas that are lent
 pub mod counts; // counts.rt: what is counted, and written
 pub mod models; // models.rt: a variogram that comes in
@@ -9,10 +11,13 @@ ghost use Rattle.std.specs.Float.{binary64};
 ghost use Rattle.vectors.specs.Tallied.{tally_of, with_record};
 ghost use Rattle.vectors.specs.Words.{CameIn, SizeIn, FloatIn, EndIn};
 
-use libc::{STDIN_FILENO, STDOUT_FILENO};
+// the descriptors of standard input and output, by the names of the C library
+const STDIN_FILENO: i32 = 0;
+
+const STDOUT_FILENO: i32 = 1;
 
 // A word that came in, and whether one did: past the input's end it is 0.
-#[derive(Drop)]
+#[derive(Clone, Copy)]
 pub struct Input {
     pub value: u64,
     pub more: bool,
@@ -35,7 +40,7 @@ impl Input {
 }
 
 // How many records were compared, how many of them differ, and whether there are more.
-#[derive(Drop)]
+#[derive(Clone, Copy)]
 pub struct Tally {
     pub compared: u64,
     pub differ: u64,

@@ -1,6 +1,8 @@
 // Replays stored comparisons of two sums of 67 words and prints how each pair stands and how many words it took, for whole-number arithmetic outside.
 // The input is records of 17 bytes: a kind, then two words, little-endian. 0 puts the second word at the place that the first says, in the one sum, and 1
 // in the other; 2 puts the second word at every place of the one sum, and 3 of the other; 4 compares the two, both ways round.
+#![tactic(auto)]
+
 ghost use Rattle.std.specs.Prelude.{◌≡◌, set};
 
 use words::Order;

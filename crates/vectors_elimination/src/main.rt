@@ -1,6 +1,8 @@
 // Replays inverses of the original Rust, and then whole work areas by another reading of the paper: standard input has a record for each,
 // as tools/generators/elimination.py wrote them.
 // Writes a line for each record that comes out otherwise, and then how many were compared and how many differ.
+#![tactic(auto)]
+
 ghost use Rattle.std.specs.Prelude.{◌*◌, ◌≤◌};
 ghost use Rattle.survey.specs.Limits.{most_size};
 
@@ -23,7 +25,7 @@ const OK: u64 = 0;
 const NONE: u64 = 8;
 
 // A record's first words: which call, how many words it has and how many its answer, and the matrix's rows, the first of the call's words.
-#[derive(Drop)]
+#[derive(Clone, Copy)]
 struct Head {
     call: u64,
     asked: u64,
@@ -33,7 +35,7 @@ struct Head {
 }
 
 // A place in the area: "s rows of 2s".
-#[derive(Drop)]
+#[derive(Clone, Copy)]
 struct Place {
     row: usize,
     column: usize,

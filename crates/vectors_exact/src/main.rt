@@ -1,6 +1,7 @@
 // Replays stored sums of products of f64 and prints their 67 words, for a comparison with whole-number arithmetic outside.
 // The input is records of 17 bytes: a kind, then two words, little-endian. 0 adds the product of two f64, 1 takes it away, 2 shows the sum and
 // starts the next; 3 gives a number of z and one of f, and 4 shows the dot product of z with the column and width of f that its words say.
+#![tactic(auto)]
 
 // A flag as a digit, then a space.
 fn show_flag(flag: bool) {

@@ -1,7 +1,13 @@
 // Replays e^−u: standard input has a record of three words for each u, as tools/generators/exponential.py wrote it: u, and the least and the greatest answer
 // that lie within 2^-50 of the exact value. Writes a line for each record that comes out otherwise, and then how many were compared and how many differ.
-use libc::{STDIN_FILENO, STDOUT_FILENO};
+#![tactic(auto)]
+
 use vectors::Tally;
+
+// the descriptors of standard input and output, by the names of the C library
+const STDIN_FILENO: i32 = 0;
+
+const STDOUT_FILENO: i32 = 1;
 
 // u, what came out, and between what it has to lie.
 fn report(u: u64, got: u64, least: u64, greatest: u64) {

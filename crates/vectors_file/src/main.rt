@@ -2,6 +2,8 @@
 // Standard input has a record for each call, as tools/generators/file.py wrote them.
 // Writes a line for each record that comes out otherwise; then how the calls ended, by number, and of each part how many places were compared and how
 // many differ; and last how many records were compared and how many differ.
+#![tactic(auto)]
+
 mod compare; // compare.rt: what is compared
 mod reading; // reading.rt: a record of the reader
 mod runs; // runs.rt: the lists of a record

@@ -15,7 +15,7 @@ use vectors::next_size;
 const ENDING: usize = 11;
 
 // How much of each area is lent.
-#[derive(Drop)]
+#[derive(Clone, Copy)]
 pub struct Lent {
     pub values: usize,
     pub coords: usize,

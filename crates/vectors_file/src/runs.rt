@@ -1,8 +1,10 @@
 // Lists that come in as runs of bytes, so that the longest file takes little room: of a run the first bytes are told, and each later one is as that so many
 // places before it.
-use libc::STDIN_FILENO;
 use vectors::areas::least;
 use vectors::next_size;
+
+// the descriptors of standard input and output, by the names of the C library
+const STDIN_FILENO: i32 = 0;
 
 // The most numbers of a list, and the most bytes.
 pub const NUMBERS: usize = 8256;

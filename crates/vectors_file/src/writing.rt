@@ -8,7 +8,7 @@ use vectors::counts::{compared, ended_by};
 use vectors::{next_end, next_float, next_size};
 
 // Where each list ends among a record's numbers, one after another.
-#[derive(Drop)]
+#[derive(Clone, Copy)]
 pub struct Lists {
     pub values: usize,
     pub coords: usize,
@@ -18,7 +18,7 @@ pub struct Lists {
 }
 
 // A record but for what its lists hold.
-#[derive(Drop)]
+#[derive(Clone, Copy)]
 pub struct Head {
     pub lists: Lists,
     pub options: UniversalKrigingOptions,
@@ -27,7 +27,7 @@ pub struct Head {
 }
 
 // How a call ended: its number, and how many bytes it wrote, 0 where it is refused.
-#[derive(Drop)]
+#[derive(Clone, Copy)]
 pub struct Came {
     pub number: u64,
     pub count: u64,

@@ -2,6 +2,8 @@
 // Standard input has a record for each, as tools/generators/fit.py wrote them.
 // Writes a line for each record that comes out otherwise; then how the fits ended, by number, and of each part how many numbers were compared and how
 // many differ; and last how many records were compared and how many differ.
+#![tactic(auto)]
+
 mod compare; // compare.rt: what is compared
 mod counts; // counts.rt: what is counted, and written
 mod record; // record.rt: what a fit is called with

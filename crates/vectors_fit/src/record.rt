@@ -4,7 +4,7 @@ use vectors::models::next_variogram;
 use vectors::{next_end, next_float, next_size};
 
 // Where each list ends among a record's numbers, one after another, and how many codes there are.
-#[derive(Drop)]
+#[derive(Clone, Copy)]
 pub struct Lists {
     pub values: usize,
     pub coords: usize,
@@ -15,7 +15,7 @@ pub struct Lists {
 }
 
 // A number for each area: how much of it is lent, or written.
-#[derive(Drop)]
+#[derive(Clone, Copy)]
 pub struct Areas {
     pub work: usize,
     pub predicted: usize,
@@ -27,7 +27,7 @@ pub struct Areas {
 }
 
 // A record but for what its lists hold.
-#[derive(Drop)]
+#[derive(Clone, Copy)]
 pub struct Head {
     pub lists: Lists,
     pub options: UniversalKrigingOptions,

@@ -1,7 +1,13 @@
 // Replays answers of Rust's own functions on f64: standard input has a record of eight words for each, as tools/generators/ieee.rs wrote it.
 // Writes a line for each record that comes out otherwise, and then how many were compared and how many differ.
-use libc::{STDIN_FILENO, STDOUT_FILENO};
+#![tactic(auto)]
+
 use vectors::Tally;
+
+// the descriptors of standard input and output, by the names of the C library
+const STDIN_FILENO: i32 = 0;
+
+const STDOUT_FILENO: i32 = 1;
 
 // 1 where a test holds, and else 0: what a record has for a bool.
 fn digit(holds: bool) -> u64 {

@@ -4,7 +4,7 @@ use semivariogram::{Semivariogram, SemivariogramCalculator};
 use vectors::areas::part;
 
 // The number that a call ended by, 0 where it answers, and how many bins it kept, 0 where it is refused.
-#[derive(Drop)]
+#[derive(Clone, Copy)]
 pub struct Came {
     pub number: u64,
     pub kept: u64,

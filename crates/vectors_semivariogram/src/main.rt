@@ -2,6 +2,8 @@
 // Standard input has a record for each, as tools/generators/semivariogram.py wrote them.
 // Writes a line for each record that comes out otherwise; then how the calls ended, by number, and of each part how many places were compared and how
 // many differ; and last how many records were compared and how many differ.
+#![tactic(auto)]
+
 mod call; // call.rt: the call of a record
 mod compare; // compare.rt: what is compared
 mod record; // record.rt: what a call is made with

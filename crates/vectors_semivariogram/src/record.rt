@@ -2,7 +2,7 @@
 use vectors::{next_end, next_size};
 
 // A number for each area: how much of it is lent.
-#[derive(Drop)]
+#[derive(Clone, Copy)]
 pub struct Areas {
     pub distances: usize,
     pub semivariances: usize,
@@ -10,7 +10,7 @@ pub struct Areas {
 }
 
 // A record but for what its lists hold: where each of the two ends among its numbers, the dimension, the bins and what is lent.
-#[derive(Drop)]
+#[derive(Clone, Copy)]
 pub struct Head {
     pub values: usize,
     pub coords: usize,

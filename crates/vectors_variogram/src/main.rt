@@ -1,8 +1,12 @@
 // Replays variograms and distances of the original Rust: standard input has a record of nine words for each, as tools/generators/variogram.py wrote it.
 // Writes a line for each record that comes out otherwise, and then how many were compared and how many differ.
-use libc::STDIN_FILENO;
+#![tactic(auto)]
+
 use variogram::{Variogram, VariogramModel};
 use vectors::Tally;
+
+// the descriptors of standard input and output, by the names of the C library
+const STDIN_FILENO: i32 = 0;
 
 // The seven numbers of a record, its words 1 to 7.
 fn numbers(bytes: &[u8]) -> [f64; 7] {

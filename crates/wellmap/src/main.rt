@@ -1,6 +1,12 @@
 // Reads a survey file from standard input, and writes the listing of its fit, or why there is none, to standard output.
-use libc::{STDIN_FILENO, STDOUT_FILENO};
+#![tactic(auto)]
+
 use report::Printed;
+
+// the descriptors of standard input and output, by the names of the C library
+const STDIN_FILENO: i32 = 0;
+
+const STDOUT_FILENO: i32 = 1;
 
 fn main() {
     let mut bytes = survey_map::input_area(); // 65,537: one more than a file may have, so that a longer one is seen to be over

@@ -1,4 +1,6 @@
 // A whole number in 67 words of 64 bits, lowest first, in two's complement: its sign, its magnitude, and the order of two.
+#![tactic(auto)]
+
 ghost use Rattle.std.specs.Prelude.{◌≡◌, ◌+◌, ◌*◌, ◌%◌, ◌^◌, ◌≤◌, not, pos, neg_ℤ, unsigned_abs};
 ghost use Rattle.std.specs.Int.Signed.{non_neg};
 ghost use Rattle.words.specs.Words.{reading, held};
@@ -12,7 +14,7 @@ pub fn is_negative(sum: [u64; 67]) -> bool
 }
 
 // What is left of 0 in one word, and the borrow that goes to the next word.
-#[derive(Drop)]
+#[derive(Clone, Copy)]
 struct Left {
     word: u64,
     borrow: u64,
@@ -63,7 +65,7 @@ pub fn magnitude(sum: [u64; 67]) -> [u64; 67]
 }
 
 // How one sum stands to another.
-#[derive(Drop)]
+#[derive(Clone, Copy)]
 pub enum Order {
     Below,
     Same,
@@ -84,7 +86,7 @@ impl Order {
 }
 
 // What a comparison of two sums tells: how the first stands to the second, and how many words it took.
-#[derive(Drop)]
+#[derive(Clone, Copy)]
 pub struct Comparison {
     pub order: Order,
     pub words: usize,
