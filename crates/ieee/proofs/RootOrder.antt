@@ -1,5 +1,5 @@
 -- Numbers and infinities with a clear sign in their order, and that the root keeps it.
-use Rattle.std.proofs.Common.{◌≡◌, ℕ, zero, suc, ◌+◌, ◌-◌, ◌*◌, ◌^◌, ◌<◌, ◌≤◌, Bool, true, false, cond, ◌&&◌, ◌||◌, T, eqb, ltb, ℤ, sym, refl, ap, ◌∙◌, subst, true≢false, le_trans, le_of_eq, mul-le-mul_right, zero-lt-suc, le_antisymm, mul-lt-mul_of_pos_right, mul-pos, zero-mul, mul_right_comm, arith, lit<, eqb→eq, pow_pos, ltb-false, ltb-true, le-ltb}
+use Rattle.std.proofs.Common.{◌≡◌, ℕ, zero, suc, ◌+◌, ◌*◌, ◌^◌, ◌<◌, ◌≤◌, Bool, true, false, cond, ◌&&◌, ◌||◌, T, eqb, ltb, ℤ, sym, refl, ap, ◌∙◌, subst, true≢false, le_trans, le_of_eq, mul-le-mul_right, zero-lt-suc, le_antisymm, mul-lt-mul_of_pos_right, mul-pos, zero-mul, mul_right_comm, arith, lit<, eqb→eq, pow_pos, ltb-false, ltb-true, le-ltb}
 use lib.Ieee.{Float, inf, fin, binary64, fits, up, down, lt, eq, le}
 use lib.Ieee.Exact.{HasValue}
 use lib.Ieee.Fits.{up_pos, down_pos, and_l, round-fits}

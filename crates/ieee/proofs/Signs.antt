@@ -33,6 +33,10 @@ some_sign false x y p q = q
 
 pub difference : (x y : Float) → T (finite x) → T (finite y) → (s : Bool) × Signed s (sub binary64 x y)
 unfolding sub add neg sum
+difference lib.Ieee.nan y h g = elim h [ ]
+difference (inf _) y h g = elim h [ ]
+difference (fin s m e) lib.Ieee.nan h g = elim g [ ]
+difference (fin s m e) (inf _) h g = elim g [ ]
 difference (fin s m e) (fin t n d) h g =
     let a : ℕ = m * up e * down d in
     let b : ℕ = n * up d * down e in

@@ -1,6 +1,6 @@
 -- +0 beside a number: added to one with a clear sign, or taken from any, it leaves that number.
 use Rattle.std.proofs.Common.{◌≡◌, ◌*◌, true, false, T, refl, add-zero, one-mul, zero-add, zero-mul, mul-one, arith, le-ltb}
-use native.Mathlib.Nat.{sub_zero}
+use native.Mathlib.Nat.{sub-zero}
 use lib.Ieee.{Float, nan, inf, fin, binary64, fits, up, down, add, sub, of_bits}
 use lib.Ieee.Fits.{down_pos}
 use Rattle.ieee.specs.Floats.{zero_float, abs_of}
@@ -21,5 +21,5 @@ less_zero (inf s) f = refl
 less_zero (fin true m e) f =
     rw (zero-mul (down e), add-zero, mul-one (m * up e), mul-one (down e)) (round_own (fin true m e) true (m * up e) (down e) f (down_pos e) (refl, refl))
 less_zero (fin false m e) f =
-    rw (zero-mul (down e), le-ltb (m * up e * 1) 0 (omega arith), sub_zero, mul-one (m * up e), mul-one (down e))
+    rw (zero-mul (down e), le-ltb (m * up e * 1) 0 (omega arith), sub-zero, mul-one (m * up e), mul-one (down e))
     (round_own (fin false m e) false (m * up e) (down e) f (down_pos e) (refl, refl))

@@ -1,7 +1,7 @@
 -- The product of two series of positive terms: its terms, by the sum of the two powers, are those of the series of a + b.
 use Prim.Native.Nat.{ℕ, zero, suc, ◌+◌, ◌-◌, ◌*◌, ◌≤◌, ◌<◌}
 use native.Mathlib.Nat.{le_trans, le_of_lt, le_of_suc-le-suc, mul-add, add-mul, mul_assoc, mul_comm, mul_left_comm, mul-pos, mul-zero, zero-mul, add-zero}
-use native.Mathlib.Nat.{zero-add, suc-add, sub_zero, sub_self, suc-sub-suc, eq_of_mul-eq-mul_left, zero-lt-suc, mul-le-mul_left, add-sub_of_le}
+use native.Mathlib.Nat.{zero-add, suc-add, sub-zero, sub_self, suc-sub-suc, eq_of_mul-eq-mul_left, zero-lt-suc, mul-le-mul_left, add-sub_of_le}
 use native.Mathlib.Omega.{arith}
 use mathlib.Core.Path.{◌≡◌, ap, ap₂, sym, ◌∙◌, subst}
 use Rattle.series.proofs.Sums.{total, same, both, scaled, less, more, first}
@@ -97,7 +97,7 @@ module _ (a b d K : ℕ) (x y : ℕ → ℕ) (d-positive : 0 < d) (is_x : Terms 
   -- and they are the terms of a + b
   pub cauchy_terms : (z : ℕ → ℕ) → Terms (a + b) d K z → (k : ℕ) → k ≤ K → z 0 * cauchy x y k ≡ x 0 * y 0 * z k
   unfolding cauchy total
-  cauchy_terms z is_z zero l = simp (zero-add, sub_zero, sorted)
+  cauchy_terms z is_z zero l = simp (zero-add, sub-zero, sorted)
   cauchy_terms z is_z (suc k) l =
       eq_of_mul-eq-mul_left (d * suc k) (mul-pos d-positive (zero-lt-suc k)) (z 0 * cauchy x y (suc k)) (x 0 * y 0 * z (suc k))
       (mul_left_comm (d * suc k) (z 0) (cauchy x y (suc k))

@@ -3,7 +3,7 @@
 use Prim.Native.Nat.{ℕ, suc, ◌+◌, ◌*◌, ◌≤◌, ◌<◌}
 use native.Mathlib.Nat.{le_refl, le_of_suc-le-suc, le-add_right, le-add_left, mul_assoc, mul_left_comm, mul-pos, mul-le-mul_left, le_of_mul-le-mul_left}
 use mathlib.Core.Path.{◌≡◌, ap, ap₂, sym, ◌∙◌, subst₂}
-use Rattle.series.specs.Series.{over, added, taken, all}
+use Rattle.series.specs.Series.{over, all}
 use Rattle.series.proofs.Sums.{total, same, scaled}
 use Rattle.series.proofs.Terms.{Terms, terms, are_terms, all_sum, sorted}
 use Rattle.series.proofs.Cauchy.{cauchy, triangle, by_powers, within_square, holds_square, cauchy_terms}

@@ -1,7 +1,7 @@
 -- The terms u^i / i! of the series for u = a / d, in one unit for all of them up to the power K: whole numbers x i with x i / x 0 = u^i / i!.
 use Prim.Native.Nat.{ℕ, zero, suc, ◌+◌, ◌-◌, ◌*◌, ◌^◌, ◌≤◌, ◌<◌}
 use native.Mathlib.Nat.{le_of_lt, le_of_suc-le, mul-add, mul_assoc, mul_comm, mul_left_comm, mul-pos, one-mul, mul-one, mul-zero, zero-mul, add-zero, add-suc}
-use native.Mathlib.Nat.{zero-add, sub_zero, add-sub_of_le, pow-suc, pow-zero, eq_of_mul-eq-mul_left, zero-lt-suc}
+use native.Mathlib.Nat.{zero-add, sub-zero, add-sub_of_le, pow-suc, pow-zero, eq_of_mul-eq-mul_left, zero-lt-suc}
 use mathlib.Core.Path.{◌≡◌, ap, ap₂, sym, ◌∙◌, subst}
 use mathlib.Core.Bool.{Bool, true, false, cond}
 use Rattle.series.specs.Series.{even, over, added, taken}
@@ -37,7 +37,7 @@ terms a d K i = a ^ i * rest d i (K - i)
 pub are_terms : (a d K : ℕ) → 0 < d → Terms a d K (terms a d K)
 unfolding terms over
 are_terms a d K h =
-    let start : terms a d K 0 ≡ over d K = rw (pow-zero, one-mul, sub_zero) (sym (one-mul (rest d 0 K)) ∙ rest_over d 0 K ∙ ap (over d) (zero-add K)) in
+    let start : terms a d K 0 ≡ over d K = rw (pow-zero, one-mul, sub-zero) (sym (one-mul (rest d 0 K)) ∙ rest_over d 0 K ∙ ap (over d) (zero-add K)) in
     record {
       unit = subst (λ (n : ℕ). 0 < n) (sym start) (over_positive d K h);
       term = λ i l. mul_left_comm (over d i) (a ^ i) (rest d i (K - i))
