@@ -3,12 +3,12 @@ use Prim.Native.Nat.{ℕ, ◌<◌}
 use native.Mathlib.Omega.{arith}
 use mathlib.Core.Path.{◌≡◌, refl, sym, subst, ◌∙◌}
 use mathlib.Core.Logic.{◌≢◌, inl, inr, ◌↔◌}
-use mathlib.Core.Bool.{Bool, true, false, not, cond}
+use mathlib.Core.Bool.{Bool, true, false, cond}
 use mathlib.Core.List.{List, [], ◌∷◌}
 use lib.Dec.{T, eqb, ltb, eqb→eq, ltb→lt, lt→ltb}
 use lib.Ieee.Fits.{and_i, and_l, and_r}
 use Rattle.error.specs.Tests.{Test, first_of}
-use Rattle.error.specs.Rules.{Told, Rule, rule, Ruled, Condition, Lowest}
+use Rattle.error.specs.Rules.{Told, Rule, Ruled, Condition, Lowest}
 use Rattle.error.specs.Rules.{positive, lacks, rising, without}
 use Rattle.error.proofs.Rules.{ruled_exactly, Which, own, later, which, own_condition, later_condition, held_number}
 
