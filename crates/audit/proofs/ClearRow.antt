@@ -1,13 +1,13 @@
 -- A row that sums with rounding show to be met is met by the exact ones.
-use Prim.Native.Nat.{ℕ, ◌+◌, ◌*◌, ◌^◌, ◌≤◌}
-use mathlib.Core.Path.{◌≡◌, refl, sym, ap, ap₂, ◌∙◌, subst}
-use mathlib.Core.Bool.{Bool, true}
+use Prim.Native.Nat.{ℕ, ◌+◌, ◌*◌, ◌^◌}
+use mathlib.Core.Path.{◌≡◌, refl, ap, ap₂, ◌∙◌}
+use mathlib.Core.Bool.{Bool, true, false}
 use mathlib.Core.List.{List}
 use lib.Dec.{T}
 use lib.IntN.{ℤ, pos, nat_abs, ◌+ℤ◌, ◌-ℤ◌, ◌*ℤ◌, pos-+ℤ-pos, pos-*ℤ-pos}
-use lib.Signed.{le_z, ◌≤ℤ◌}
-use lib.ListN.{length, get_or}
-use lib.Ieee.{Float, nan, binary64, fits}
+use lib.Signed.{le_z}
+use lib.ListN.{length}
+use lib.Ieee.{Float, binary64, fits}
 use Rattle.ieee.specs.Values.{multiple, sign_of, value_of}
 use Rattle.ieee.proofs.RoundingSigned.{signed_abs}
 use Rattle.words.proofs.Whole.{pos_≤ℤ}
@@ -23,6 +23,7 @@ use Rattle.audit.specs.Lists.{number_in}
 
 is_true : (b : Bool) → T b → b ≡ true
 is_true true h = refl
+is_true false h = elim h [ ]
 
 module _ (z f : List Float) (fz : (i : ℕ) → T (fits binary64 (number_in z i))) (ff : (i : ℕ) → T (fits binary64 (number_in f i))) (column width : ℕ) where
   -- column by column, in the code's order

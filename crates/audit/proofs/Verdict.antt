@@ -1,5 +1,5 @@
 -- The verdict of an audit, each exactly when; and the trend bound of what passed.
-use Prim.Native.Nat.{ℕ, suc, ◌+◌, ◌≤◌, ◌<◌}
+use Prim.Native.Nat.{ℕ, zero, suc, ◌+◌, ◌≤◌, ◌<◌}
 use native.Mathlib.Decide.{dec_lt}
 use native.Mathlib.Omega.{arith}
 use mathlib.Core.Path.{◌≡◌, refl, subst}
@@ -33,9 +33,11 @@ module _ (a : Audited) where
   last_met h = record { column = λ d m e. absurd (let z : d ≡ a.weighed.p = omega arith in omega arith); figure = λ e. h }
 
   met_of : (j : ℕ) → 1 ≤ j → j < 1 + a.weighed.p → column_met a.weighed j ≡ true → Met a j
+  met_of zero l m e = elim l [ ]
   met_of (suc c) l m e = column_met_lem c (omega arith) ((column_told a.weighed c).then (rw e tt))
 
   missed_of : (j : ℕ) → 1 ≤ j → j < 1 + a.weighed.p → column_met a.weighed j ≡ false → ¬ Met a j
+  missed_of zero l m e h = elim l [ ]
   missed_of (suc c) l m e h = subst T e ((column_told a.weighed c).back (h.column c (omega arith) refl))
 
   -- everything is finite: the rows of the columns, and then the last

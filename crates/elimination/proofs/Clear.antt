@@ -6,7 +6,7 @@ use mathlib.Core.Logic.{◌≢◌, ◌⊎◌, inl, inr}
 use mathlib.Core.Bool.{Bool, true, false, not, ◌&&◌, cond}
 use mathlib.Core.List.{List}
 use lib.Ieee.{Float, eq, ne}
-use borrow.Author.Tests.{eq-eqb, ne_eqb, not_true, not-false}
+use borrow.Author.Tests.{eq-eqb, ne_eqb, not-true, not-false}
 use Rattle.ieee.specs.Floats.{zero_float}
 use Rattle.elimination.specs.Elimination.{at, reduced, spared, cleared}
 
@@ -53,5 +53,5 @@ cleared_row skip w i k xs ys zs h n t r = r ∙ one_more skip w i k xs zs false 
     never false = refl
 
     by : (not skip ≡ true) ⊎ (ne (at w zs k i) zero_float ≡ true) → (skip && eq (at w zs k i) zero_float) ≡ false
-    by (inl s) = ap (λ (b : Bool). b && eq (at w zs k i) zero_float) (not_true skip s)
-    by (inr z) = ap (λ (b : Bool). skip && b) (not_true (eq (at w zs k i) zero_float) z) ∙ never skip
+    by (inl s) = ap (λ (b : Bool). b && eq (at w zs k i) zero_float) (not-true skip s)
+    by (inr z) = ap (λ (b : Bool). skip && b) (not-true (eq (at w zs k i) zero_float) z) ∙ never skip

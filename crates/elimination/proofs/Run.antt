@@ -1,6 +1,6 @@
 -- The run of steps, one step at a time: how it begins, stops, goes on and ends.
 use Prim.Native.Nat.{ℕ, suc, ◌+◌, ◌-◌, ◌*◌, ◌<◌}
-use native.Mathlib.Nat.{sub_zero}
+use native.Mathlib.Nat.{sub-zero}
 use native.Mathlib.Omega.{arith}
 use mathlib.Core.Path.{◌≡◌, refl, ap, ◌∙◌, sym}
 use mathlib.Core.Bool.{Bool, true, false, cond}
@@ -43,7 +43,7 @@ refuses skip s xs h = ap (λ (b : Bool). cond b (outcome_of TooShort xs) (run sk
 pub begins : (skip : Bool) (s : ℕ) (xs : List Float) → ltb (length xs) (2 * s * s) ≡ false → eliminated skip s xs ≡ run skip s (s - 0) 0 xs
 unfolding eliminated
 begins skip s xs h =
-    ap (λ (b : Bool). cond b (outcome_of TooShort xs) (run skip s s 0 xs)) h ∙ ap (λ (n : ℕ). run skip s n 0 xs) (sym (sub_zero s))
+    ap (λ (b : Bool). cond b (outcome_of TooShort xs) (run skip s s 0 xs)) h ∙ ap (λ (n : ℕ). run skip s n 0 xs) (sym (sub-zero s))
 
 -- step i is to be done, and s - i steps with it
 left : (skip : Bool) (s i : ℕ) (xs : List Float) → i < s

@@ -1,5 +1,5 @@
 -- A node's parts as the code has them, z in the first places of a longer list and F row after row in another: they are those of the paper's node.
-use Prim.Native.Nat.{ℕ, ◌+◌, ◌-◌, ◌*◌, ◌≤◌, ◌<◌}
+use Prim.Native.Nat.{ℕ, ◌+◌, ◌*◌, ◌≤◌, ◌<◌}
 use native.Mathlib.Omega.{arith}
 use mathlib.Core.Path.{◌≡◌, refl, ap, sym, ◌∙◌, subst}
 use mathlib.Core.Bool.{Bool}
@@ -12,13 +12,13 @@ use Rattle.area.proofs.Tables.{table_length}
 use Rattle.ieee.specs.Floats.{not_below_zero}
 use Rattle.ieee.specs.Sums.{running_sum}
 use Rattle.ieee.proofs.Sums.{same_sum}
-use Rattle.audit.specs.Audit.{Weighed, drift_finite, column_verdict_given, column_verdict, verdict_with, SameWeighed}
+use Rattle.audit.specs.Audit.{drift_finite, column_verdict_given, column_verdict, verdict_with, SameWeighed}
 use Rattle.audit.specs.Lists.{entry_in, weighed_in, audited_in}
 use Rattle.audit.proofs.Same.{same_drift, same_given, same_joined}
 use Rattle.audit.proofs.Listed.{unread}
 use Rattle.survey.specs.Survey.{Survey, wells, columns, size}
 use Rattle.kriging_theory.specs.Drift.{DriftIn, drift, node_row}
-use Rattle.kriging_theory.specs.Node.{right_hand_of, right_hand, z_of, variance_of, figure_of, weighed_of, audit_of, Solution, solution_of, Node, node_with, node_of}
+use Rattle.kriging_theory.specs.Node.{right_hand_of, right_hand, z_of, variance_of, figure_of, weighed_of, audit_of, solution_of, node_with, node_of}
 use Rattle.kriging_theory.proofs.SystemDrift.{node_row_length}
 use Rattle.kriging_theory.proofs.System.{right_length}
 

@@ -18,9 +18,9 @@ use Rattle.area.proofs.Filled.{next_row, one_fill}
 use Rattle.ieee.specs.Floats.{zero_float}
 use Rattle.survey.specs.Survey.{Survey, wells, node_count, columns, size}
 use Rattle.kriging_theory.specs.Areas.{Areas, areas_of}
-use Rattle.kriging_theory.specs.Node.{Node, node_of}
+use Rattle.kriging_theory.specs.Node.{Node}
 use Rattle.system_theory.specs.Slopes.{slope}
-use Rattle.kriging_theory.specs.Fit.{multiplier, answered}
+use Rattle.kriging_theory.specs.Fit.{answered}
 
 -- a row of so many of a list's numbers lies inside
 pub row_inside : (w q m len : ℕ) → q < m → w * m ≤ len → q * w + w ≤ len

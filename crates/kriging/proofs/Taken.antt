@@ -1,9 +1,9 @@
 -- What a fit that no rule of the library turns away has been tested for, as its code uses it: the lengths of its lists and areas, and its counts.
-use Prim.Native.Nat.{ℕ, ◌+◌, ◌*◌, ◌^◌, ◌≤◌, ◌<◌}
+use Prim.Native.Nat.{ℕ, ◌*◌, ◌≤◌, ◌<◌}
 use native.Mathlib.Decide.{dec_lt}
 use native.Mathlib.Omega.{arith}
-use mathlib.Core.Path.{◌≡◌, refl}
-use mathlib.Core.Logic.{◌≢◌, inl, inr}
+use mathlib.Core.Path.{◌≡◌}
+use mathlib.Core.Logic.{inl, inr}
 use lib.ListN.{length}
 use Rattle.error.specs.Rules.{NoneApplies, Condition}
 use Rattle.error.proofs.Tells.{stable, equal}
@@ -14,7 +14,7 @@ use Rattle.survey.specs.Survey.{Survey, wells, node_count, columns, externals, s
 use Rattle.survey.proofs.Codes.{held_exact}
 use Rattle.kriging_theory.specs.Areas.{Areas, answer_areas}
 use Rattle.kriging_theory.specs.Rules.{rules}
-use Rattle.kriging_theory.specs.Refusals.{tests, refusal}
+use Rattle.kriging_theory.specs.Refusals.{refusal}
 use Rattle.kriging_theory.proofs.Endings.{told}
 
 module _ (s : Survey) (a : Areas) (taken : refusal library s a ≡ 0) where

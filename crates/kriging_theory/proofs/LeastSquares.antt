@@ -1,6 +1,6 @@
 -- The trend's estimate in exact arithmetic: it solves the system with the values on the right, it is the generalised-least-squares one, and where the
 -- values are a trend it is that trend.
-use Prim.Native.Nat.{ℕ, suc, ◌<◌}
+use Prim.Native.Nat.{ℕ, zero, suc, ◌<◌}
 use native.Mathlib.Omega.{arith}
 use mathlib.Core.Path.{◌≡◌, refl, ap, ap₂, sym, ◌∙◌}
 use mathlib.Core.Logic.{⊎_elim}
@@ -27,6 +27,7 @@ none n f h = sumℤ_same n f (λ i. pos 0) h ∙ sumℤ_zero n
 
 -- a row of D times the identity
 one : (n i : ℕ) (D : ℤ) (f : ℕ → ℤ) → i < n → sumℤ n (λ k. cond (eqb i k) D (pos 0) *ℤ f k) ≡ D *ℤ f i
+one zero i D f l = elim l [ ]
 one (suc n) i D f l =
     ⊎_elim
     (λ h.

@@ -3,7 +3,7 @@ use Prim.Native.Nat.{◌≤◌, ◌<◌}
 use native.Mathlib.Omega.{arith}
 use mathlib.Core.Path.{◌≡◌, refl, ap, sym, ◌∙◌}
 use mathlib.Core.Logic.{◌⊎◌}
-use mathlib.Core.Bool.{Bool, false}
+use mathlib.Core.Bool.{Bool}
 use mathlib.Core.List.{[], ◌∷◌, ◌++◌}
 use Rattle.error.specs.declared.Refusal.{Refusal}
 use Rattle.error.specs.Numbers.{number_of}
@@ -12,7 +12,7 @@ use Rattle.error.specs.Tests.{test, first_of}
 use Rattle.error.specs.Rules.{Condition}
 use Rattle.error.proofs.First.{other, first_given, numbers}
 use Rattle.error.proofs.Tells.{refute, below}
-use Rattle.elimination.specs.Call.{work_tests, called}
+use Rattle.elimination.specs.Call.{work_tests}
 use Rattle.elimination.proofs.Call.{refused_there}
 use Rattle.survey.specs.declared.Limits.{Limits}
 use Rattle.survey.specs.Limits.{library, program}

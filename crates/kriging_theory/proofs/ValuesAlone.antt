@@ -9,7 +9,7 @@ use lib.ListN.{length, get_or}
 use lib.Ieee.{Float, nan}
 use Rattle.ieee.specs.Floats.{zero_float}
 use Rattle.survey.specs.declared.Limits.{Limits}
-use Rattle.survey.specs.Survey.{Survey, wells, node_count, columns, column_sum, size}
+use Rattle.survey.specs.Survey.{Survey, node_count, columns, column_sum, size}
 use Rattle.kriging_theory.specs.Areas.{Areas}
 use Rattle.kriging_theory.specs.Node.{right_hand, Solution, solution_of, node_with, node_of}
 use Rattle.kriging_theory.specs.Fit.{worked, fitted}

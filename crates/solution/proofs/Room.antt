@@ -1,8 +1,8 @@
 -- z and the trend where there is room, and where there is none.
 use Prim.Native.Nat.{ℕ, ◌-◌, ◌*◌, ◌≤◌, ◌<◌}
 use native.Mathlib.Omega.{arith}
-use mathlib.Core.Path.{◌≡◌, refl, ap, ◌∙◌}
-use mathlib.Core.Bool.{true, false, ◌||◌}
+use mathlib.Core.Path.{◌≡◌, ap, ◌∙◌}
+use mathlib.Core.Bool.{true, false}
 use mathlib.Core.List.{List}
 use borrow.Author.Tests.{lt-ltb, le-ltb}
 use lib.Dec.{ltb}
@@ -10,9 +10,9 @@ use lib.ListN.{length, get_or}
 use lib.Ieee.{Float, nan}
 use Rattle.area.specs.Area.{written}
 use Rattle.elimination.specs.Inverse.{times_inverse}
-use Rattle.solution.specs.Solution.{no_room, solved}
+use Rattle.solution.specs.Solution.{solved}
 use Rattle.system_theory.specs.Slopes.{slope}
-use Rattle.solution.specs.Slopes.{no_trend, estimated}
+use Rattle.solution.specs.Slopes.{estimated}
 
 -- every list is long enough
 pub solved_is : (size : ℕ) (work b z : List Float) → 2 * size * size ≤ length work → size ≤ length b → size ≤ length z
