@@ -1,7 +1,7 @@
 -- How the semivariogram's call ends: each number exactly when; a refusal writes nothing; and of an accepted call the counts written add up to n(n−1)/2, each
 -- kept bin is written at its rank with its centre, its average over the pairs whose bin it is, and their number, and nothing else is written.
 use Prim.Native.Nat.{ℕ, zero, suc, ◌-◌, ◌≤◌, ◌<◌}
-use native.Mathlib.Nat.{zero-add, sub_zero}
+use native.Mathlib.Nat.{zero-add, sub-zero}
 use native.Mathlib.Omega.{arith}
 use mathlib.Core.Path.{◌≡◌, refl, ap, sym, subst, ◌∙◌}
 use mathlib.Core.Logic.{◌≢◌, ◌↔◌}
@@ -48,7 +48,7 @@ kept_place q r l =
       record {
         bin = subst (λ (n : ℕ). b < n) (zero-add q.bins) k.most;
         pair = ltb-true 0 (length (pairs_in q b)) k.passes;
-        rank = ap (λ (n : ℕ). length (filtered (is_kept q) (rising 0 n))) (sym (sub_zero b)) ∙ k.rank;
+        rank = ap (λ (n : ℕ). length (filtered (is_kept q) (rising 0 n))) (sym (sub-zero b)) ∙ k.rank;
       },
     )
 
