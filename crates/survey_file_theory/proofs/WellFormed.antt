@@ -1,5 +1,5 @@
 -- Which bytes the reader takes: those that are well formed, in areas with room; `Malformed` and `TooShort` are exactly the opposites.
-use Prim.Native.Nat.{ℕ, ◌-◌, ◌*◌, ◌≤◌, ◌<◌}
+use Prim.Native.Nat.{ℕ, ◌-◌, ◌≤◌, ◌<◌}
 use native.Mathlib.Omega.{arith}
 use mathlib.Core.Path.{◌≡◌, ap}
 use mathlib.Core.Logic.{◌↔◌, inl, inr}
@@ -12,7 +12,7 @@ use Rattle.error.proofs.Tells.{affirm, refute, stable, equal}
 use Rattle.error.proofs.Short.{area_at, short_told, none_short, long_at}
 use Rattle.survey.specs.Survey.{Survey}
 use Rattle.survey_file_theory.specs.Areas.{Areas, list_areas}
-use Rattle.survey_file_theory.specs.Trailer.{wells_in, nodes_in, bases_in, externals_in, model_in, version_in, zero_in, last_zero_in}
+use Rattle.survey_file_theory.specs.Trailer.{wells_in, bases_in, model_in, version_in, zero_in, last_zero_in}
 use Rattle.survey_file_theory.specs.Rules.{stated_length, Malformed, WellFormed, ListsFit}
 use Rattle.survey_file_theory.specs.Reader.{survey_in, unless_malformed, read_bytes}
 use Rattle.survey_file_theory.proofs.Told.{version_told, malformed_told}
