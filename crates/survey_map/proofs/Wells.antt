@@ -1,5 +1,5 @@
 -- What is printed above 48 wells, and up to them.
-use Prim.Native.Nat.{ℕ, zero, suc, ◌≤◌}
+use Prim.Native.Nat.{ℕ, zero, suc}
 use native.Mathlib.Omega.{arith}
 use mathlib.Core.Path.{◌≡◌, refl, ap}
 use mathlib.Core.Logic.{◌≢◌}
@@ -7,7 +7,7 @@ use Rattle.error.specs.Outcome.{Outcome}
 use Rattle.error.specs.Rules.{First}
 use Rattle.error.proofs.Rules.{ruled_exactly}
 use Rattle.error.proofs.Tells.{stable, equal}
-use Rattle.survey.specs.Limits.{library, program}
+use Rattle.survey.specs.Limits.{program}
 use Rattle.survey.specs.Survey.{Survey}
 use Rattle.kriging_theory.specs.Areas.{Areas}
 use Rattle.kriging_theory.specs.Rules.{rules}
