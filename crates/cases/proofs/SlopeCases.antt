@@ -1,5 +1,5 @@
 -- Sounding B's wells in exact arithmetic, computed entry by entry.
-use Prim.Native.Nat.{ℕ, zero, suc, ◌<◌}
+use Prim.Native.Nat.{zero, suc, ◌<◌}
 use native.Mathlib.Omega.{arith}
 use mathlib.Core.Path.{◌≡◌, refl}
 use lib.IntN.{◌*ℤ◌}
