@@ -1,6 +1,6 @@
 /* nakwemol: universal kriging with an audit, the interpolator, the semivariogram and the survey file, for C.
  *
- * Link target/staticlib/libnakwemol.a, which `rt staticlib nakwemol` writes (x86-64 Linux). It needs no other library but C's.
+ * Link target/staticlib/libnakwemol.a, which `tools/build nakwemol` writes (x86-64 Linux). It needs no other library but C's.
  * Each function is proved to give what the call behind it is defined to give; docs/REFERENCE.md has the formulas, by section.
  *
  * How every call is made

@@ -1,4 +1,4 @@
-//! Finds the archive that `rt staticlib nakwemol` writes: in the folder that NAKWEMOL_ARCHIVE names, else in target/staticlib of this repository.
+//! Finds the archive that `tools/build nakwemol` writes: in the folder that NAKWEMOL_ARCHIVE names, else in target/staticlib of this repository.
 use std::env;
 use std::path::{Path, PathBuf};
 
@@ -15,7 +15,7 @@ fn main() {
     println!("cargo:rerun-if-env-changed=NAKWEMOL_ARCHIVE");
     println!("cargo:rerun-if-changed={}", archive.display());
     if !archive.is_file() {
-        eprintln!("{} is not there: make it by `rt staticlib nakwemol`, or name its folder in NAKWEMOL_ARCHIVE", archive.display());
+        eprintln!("{} is not there: make it by `tools/build nakwemol`, or name its folder in NAKWEMOL_ARCHIVE", archive.display());
         std::process::exit(1);
     }
     println!("cargo:rustc-link-search=native={}", folder.display());

@@ -7,13 +7,14 @@ from pathlib import Path
 from mapper.errors import Stop
 from mapper.progress import some_time
 from mapper.runs.crates import Count, CrateLine, dependencies, reached
-from mapper.runs.proving import Step, alone, run_steps
+from mapper.runs.proving import Step, alone, run_step
 
 ROOT = Path(__file__).resolve().parents[2]
-PROGRAM, STAMPS = Path('target/bin/wellmap'), Path('target/stamp')
+PROGRAM = Path('target/bin/wellmap')
 ARCHIVE, SHARED = Path('target/staticlib/libnakwemol.a'), Path('target/staticlib/libnakwemol.so')
-# Crates that are proved at once, on average: rt uses four cores at most, and begins the next crates only when all that it has begun are done.
-AT_ONCE = max(1.0, 0.7 * min(os.cpu_count() or 1, 4))
+PROVED = Path('out/rlib/stamp')  # in a crate's folder: rt writes it once the crate is proved and its library is there
+# Cores that are kept busy, on average: rt proves one crate after another, and gives a large one up to four cores and a small one two.
+AT_ONCE = max(1.0, 0.5 * min(os.cpu_count() or 1, 4))
 NO_COMPILER = 'There is no C compiler (cc) to link the library of the proved calls with. '
 
 
@@ -57,52 +58,36 @@ def build(tell, progress, *wanted):
         if PROGRAM in lacking or ARCHIVE in lacking:
             prove(tell, progress, PROGRAM in lacking, ARCHIVE in lacking, lock)
         if SHARED in lacking:
-            run_steps(ROOT, [Step(['bindings/python/link'], 'map-link.log', SHARED)], lock)
+            run_step(ROOT, Step(['bindings/python/link'], 'map-link.log', SHARED), lock)
     if missing(*wanted):
         raise Stop(f'{missing(*wanted)[0]} was not made, though no command failed. What was printed is in {ROOT / "target"}/map-*.log.')
 
 
-def steps_of(with_program, with_archive):
-    """The commands, and the crates that they prove.
-
-    `rt staticlib` proves on one core, one crate after another, and its own crate whether that was proved before or not. So `rt check` proves all that this
-    crate needs, on all cores, and not the crate; which is proved beside the program's last crates, as soon as what it needs is there.
-    """
-    needs = dependencies(ROOT / 'crates.txt')
-    checked = ['wellmap'] * with_program + needs.get('nakwemol', []) * with_archive
-    steps = [Step(['rt', 'check', *checked], 'map-check.log', PROGRAM if with_program else None)] if checked else []
-    if with_archive:
-        steps.append(Step(['rt', 'staticlib', 'nakwemol'], 'map-staticlib.log', ARCHIVE, reached(needs.get('nakwemol', []), needs)))
-    return steps, reached(checked + ['nakwemol'] * with_archive, needs)
+def step_of(with_program, with_archive):
+    """The command, and the crates that it proves."""
+    names = ['wellmap'] * with_program + ['nakwemol'] * with_archive
+    return Step(['tools/build', *names], 'map-build.log'), reached(names, dependencies(ROOT / 'crates.txt'))
 
 
 def prove(tell, progress, with_program, with_archive, lock):
     """Proves the program, the archive or both; says so before and after."""
-    if with_program:
-        (ROOT / STAMPS / 'wellmap').unlink(missing_ok=True)  # `rt check` would not link again what it has proved before
-    steps, crates = steps_of(with_program, with_archive)
+    step, crates = step_of(with_program, with_archive)
     count, began = Count(crates, AT_ONCE, done(crates)), time.monotonic()
-    tell(f'{not_built(with_program, with_archive)}: {proved_by(steps)} now, which takes {some_time(count.ahead)} and is done once. '
-         'Ctrl-C loses only the crates in hand.')
+    tell(f'{not_built(with_program, with_archive)}: `{" ".join(step.command)}` proves and builds {"them" if with_program and with_archive else "it"} now, '
+         f'which takes {some_time(count.ahead)} and is done once. Ctrl-C loses only the crate in hand.')
     try:
         with CrateLine(count, progress) as line:
-            run_steps(ROOT, steps, lock, lambda: line.show(done(crates)))
+            run_step(ROOT, step, lock, lambda: line.show(done(crates)))
     except KeyboardInterrupt:
-        raise KeyboardInterrupt(f'stopped: {len(done(crates))} of {len(crates)} crates are proved and stay so, only those in hand are lost. '
+        raise KeyboardInterrupt(f'stopped: {len(done(crates))} of {len(crates)} crates are proved and stay so, only the one in hand is lost. '
                                 'The next run goes on from there; no map was written.')
     tell(f'Built in {time.monotonic() - began:.0f} s.')
 
 
 def done(crates):
     """Those of the crates that are proved."""
-    return [name for name in crates if (ROOT / (ARCHIVE if name == 'nakwemol' else STAMPS / name)).is_file()]
-
-
-def proved_by(steps):
-    """What is done, in words."""
-    if len(steps) == 1:
-        return f'`{" ".join(steps[0].command)}` proves and builds it'
-    return '`rt check` and `rt staticlib nakwemol` prove and build ' + ('them' if 'wellmap' in steps[0].command else 'it')
+    made = {'wellmap': PROGRAM, 'nakwemol': ARCHIVE}
+    return [name for name in crates if (ROOT / made.get(name, Path('crates', name, PROVED))).is_file()]
 
 
 def not_built(with_program, with_archive):

@@ -1,12 +1,10 @@
 """The crates that a build proves: which they are, how many are proved, and how long the others will take."""
-import re
 import time
 from pathlib import Path
 
 from mapper.progress import Line, some_time
 
-# A crate a line, with the seconds of one core that it takes, about. Made anew, in a clone with no target/, by
-#     RT_JOBS=1 rt check nakwemol wellmap | sed -n 's/^rt: \(.*\) proved (\([0-9]*\) s)$/\1 \2/p' > mapper/runs/crate_seconds.txt
+# A crate a line, with the seconds of one core that it takes, about: `python3 -m mapper.developers.crate_seconds` makes it anew.
 SECONDS = Path(__file__).with_name('crate_seconds.txt')
 UNKNOWN = 10.0  # seconds of a crate that is not in the table
 STEADY = 60.0   # seconds that the table is believed for, before this machine's own pace counts as much
@@ -18,7 +16,7 @@ def dependencies(path):
     if not path.is_file():
         return {}
     lines = (line.split('#')[0].partition(':') for line in path.read_text(encoding='utf-8').splitlines())
-    found = {name.strip(): needs.split() for name, colon, needs in lines if colon}
+    found = {head.split()[0]: needs.split() for head, colon, needs in lines if colon}  # behind a name its kind may stand
     return {name: [each for each in needs if each in found] for name, needs in found.items()}
 
 
@@ -34,11 +32,6 @@ def seconds_of(crates):
     """How long each crate takes."""
     table = dict(line.split() for line in SECONDS.read_text(encoding='utf-8').splitlines())
     return {name: float(table.get(name, UNKNOWN)) for name in crates}
-
-
-def proved_in(text):
-    """The crates that a run of `rt check` has said to be proved."""
-    return set(re.findall(r'^rt: (\w+) proved \(', text, re.M))
 
 
 class Count:

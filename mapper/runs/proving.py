@@ -5,12 +5,11 @@ import os
 import signal
 import subprocess
 import threading
-from dataclasses import dataclass, field
+from dataclasses import dataclass
 from pathlib import Path
 from typing import List, Optional
 
 from mapper.errors import Stop
-from mapper.runs.crates import proved_in
 
 POLL = 0.2
 LOCK = 'map-build.lock'
@@ -18,11 +17,10 @@ LOCK = 'map-build.lock'
 
 @dataclass
 class Step:
-    """A command, the file in target/ for what it prints, the file that it makes, and the crates that have to be proved before it begins."""
+    """A command, the file in target/ for what it prints, and the file that it may leave half written."""
     command: List[str]
     log: str
     makes: Optional[Path] = None
-    after: List[str] = field(default_factory=list)
 
 
 @contextlib.contextmanager
@@ -61,31 +59,18 @@ def stoppable():
             signal.signal(each, signal.SIG_DFL)
 
 
-def run_steps(root, steps, lock, show=lambda: None):
-    """Runs the steps, each as soon as it can begin; `show` is called every now and then. A step that fails ends the others, and so does Ctrl-C."""
+def run_step(root, step, lock, show=lambda: None):
+    """Runs the step; `show` is called every now and then. Ctrl-C ends it, with all that it started."""
     with stoppable():
-        take_steps(root, steps, lock, show)
-
-
-def take_steps(root, steps, lock, show):
-    """The first step at once, the others as soon as it says that what they need is proved."""
-    waiting, running = steps[1:], [(steps[0], begin(root, steps[0], lock))]
-    try:
-        while waiting or running:
-            proved = proved_in((root / 'target' / steps[0].log).read_text(encoding='utf-8', errors='replace'))
-            for step in [each for each in waiting if proved.issuperset(each.after) or not running]:
-                waiting.remove(step)
-                running.append((step, begin(root, step, lock)))
-            show()
-            for each in list(running):
-                if ended(root, *each):
-                    running.remove(each)
-    except BaseException:
-        for step, process in running:
+        process = begin(root, step, lock)
+        try:
+            while not ended(root, step, process):
+                show()
+        except BaseException:
             end(process)
             if step.makes:
-                (root / step.makes).unlink(missing_ok=True)  # it may be half written
-        raise
+                (root / step.makes).unlink(missing_ok=True)
+            raise
 
 
 def begin(root, step, lock):

@@ -1,5 +1,6 @@
 """The program and the calls are built where they are not there, and it is said; an `rt` that is none stands for the toolchain."""
 import os
+import shutil
 import sys
 import time
 from pathlib import Path
@@ -7,17 +8,20 @@ from unittest import mock
 
 from mapper.errors import Stop
 from mapper.runs import building as built
-from mapper.tests.support import Folder
+from mapper.tests.support import ROOT, Folder
 
-CRATES = '# a comment: none\nlow:\nhigh: low io\nmap: low\nwellmap: map\nnakwemol: low high\n'
-# What the toolchain does, as far as it is looked at: a line and a stamp for each crate, and the files. `asked` has the commands in their order.
-RT = '''echo "$*" >> asked
-mkdir -p target/bin target/stamp target/staticlib
+CRATES = '# a comment: none\nlow:\nhigh: low io\nmap: low\nwellmap: map\nnakwemol staticlib: low high\n'
+# What the toolchain does in a crate's folder, as far as it is looked at: a stamp for each library that it proves, and the file that it makes. `asked` has the
+# commands in their order.
+RT = '''echo "${PWD##*/}: $*" >> ../../asked
+mkdir -p out
+proved() { for crate in $*; do mkdir -p ../$crate/out/rlib; touch ../$crate/out/rlib/stamp; done; }
 case $1 in
-check) for crate in low high map; do touch target/stamp/$crate; echo "rt: $crate proved (1 s)"; done
+run) proved low map
     %s
-    touch target/bin/wellmap target/stamp/wellmap ;;
-staticlib) echo "archive of $2"; touch target/staticlib/libnakwemol.a ;;
+    echo a program > out/wellmap ;;
+lib) proved low high
+    echo an archive > out/libnakwemol.a ;;
 esac'''
 
 
@@ -25,7 +29,11 @@ class Built(Folder):
     def setUp(self):
         super().setUp()
         self.said = []
-        (self.folder / 'tools').mkdir()
+        for name in ('tools', 'crates/wellmap/src', 'crates/nakwemol/src'):
+            (self.folder / name).mkdir(parents=True)
+        self.file(CRATES, 'crates.txt')
+        self.file('', 'crates/wellmap/src/main.rt')
+        shutil.copy(ROOT / 'tools/build', self.folder / 'tools/build')
         for patch in (mock.patch.object(built, 'ROOT', self.folder), mock.patch.dict(os.environ, {'PATH': f'{self.folder}/tools:/usr/bin:/bin'})):
             patch.start()
             self.addCleanup(patch.stop)
@@ -64,14 +72,14 @@ class Program(Built):
         self.tool(RT % '')
         for _ in range(2):
             self.assertEqual(built.program(self.said.append), f'{self.folder}/target/bin/wellmap')
-        self.assertEqual(self.asked(), ['check wellmap'])
-        self.assertIn('The program is not built yet: `rt check wellmap` proves and builds it now, which takes some ', self.said[0])
-        self.assertTrue(self.said[0].endswith(' and is done once. Ctrl-C loses only the crates in hand.'), self.said[0])
+        self.assertEqual(self.asked(), ['wellmap: run'])
+        self.assertIn('The program is not built yet: `tools/build wellmap` proves and builds it now, which takes some ', self.said[0])
+        self.assertTrue(self.said[0].endswith(' and is done once. Ctrl-C loses only the crate in hand.'), self.said[0])
         self.assertIn('Built in', self.said[1])
 
     def test_one_that_was_removed_is_built_again(self):
-        """The real `rt check` leaves a crate alone that it has a stamp for, whether its program is there or not."""
-        self.tool('[ -f target/stamp/wellmap ] || { mkdir -p target/bin target/stamp; touch target/bin/wellmap target/stamp/wellmap; }')
+        """The real `rt run` makes nothing anew where nothing has changed since."""
+        self.tool('[ -d out ] || { mkdir out; touch out/wellmap; }')
         for _ in range(2):
             path = built.program(self.said.append)
             os.unlink(path)
@@ -82,15 +90,37 @@ class Program(Built):
         self.assertEqual(self.said, [])
 
     def test_build_that_fails(self):
-        self.tool('mkdir -p target/bin; echo half > target/bin/wellmap; echo not proved; exit 1')
+        self.tool('mkdir out; echo half > out/wellmap; echo not proved >&2; exit 1')
         said = self.stopped(built.program)
         self.assertFalse((self.folder / built.PROGRAM).exists(), 'half a program would be taken for one')
-        self.assertIn(f'`rt check wellmap` did not end well (status 1). What it printed is in {self.folder}/target/map-check.log.', said)
-        self.assertEqual((self.folder / 'target/map-check.log').read_text(), 'not proved\n')
+        self.assertIn(f'`tools/build wellmap` did not end well (status 1). What it printed is in {self.folder}/target/map-build.log.', said)
+        self.assertEqual((self.folder / 'target/map-build.log').read_text(), 'not proved\n')
 
     def test_build_that_makes_nothing(self):
-        self.tool('echo made nothing')
+        self.tool('')
+        self.tool('echo made nothing', 'tools/build')
         self.assertIn('target/bin/wellmap was not made, though no command failed', self.stopped(built.program))
+
+    def test_program_that_writes_something_else(self):
+        """It is run on its file stdin, and has to write what its file stdout has."""
+        self.tool('mkdir -p out; cat; touch out/wellmap')
+        self.file('nodes 25\n', 'crates/wellmap/stdin')
+        self.file('nodes 26\n', 'crates/wellmap/stdout')
+        self.assertIn('`tools/build wellmap` did not end well (status 1)', self.stopped(built.program))
+        self.assertIn('tools/build: wellmap writes something else than its file stdout has', (self.folder / 'target/map-build.log').read_text())
+        self.assertFalse((self.folder / built.PROGRAM).exists())
+        self.file('nodes 25\n', 'crates/wellmap/stdout')
+        self.assertTrue(Path(built.program(self.said.append)).is_file())
+
+    def test_what_is_proved(self):
+        """By the stamp of each library, and by what is made of the program and the archive."""
+        self.assertEqual(built.done(['low', 'map', 'wellmap']), [])
+        self.tool(RT % 'exit 1')
+        self.stopped(built.program)
+        self.assertEqual(built.done(['low', 'map', 'wellmap']), ['low', 'map'])
+        self.tool(RT % '')
+        built.program(self.said.append)
+        self.assertEqual(built.done(['low', 'high', 'map', 'wellmap']), ['low', 'map', 'wellmap'])
 
     def test_named_elsewhere(self):
         with mock.patch.dict(os.environ, {'NAKWEMOL_WELLMAP': str(self.folder / 'none')}):
@@ -105,34 +135,31 @@ class Program(Built):
 class Library(Built):
     def setUp(self):
         super().setUp()
-        self.file(CRATES, 'crates.txt')
         self.tool('echo linked; touch target/staticlib/libnakwemol.so', 'bindings/python/link')
 
     def test_built_with_the_program(self):
-        """One call proves on all cores what both need; the archive is begun beside the program, once the crates that it needs are proved, not after it."""
-        self.tool(RT % 'while [ ! -f target/staticlib/libnakwemol.a ]; do sleep 0.01; done')
+        """One command proves what both need, each crate once."""
+        self.tool(RT % '')
         built.library(self.said.append)
-        self.assertEqual(self.asked(), ['check wellmap low high', 'staticlib nakwemol'])
+        self.assertEqual(self.asked(), ['wellmap: run', 'nakwemol: lib'])
         self.assertIn('The program and the library of the proved calls are not built yet: ', self.said[0])
-        self.assertIn(': `rt check` and `rt staticlib nakwemol` prove and build them now, which takes some ', self.said[0])
+        self.assertIn(': `tools/build wellmap nakwemol` proves and builds them now, which takes some ', self.said[0])
         self.assertTrue(built.library_there())
         self.assertEqual(built.program(self.said.append), f'{self.folder}/target/bin/wellmap')
         self.assertEqual(len(self.said), 2)
 
     def test_every_log_is_kept(self):
-        self.tool(RT % '')
+        self.tool(RT % 'echo proved >&2')
         built.library(self.said.append)
-        logs = [(self.folder / f'target/map-{name}.log').read_text().splitlines()[-1] for name in ('check', 'staticlib', 'link')]
-        self.assertEqual(logs, ['rt: map proved (1 s)', 'archive of nakwemol', 'linked'])
+        logs = [(self.folder / f'target/map-{name}.log').read_text() for name in ('build', 'link')]
+        self.assertEqual(logs, ['proved\ntools/build: target/bin/wellmap\ntools/build: target/staticlib/libnakwemol.a\n', 'linked\n'])
 
     def test_alone_where_the_program_is_there_or_named(self):
         self.tool(RT % '')
-        (self.folder / 'target').mkdir()
-        self.file('rt: low proved (1 s)\nrt: high proved (1 s)\n', 'target/map-check.log')  # of an earlier run, which says nothing of this one
         with mock.patch.dict(os.environ, {'NAKWEMOL_WELLMAP': sys.executable}):
             built.library(self.said.append)
-        self.assertEqual(self.asked(), ['check low high', 'staticlib nakwemol'])
-        self.assertIn('The library of the proved calls is not built yet: `rt check` and `rt staticlib nakwemol` prove and build it now', self.said[0])
+        self.assertEqual(self.asked(), ['nakwemol: lib'])
+        self.assertIn('The library of the proved calls is not built yet: `tools/build nakwemol` proves and builds it now', self.said[0])
 
     def test_linked_alone(self):
         """The archive is there: no toolchain is needed, and nothing is said."""
@@ -155,9 +182,8 @@ class Library(Built):
                           self.stopped(lambda tell: built.library(tell, False, 'Or do without it.')))
         self.assertFalse((self.folder / 'asked').exists())
 
-    def test_archive_that_fails_ends_the_rest(self):
-        self.tool('mkdir -p target/staticlib; [ $1 = check ] || { echo half > target/staticlib/libnakwemol.a; exit 3; }\n'
-                  'echo "rt: low proved (1 s)"; echo "rt: high proved (1 s)"; sleep 60 & echo $! > sleeper; wait')
-        self.assertIn('`rt staticlib nakwemol` did not end well (status 3)', self.stopped(built.library))
-        self.assertFalse((self.folder / built.ARCHIVE).exists())
-        self.assert_gone(int((self.folder / 'sleeper').read_text()))
+    def test_archive_that_fails(self):
+        """The program, which was built before it, stays."""
+        self.tool('mkdir -p out; echo half > out/libnakwemol.a; touch out/wellmap; [ $1 = run ] || exit 3')
+        self.assertIn('`tools/build wellmap nakwemol` did not end well (status 3)', self.stopped(built.library))
+        self.assertEqual(((self.folder / built.PROGRAM).exists(), (self.folder / built.ARCHIVE).exists()), (True, False))

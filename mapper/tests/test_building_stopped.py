@@ -8,7 +8,7 @@ import threading
 
 from mapper.runs import building as built
 from mapper.tests.support import ROOT
-from mapper.tests.test_building import CRATES, RT, Built
+from mapper.tests.test_building import RT, Built
 
 THREE = 'x,y,level\n1,2,3\n4,5,6\n7,9,8\n'
 RUN = '''import signal, sys
@@ -31,13 +31,12 @@ class Stopped(Built):
         return running, int(note.read_text())
 
     def test_ctrl_c_a_closed_window_and_a_kill(self):
-        self.file(CRATES, 'crates.txt')
-        self.tool('mkdir -p target/stamp; touch target/stamp/low; echo "rt: low proved (1 s)"; sleep 60 & echo $! > sleeper; wait')
+        self.tool('mkdir -p ../low/out/rlib; touch ../low/out/rlib/stamp; sleep 60 & echo $! > ../../sleeper; wait')
         for stop in (signal.SIGINT, signal.SIGHUP, signal.SIGTERM):
             running, sleeper = self.begun(stdout=subprocess.PIPE, stderr=subprocess.PIPE, text=True)
             running.send_signal(stop)
             _, said = running.communicate(timeout=20)
-            self.assertEqual((running.returncode, said), (130, 'map: stopped: 1 of 5 crates are proved and stay so, only those in hand are lost. '
+            self.assertEqual((running.returncode, said), (130, 'map: stopped: 1 of 5 crates are proved and stay so, only the one in hand is lost. '
                                                                'The next run goes on from there; no map was written.\n'), stop)
             self.assert_gone(sleeper)
             (self.folder / 'sleeper').unlink()
@@ -58,7 +57,7 @@ class Stopped(Built):
 
     def test_what_is_left_of_a_run_is_waited_for(self):
         """A run that is killed leaves its toolchain behind: that has the lock still."""
-        self.tool('sleep 60 & echo $! > sleeper; wait')
+        self.tool('sleep 60 & echo $! > ../../sleeper; wait')
         running, sleeper = self.begun(stdout=subprocess.DEVNULL, stderr=subprocess.DEVNULL)
         running.kill()
         running.wait()

@@ -9,7 +9,7 @@ archive=${NAKWEMOL_ARCHIVE:-$root/target/staticlib}
 out=$root/target/bench
 for name in nakwemol timed; do
     if [ ! -f "$archive/lib$name.a" ]; then
-        echo "$archive/lib$name.a is not there: make it by rt staticlib $name, or name its folder in NAKWEMOL_ARCHIVE" >&2
+        echo "$archive/lib$name.a is not there: make it by tools/build $name, or name its folder in NAKWEMOL_ARCHIVE" >&2
         exit 1
     fi
 done

@@ -1,4 +1,4 @@
-"""Runs of `rt`."""
+"""Runs of `rt` and of the prover."""
 import os
 import signal
 import subprocess
@@ -24,7 +24,7 @@ def wait_for_group(group):
 
 
 class Checks:
-    """Runs `rt`, each in a process group of its own, so that an interrupted run leaves none behind; the prover's temporary files are in one folder."""
+    """Runs commands, each in a process group of its own, so that an interrupted run leaves none behind; the prover's temporary files are in one folder."""
 
     def __init__(self, temporary):
         self.environment = {**os.environ, "TMPDIR": str(temporary)}
@@ -36,13 +36,13 @@ class Checks:
             if self.stopped:
                 raise Stopped
             process = subprocess.Popen(
-                ["rt", *words], cwd=folder, env=self.environment, stdin=subprocess.DEVNULL, stdout=out, stderr=subprocess.STDOUT, start_new_session=True
+                words, cwd=folder, env=self.environment, stdin=subprocess.DEVNULL, stdout=out, stderr=subprocess.STDOUT, start_new_session=True
             )
             self.running.add(process)
         return process
 
     def end(self, process):
-        """The exit status, once it is there. Of an interrupted run the prover that `rt` began has to be gone too: it writes into its room."""
+        """The exit status, once it is there. Of an interrupted run what the command began has to be gone too: it writes into its room."""
         status = process.wait()
         with self.lock:
             self.running.discard(process)
@@ -53,18 +53,9 @@ class Checks:
         return status
 
     def run(self, words, folder, log):
-        """The exit status of `rt WORDS` in the folder; what it prints goes to the log."""
+        """The exit status of the command in the folder; what it prints goes to the log."""
         with open(log, "wb") as out:
             return self.end(self.begin(words, folder, out))
-
-    def follow(self, words, folder, log, tell):
-        """The same, and each line is told as it comes."""
-        process = self.begin(words, folder, subprocess.PIPE)
-        with open(log, "wb") as out:
-            for line in process.stdout:
-                out.write(line)
-                tell(line.decode("utf-8", errors="replace").rstrip("\n"))
-        return self.end(process)
 
     def stop(self):
         """Ends every check that is under way, and lets none begin."""

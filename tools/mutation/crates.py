@@ -3,13 +3,21 @@ from .edits import FOLDERS
 
 
 class Crate:
-    """A crate: its folder, what it stands on, and the edits of it that are asked for."""
+    """A crate: its folder, what it stands on, of the repository and of the kit, and the edits of it that are asked for."""
 
-    def __init__(self, root, name, needs):
-        self.name, self.needs, self.root = name, needs, root
+    def __init__(self, root, name, is_static, needs, of_kit):
+        self.name, self.is_static, self.needs, self.of_kit, self.root = name, is_static, needs, of_kit, root
         self.folder = root / "crates" / name
         self.is_program = (self.folder / "src" / "main.rt").is_file()
+        self.library = self.folder / "out" / "rlib" / f"{name}.rlib"  # where `rt lib` puts it
         self.edits = []
+
+    def below(self):
+        """The crates of the repository that it stands on, lowest first."""
+        found = []
+        for need in self.needs:
+            found += [each for each in [*need.below(), need] if each not in found]
+        return found
 
     def edits_in(self, folders):
         """The crate's edits in these of its folders, in the order of their names."""
@@ -18,23 +26,25 @@ class Crate:
 
 def listed(root):
     """Every crate that crates.txt lists, by name, lowest first: a crate comes after all that it stands on."""
-    needs = {}
+    lines = {}
     for line in (root / "crates.txt").read_text(encoding="utf-8").splitlines():
-        name, colon, rest = line.partition("#")[0].partition(":")
+        head, colon, needs = line.partition("#")[0].partition(":")
         if colon:
-            needs[name.strip()] = rest.split()
-    lowest_first = []
+            name, *kind = head.split()
+            lines[name] = kind, needs.split()
+    found = {}
 
     def visit(name):
-        for need in needs[name]:
-            if need in needs:
-                visit(need)
-        if name not in lowest_first:
-            lowest_first.append(name)
+        kind, needs = lines[name]
+        own = [need for need in needs if need in lines]
+        for need in own:
+            visit(need)
+        if name not in found:
+            found[name] = Crate(root, name, "staticlib" in kind, [found[need] for need in own], [need for need in needs if need not in lines])
 
-    for name in needs:
+    for name in lines:
         visit(name)
-    return {name: Crate(root, name, needs[name]) for name in lowest_first}
+    return found
 
 
 def chosen(root, names, all_folders):

@@ -6,15 +6,19 @@ import subprocess
 import tempfile
 import unittest
 
+from tools.mutation.verdicts import verdict
+
 TOOL = pathlib.Path(__file__).resolve().parents[1] / "mutants"
 PARENTS = (pathlib.Path("/dev/shm"), pathlib.Path(tempfile.gettempdir()))  # where rooms may be made
 
 CODE = """\
-ghost use Prim.Native.Nat.{_≤_};
+#![tactic(auto)]
+
+ghost use Rattle.std.specs.Prelude.{◌≤◌};
 
 // The lesser of a number and 9.
 pub fn held(x: u32) -> u32
-    ensures held { λ r. ⌜ r ≤ 9 ⌝ }
+    ensures { result ≤ 9 }
 {
     if x > 9 {
         return 9;
@@ -22,26 +26,25 @@ pub fn held(x: u32) -> u32
     x
 }
 """
-PROOF = """\
-use borrow.Author.Needs.{needs}
-use Rattle·held·proofs.proofs.held.Statement.{statement}
-use Rattle·held·proofs.proofs.held.Tie as tie
+ANSWERS = """\
+-- The lesser of a number and 9 is at most 9.
+use Rattle.std.proofs.Common.{arith}
+use Rattle.held.proofs.held.Goals as goal
 
-returns : tie.Need-returns
-returns c = search needs
+pub returns-then-x-gt9 : goal.returns-then-x-gt9
+returns-then-x-gt9 c = omega arith
 
-returns-2 : tie.Need-returns-2
-returns-2 c = search needs
-
-pub held-spec : {M : Type 1} → statement M
-held-spec = tie.close (tie.spec returns returns-2)
+pub returns : goal.returns
+returns c = let small = c.if-x-gt9.false in omega arith
 """
 CODE_ABOVE = """\
-ghost use Prim.Native.Nat.{_≤_};
+#![tactic(auto)]
+
+ghost use Rattle.std.specs.Prelude.{◌≤◌};
 
 // One more than the lesser of a number and 9.
 pub fn next(x: u32) -> u32
-    ensures held { λ r. ⌜ r ≤ 10 ⌝ }
+    ensures { result ≤ 10 }
 {
     held::held(x) + 1
 }
@@ -50,18 +53,19 @@ EDITS = {
     "held/mutants/nothing": ("return 9;", "return 9;"),
     "held/mutants/ten": ("return 9;", "return 10;"),
     "held/mutants/always_nine": ("    if x > 9 {", "    {"),
+    "held/mutants/right_in_another_shape": ("if x > 9 {", "if x >= 9 {"),
     "held/mutants/not_there": ("return 11;", "return 12;"),
     "held/mutants/in_two_places": ("9", "8"),
     "held/mutants/no_number": ("return 9;", "return true;"),
-    "held/mutants/no_definition": ("r ≤ 9", "r ≤ nine"),
+    "held/mutants/no_definition": ("result ≤ 9", "result ≤ nine"),
     "held/must-fail/eleven": ("return 9;", "return 11;"),
     "above/mutants/two_more": ("held::held(x) + 1", "held::held(x) + 2"),
 }
 
 
 def files(root):
-    """Every file of the repository, but for what is made below target/, with what it holds."""
-    paths = (path for path in root.rglob("*") if path.is_file() and "target" not in path.relative_to(root).parts)
+    """Every file of the repository, but for what is made below target/ and out/, with what it holds."""
+    paths = (path for path in root.rglob("*") if path.is_file() and not {"target", "out"}.intersection(path.relative_to(root).parts))
     return {str(path.relative_to(root)): path.read_bytes() for path in paths}
 
 
@@ -82,7 +86,7 @@ class Mutants(unittest.TestCase):
     def setUpClass(cls):
         cls.folder = tempfile.TemporaryDirectory()
         cls.root = root = pathlib.Path(cls.folder.name).resolve()
-        texts = {"crates.txt": "held:\nabove: held\n", "crates/held/src/lib.rt": CODE, "crates/held/proofs/held/Proof.antt": PROOF}
+        texts = {"crates.txt": "held:\nabove: held\n", "crates/held/src/lib.rt": CODE, "crates/held/proofs/held/Answers.antt": ANSWERS}
         texts["crates/above/src/lib.rt"] = CODE_ABOVE
         for name, (old, new) in EDITS.items():
             texts[f"crates/{name}.edit"] = f"# an edit\nfile: src/lib.rt\nold: {old}\nnew: {new}\n"
@@ -127,14 +131,15 @@ class Mutants(unittest.TestCase):
         self.assertEqual(self.told_of("held/nothing"), "SURVIVED, the crate is still proved with it")
 
     def test_a_fact_refuses(self):
-        self.assertRegex(self.told_of("held/ten"), r"^refused, proofs/held/Proof\.antt:\d+:\d+$")
-        self.assertRegex(self.told_of("held/eleven"), r"^refused, proofs/held/Proof\.antt:\d+:\d+$")
+        self.assertRegex(self.told_of("held/ten"), r"^refused, proofs/held/Answers\.antt:\d+:\d+$")
+        self.assertRegex(self.told_of("held/eleven"), r"^refused, proofs/held/Answers\.antt:\d+:\d+$")
 
     def test_a_fact_of_a_function_without_a_proof_of_its_own_refuses(self):
         self.assertRegex(self.told_of("above/two_more"), r"^refused, src/lib\.rt:\d+:\d+$")
 
     def test_the_proofs_shape_alone_is_no_refusal(self):
-        self.assertRegex(self.told_of("held/always_nine"), r"^refused only by the proof's shape, proofs/held/Proof\.antt:\d+:\d+$")
+        for edit in ("held/always_nine", "held/right_in_another_shape"):
+            self.assertRegex(self.told_of(edit), r"^refused only by the proof's shape, proofs/held/Answers\.antt:\d+:\d+$")
 
     def test_bad_edits(self):
         self.assertEqual(self.told_of("held/not_there"), "BAD EDIT, an 'old:' text is not in src/lib.rt")
@@ -144,8 +149,8 @@ class Mutants(unittest.TestCase):
 
     def test_all_are_tried_and_counted(self):
         self.assertEqual(self.status, 1)
-        self.assertRegex(self.told[-1], r"^mutants: 9 edits, 3 refused by a fact, 6 not \(\d+ s\)$")
-        self.assertEqual(sum(" of 9, " in line for line in self.told), 9)
+        self.assertRegex(self.told[-1], r"^mutants: 10 edits, 3 refused by a fact, 7 not \(\d+ s\)$")
+        self.assertEqual(sum(" of 10, " in line for line in self.told), 10)
 
     def test_status_0_where_facts_refuse_every_one(self):
         status, told = self.run_tool("held/eleven", "above")
@@ -162,12 +167,49 @@ class Mutants(unittest.TestCase):
         for how in (signal.SIGINT, signal.SIGTERM):
             tool = self.begin()
             for line in tool.stdout:
-                if " of 8, " in line:
+                if " of 9, " in line:
                     break
             tool.send_signal(how)
             rest = tool.communicate()[0]
             self.assertEqual(tool.returncode, 130)
             self.assertEqual(rest.splitlines()[-1], "mutants: interrupted; nothing is left behind")
+
+
+class Verdicts(unittest.TestCase):
+    """Logs of checks, cut down to what is read of them."""
+
+    GOAL = "note: src/lib.rt:142:9: it is not proved that what the function ensures holds at its end (`returns-b`); `search` gave up at one of its limits\n"
+    AT = "./proofs/Rows/met/Answers.antt"
+    GONE = f"{AT}:10:32: error: `returns-a`: module `Rattle.x.proofs.Rows.met.Goals` has no `returns-a` that can be named from here\n"
+    NO_STEP = f"{AT}:12:3: error: `returns`: record `Rattle.x.proofs.Rows.met.Lts.Start` has no field `if-a` (nearest: .if-b)\n"
+    AFTER = f"{AT}:31:5: error: 2 declarations that depend on `h`, which was rejected, were not checked: returns, loop-i-init\n"
+    OWN, OTHER = "fn x::Rows::met: not proved\n", "fn x::Rows::met_twice: not proved\n"
+
+    def verdict(self, *lines):
+        return verdict(1, "".join(lines) + "logic=not-proved\n")
+
+    def test_an_open_goal(self):
+        self.assertEqual(self.verdict(self.GOAL, self.OWN), ("refused", "src/lib.rt:142:9"))
+
+    def test_an_open_goal_of_a_function_whose_proof_does_not_fit(self):
+        """The goal's name is another in the changed code, so its answer goes by another name."""
+        for line in (self.GONE, self.NO_STEP):
+            self.assertEqual(self.verdict(line, self.GOAL, self.OWN)[0], "refused only by the proof's shape")
+
+    def test_a_goal_that_is_false_though_the_proof_does_not_fit(self):
+        false = self.GOAL.replace("`search` gave up at one of its limits", "the facts known there allow values at which this goal is false")
+        self.assertEqual(self.verdict(self.GONE, false, self.OWN), ("refused", "src/lib.rt:142:9"))
+
+    def test_an_open_goal_of_another_function(self):
+        self.assertEqual(self.verdict(self.GONE, self.OWN, self.GOAL, self.OTHER), ("refused", "src/lib.rt:142:9"))
+
+    def test_what_follows_from_another_error(self):
+        fact = "./proofs/Sums.antt:9:5: error: `h`: expected type `a ≡ b`, but this has type `a ≡ a`\n"
+        self.assertEqual(self.verdict(self.AFTER, fact, self.OWN), ("refused", "proofs/Sums.antt:9:5"))
+        self.assertEqual(self.verdict(self.NO_STEP, self.AFTER, self.OWN)[0], "refused only by the proof's shape")
+
+    def test_a_clause_that_means_nothing(self):
+        self.assertEqual(self.verdict("specs/Rows.antt:7:24: error: `met`: `nine` is not in scope\n")[0], "BAD EDIT")
 
 
 if __name__ == "__main__":

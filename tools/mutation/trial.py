@@ -4,10 +4,11 @@ import threading
 import time
 import traceback
 
-from . import rooms
+from . import fitting, rooms
 from .checks import Checks, Stopped
 from .edits import Bad, apply
-from .verdicts import BAD, REFUSED, UNPROVED, verdict
+from .prover import Prover
+from .verdicts import BAD, REFUSED, SHAPE, UNPROVED, verdict
 
 
 def say(text):
@@ -26,7 +27,7 @@ class Trial:
         self.wholes = {}  # of each crate that a worker has begun with: None, then its whole folder and what is in it
         self.told, self.failures, self.fault = 0, [], False
         self.base = rooms.house()
-        self.checks, self.turn = Checks(self.base / "tmp"), threading.Condition()
+        self.checks, self.prover, self.turn = Checks(self.base / "tmp"), Prover(), threading.Condition()
 
     def run(self):
         """Tries all edits. Answers the exit status."""
@@ -37,7 +38,6 @@ class Trial:
         try:
             if not self.libraries_proved():
                 return 1
-            self.build = rooms.build_of_prover(self.checks, self.base)
             workers = [threading.Thread(target=self.work) for _ in range(self.jobs)]
             for worker in workers:
                 worker.start()
@@ -56,21 +56,16 @@ class Trial:
         return self.summary(time.monotonic() - began)
 
     def libraries_proved(self):
-        """Has `rt check` prove what the edits' crates are and stand on, where that is not proved yet."""
-        needed = {crate.name for crate in self.crates if not crate.is_program}
-        needed |= {need for crate in self.crates for need in crate.needs if (self.root / "crates" / need).is_dir()}
-        if not needed:
-            return True
-
-        def tell(line):
-            if line.startswith("rt: ") and "unchanged since" not in line:
-                print(line, flush=True)
-
-        log = self.logs / "check.log"
-        proved = self.checks.follow(["check", *sorted(needed)], self.root, log, tell) == 0
-        if not proved:
-            say(f"the crates themselves are not proved: {log.relative_to(self.root)} says why")
-        return proved
+        """Has `rt lib` prove and build what the edits' crates stand on, where that is not done yet."""
+        needed = {need for crate in self.crates for need in crate.needs}
+        highest = [need for need in needed if not any(need in other.below() for other in needed)]
+        for crate in sorted(highest, key=lambda each: each.name):
+            began, log = time.monotonic(), self.logs / f"{crate.name}.library.log"
+            if self.checks.run(["rt", "lib"], crate.folder, log) != 0:
+                say(f"the crates themselves are not proved: {log.relative_to(self.root)} says why")
+                return False
+            say(f"the library {crate.name} and those below it proved ({time.monotonic() - began:.0f} s)")
+        return True
 
     def summary(self, seconds):
         """The last lines: what was not refused by a fact, and the count."""
@@ -122,12 +117,12 @@ class Trial:
             self.turn.notify_all()
 
     def prepare(self, crate):
-        """Checks the untouched crate: that fills its incremental folder, and an edit of a crate that is not proved would say nothing."""
+        """Checks the untouched crate: that fills what is kept of it, and an edit of a crate that is not proved would say nothing."""
         began, room, log = time.monotonic(), self.base / crate.name / "untouched", self.logs / f"{crate.name}.log"
         rooms.make(room, crate)
-        rooms.seed(room, crate, self.build)
-        proved = self.checks.run(["dev", crate.name], room, log) == 0
-        whole = rooms.incremental(room, crate)
+        rooms.seed(room, crate)
+        proved = self.checks.run(self.prover.command(crate, rooms.KEPT), room, log) == 0
+        whole = room / rooms.KEPT
         with self.turn:
             if proved:
                 say(f"{crate.name} proved as it stands ({time.monotonic() - began:.0f} s), {len(crate.edits)} edits to try")
@@ -144,17 +139,31 @@ class Trial:
         whole, before = self.wholes[crate]
         log = self.logs / crate.name / f"{edit.stem}.log"
         log.parent.mkdir(exist_ok=True)
-        copy = rooms.make(room, crate)
-        rooms.link(whole, rooms.incremental(room, crate))
+        rooms.make(room, crate)
+        rooms.link(whole, room / rooms.KEPT)
         try:
-            apply(edit, copy)
-            status = self.checks.run(["dev", crate.name], room, log)
-            word, where = verdict(status, log.read_text(encoding="utf-8", errors="replace"), copy)
+            apply(edit, room)
+            status = self.checks.run(self.prover.command(crate, rooms.KEPT), room, log)
+            word, where = verdict(status, log.read_text(encoding="utf-8", errors="replace"))
+            if word == SHAPE and self.fitted(crate, room):
+                status = self.checks.run(self.prover.command(crate, rooms.KEPT), room, log)
+                word, where = verdict(status, log.read_text(encoding="utf-8", errors="replace"))
         except Bad as why:
             word, where = BAD, str(why)
         rooms.remove(room)
         self.tell(crate, edit, word, where, time.monotonic() - began)
         self.finished_one(crate, whole, before)
+
+    def fitted(self, crate, room):
+        """Fits the room's proofs to its code, by the names in the untouched crate and in the room. Answers whether any proof changed."""
+        return fitting.fit(room, self.names(crate, self.base / crate.name / "untouched"), self.names(crate, room))
+
+    def names(self, crate, room):
+        """The names that the prover has for the goals and steps of a room's code."""
+        folder = room / "names"
+        if not folder.is_dir():
+            self.checks.run(self.prover.listing(crate, folder), room, self.logs / f"{crate.name}.names.log")
+        return fitting.listed(folder)
 
     def tell(self, crate, edit, word, where, seconds):
         """The edit's line."""
@@ -172,5 +181,5 @@ class Trial:
             last = self.unfinished[crate] == 0
         if last:
             if rooms.state(whole) != before:
-                self.failures.append(f"{crate.name}: the prover wrote into its incremental folder, so that its edits have to be tried on copies")
+                self.failures.append(f"{crate.name}: the prover wrote into what was kept of it, so that its edits have to be tried on copies")
             rooms.remove(self.base / crate.name)

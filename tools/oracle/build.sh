@@ -10,7 +10,7 @@ root=$(cd "$here/../.." && pwd)
 archive=${NAKWEMOL_ARCHIVE:-$root/target/staticlib}
 out=${ORACLE_OUT:-$root/target/oracle}
 if [ ! -f "$archive/libnakwemol.a" ]; then
-    echo "$archive/libnakwemol.a is not there: make it by rt staticlib nakwemol, or name its folder in NAKWEMOL_ARCHIVE" >&2
+    echo "$archive/libnakwemol.a is not there: make it by tools/build nakwemol, or name its folder in NAKWEMOL_ARCHIVE" >&2
     exit 1
 fi
 mkdir -p "$out"

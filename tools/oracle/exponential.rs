@@ -1,7 +1,7 @@
 //! e^x by the port's own function, under another name than `f64::exp`: build.sh puts it in its place.
 
 extern "C" {
-    /// e^−u, from the archive that `rt staticlib nakwemol` writes.
+    /// e^−u, from the archive that `tools/build nakwemol` writes.
     fn nakwemol_exp_neg(u: f64) -> f64;
 }
 

@@ -11,7 +11,7 @@ from nakwemol.limits import MOST_WELLS
 
 HERE = Path(__file__).resolve().parent
 LIBRARY = HERE.parents[2] / "target" / "staticlib" / "libnakwemol.so"
-MAKE_ANEW = "make it anew by `rt staticlib nakwemol` and `bindings/python/link`"
+MAKE_ANEW = "make it anew by `tools/build nakwemol` and `bindings/python/link`"
 
 NUMBERS = [POINTER(c_double), c_size_t]
 BYTES = [POINTER(c_uint8), c_size_t]
@@ -34,7 +34,7 @@ def load():
     """The shared object that NAKWEMOL_LIBRARY names, else the one beside the archive of this repository."""
     path = Path(os.environ.get("NAKWEMOL_LIBRARY", LIBRARY))
     if not path.is_file():
-        raise OSError(f"{path} is not there: make it by `rt staticlib nakwemol` and `bindings/python/link`, or name it in NAKWEMOL_LIBRARY")
+        raise OSError(f"{path} is not there: make it by `tools/build nakwemol` and `bindings/python/link`, or name it in NAKWEMOL_LIBRARY")
     library = ctypes.CDLL(str(path))
     for name, parameters in PARAMETERS.items():
         getattr(library, name).argtypes = parameters
