@@ -54,6 +54,7 @@ EDITS = {
     "held/mutants/ten": ("return 9;", "return 10;"),
     "held/mutants/always_nine": ("    if x > 9 {", "    {"),
     "held/mutants/right_in_another_shape": ("if x > 9 {", "if x >= 9 {"),
+    "held/mutants/ten_in_another_shape": ("if x > 9 {", "if x > 10 {"),
     "held/mutants/not_there": ("return 11;", "return 12;"),
     "held/mutants/in_two_places": ("9", "8"),
     "held/mutants/no_number": ("return 9;", "return true;"),
@@ -138,8 +139,12 @@ class Mutants(unittest.TestCase):
         self.assertRegex(self.told_of("above/two_more"), r"^refused, src/lib\.rt:\d+:\d+$")
 
     def test_the_proofs_shape_alone_is_no_refusal(self):
-        for edit in ("held/always_nine", "held/right_in_another_shape"):
-            self.assertRegex(self.told_of(edit), r"^refused only by the proof's shape, proofs/held/Answers\.antt:\d+:\d+$")
+        self.assertRegex(self.told_of("held/always_nine"), r"^refused only by the proof's shape, proofs/held/Answers\.antt:\d+:\d+$")
+
+    def test_a_proof_is_fitted_to_code_that_changed_its_names_alone(self):
+        """The proof names x-gt9, and the code says something else: it is tried under the names that the changed code has."""
+        self.assertEqual(self.told_of("held/right_in_another_shape"), "SURVIVED, the crate is still proved with it")
+        self.assertRegex(self.told_of("held/ten_in_another_shape"), r"^refused, proofs/held/Answers\.antt:\d+:\d+$")
 
     def test_bad_edits(self):
         self.assertEqual(self.told_of("held/not_there"), "BAD EDIT, an 'old:' text is not in src/lib.rt")
@@ -149,8 +154,8 @@ class Mutants(unittest.TestCase):
 
     def test_all_are_tried_and_counted(self):
         self.assertEqual(self.status, 1)
-        self.assertRegex(self.told[-1], r"^mutants: 10 edits, 3 refused by a fact, 7 not \(\d+ s\)$")
-        self.assertEqual(sum(" of 10, " in line for line in self.told), 10)
+        self.assertRegex(self.told[-1], r"^mutants: 11 edits, 4 refused by a fact, 7 not \(\d+ s\)$")
+        self.assertEqual(sum(" of 11, " in line for line in self.told), 11)
 
     def test_status_0_where_facts_refuse_every_one(self):
         status, told = self.run_tool("held/eleven", "above")
@@ -167,7 +172,7 @@ class Mutants(unittest.TestCase):
         for how in (signal.SIGINT, signal.SIGTERM):
             tool = self.begin()
             for line in tool.stdout:
-                if " of 9, " in line:
+                if " of 10, " in line:
                     break
             tool.send_signal(how)
             rest = tool.communicate()[0]
