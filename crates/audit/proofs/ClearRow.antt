@@ -1,13 +1,14 @@
 -- A row that sums with rounding show to be met is met by the exact ones.
 use Prim.Native.Nat.{ℕ, ◌+◌, ◌*◌, ◌^◌}
-use mathlib.Core.Path.{◌≡◌, refl, ap, ap₂, ◌∙◌}
-use mathlib.Core.Bool.{Bool, true, false}
+use mathlib.Core.Path.{◌≡◌, ap, ap₂, ◌∙◌}
+use mathlib.Core.Bool.{true}
 use mathlib.Core.List.{List}
 use lib.Dec.{T}
 use lib.IntN.{ℤ, pos, nat_abs, ◌+ℤ◌, ◌-ℤ◌, ◌*ℤ◌, pos-+ℤ-pos, pos-*ℤ-pos}
 use lib.Signed.{le_z}
 use lib.ListN.{length}
 use lib.Ieee.{Float, binary64, fits}
+use lib.Ieee.Bits.{is_true}
 use Rattle.ieee.specs.Values.{multiple, sign_of, value_of}
 use Rattle.ieee.proofs.RoundingSigned.{signed_abs}
 use Rattle.words.proofs.Whole.{pos_≤ℤ}
@@ -20,10 +21,6 @@ use Rattle.estimate.specs.Estimate.{rounded_sum, rounded_size, clearly}
 use Rattle.estimate.proofs.Within.{within_clearly}
 use Rattle.audit.specs.Audit.{within, unit}
 use Rattle.audit.specs.Lists.{number_in}
-
-is_true : (b : Bool) → T b → b ≡ true
-is_true true h = refl
-is_true false h = elim h [ ]
 
 module _ (z f : List Float) (fz : (i : ℕ) → T (fits binary64 (number_in z i))) (ff : (i : ℕ) → T (fits binary64 (number_in f i))) (column width : ℕ) where
   -- column by column, in the code's order

@@ -3,7 +3,7 @@ pub mod Rows
 pub mod TrendSums
 pub mod Verdict
 pub mod Same
-pub mod Row
+pub mod ExactRow
 pub mod Scan
 pub mod Listed
 pub mod Bounds

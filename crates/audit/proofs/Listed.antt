@@ -2,19 +2,20 @@
 use Prim.Native.Nat.{ℕ, suc, ◌+◌, ◌-◌, ◌*◌, ◌<◌}
 use native.Mathlib.Nat.{add_comm}
 use native.Mathlib.Omega.{arith}
-use mathlib.Core.Path.{◌≡◌, refl, sym, ap, ap₂, ◌∙◌}
+use mathlib.Core.Path.{◌≡◌, sym, ap, ap₂, ◌∙◌}
 use mathlib.Core.Bool.{Bool, true, false, ◌&&◌, cond}
-use mathlib.Core.List.{List, [], ◌∷◌}
+use mathlib.Core.List.{List, []}
 use lib.Dec.{T, eqb}
 use lib.IntN.{ℤ, ◌*ℤ◌}
 use lib.ListN.{length}
 use lib.Ieee.{Float}
-use lib.Ieee.Fits.{and_i}
+use lib.Ieee.Bits.{is_true}
 use lib.Ieee.Scale.{finite}
 use Rattle.ieee.specs.Finite.{all_finite}
-use Rattle.ieee.proofs.FiniteLists.{finite_at}
+use Rattle.ieee.proofs.FiniteLists.{tests_all}
+use Rattle.ieee.proofs.Zero.{holds}
 use Rattle.error.specs.Tests.{all, Tells}
-use Rattle.error.proofs.Tells.{each, passes}
+use Rattle.error.proofs.Tells.{affirm, each, passes}
 use Rattle.exact.specs.Units.{units}
 use Rattle.exact.specs.Products.{dotted}
 use Rattle.exact.proofs.Sums.{sumℤ_same}
@@ -24,25 +25,14 @@ use Rattle.audit.specs.Lists.{number_in, entry_in, weighed_in, audited_in}
 
 -- ---- finite lists
 
-same_test : (b c : Bool) → (T b → T c) → (T c → T b) → b ≡ c
-same_test true true f g = refl
-same_test true false f g = absurd (f tt)
-same_test false true f g = absurd (g tt)
-same_test false false f g = refl
-
 each_number : (xs : List Float) → Tells (all (length xs) (λ i. finite (number_in xs i))) ((i : ℕ) → i < length xs → T (finite (number_in xs i)))
 each_number xs = each (length xs) (λ i. finite (number_in xs i)) (λ i. T (finite (number_in xs i))) (λ i l. passes (finite (number_in xs i)))
-
-listed : (xs : List Float) → ((i : ℕ) → i < length xs → T (finite (number_in xs i))) → T (all_finite xs)
-unfolding all_finite
-listed [] h = tt
-listed (x ∷ xs) h = and_i (finite x) (all_finite xs) (h 0 (omega arith)) (listed xs (λ i l. h (suc i) (omega arith)))
 
 -- every number of a list, by its places
 pub all_listed : (xs : List Float) → all (length xs) (λ i. finite (number_in xs i)) ≡ all_finite xs
 all_listed xs =
-    same_test (all (length xs) (λ i. finite (number_in xs i))) (all_finite xs)
-    (λ h. listed xs ((each_number xs).then h)) (λ h. (each_number xs).back (λ i l. finite_at xs i h l))
+    tests_all xs (all (length xs) (λ i. finite (number_in xs i)))
+    (λ e i l. is_true _ ((each_number xs).then (holds _ e) i l), λ h. affirm (each_number xs) (λ i l. holds _ (h i l)))
 
 -- ---- rows in turn: what is left of p rows once j of them are met
 module _ (p : ℕ) (met : ℕ → Bool) where

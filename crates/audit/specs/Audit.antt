@@ -4,6 +4,8 @@ use Rattle.std.specs.Prelude.{ℕ, zero, suc, ◌+◌, ◌-◌, ◌^◌, ◌<◌
 use Rattle.std.specs.Int.Signed.{le_z}
 use Rattle.std.specs.Float.Ieee.Scale.{finite}
 use Rattle.error.specs.Tests.{all}
+use Rattle.audit.specs.declared.Finding.{Finding}
+use Rattle.audit.specs.declared.Finding.TheVariants.{Passed, Missed, NotFinite}
 use Rattle.exact.specs.Units.{units}
 use Rattle.exact.specs.Whole.{sumℤ}
 
@@ -71,6 +73,12 @@ column_verdict_given finite_drift w = cond (finite_given finite_drift w) (first_
 unfoldable pub column_verdict : Weighed → ℕ
 unfolding drift_finite column_verdict_given
 column_verdict w = column_verdict_given (drift_finite w.n w.p w.drift) w
+
+-- the verdict that a finding is: "0, passed", "the first row missed", "255"
+abbrev pub number_of : Finding → ℕ
+number_of Passed = 0
+number_of (Missed row) = row
+number_of NotFinite = 255
 
 -- ---- with the values
 

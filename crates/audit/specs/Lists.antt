@@ -1,11 +1,16 @@
 -- What an audit reads, as it lies in lists: the weights, F row after row, the node's f0 and the values.
-use Rattle.std.specs.Prelude.{ℕ, ◌+◌, ◌*◌, List, length, get_or, Float}
-use Rattle.std.specs.Float.{nan}
+use Rattle.std.specs.Prelude.{ℕ, ◌+◌, ◌*◌, T, List, length, get_or, Float}
+use Rattle.std.specs.Float.{nan, binary64}
+use Rattle.std.specs.Float.Ieee.{fits}
 use Rattle.audit.specs.Audit.{Weighed, Audited}
 
 -- number i of a list. What is past a list's end is no number.
 abbrev pub number_in : List Float → ℕ → Float
 number_in xs i = get_or xs i nan
+
+-- each number of a list is an f64
+abbrev pub AllFit : List Float → Type 0
+AllFit xs = (i : ℕ) → T (fits binary64 (number_in xs i))
 
 -- "F entry": row i, column j of a list that holds rows of p numbers one after another
 abbrev pub entry_in : List Float → ℕ → ℕ → ℕ → Float

@@ -1,12 +1,12 @@
 // The audit of one node: which numbers are finite, which rows are met, the verdict. What it answers is defined in specs/.
 #![tactic(auto)]
 
-ghost use Rattle.std.specs.Prelude.{◌≡◌, [], ◌+◌, ◌*◌, ◌^◌, ◌<◌, length};
+ghost use Rattle.std.specs.Prelude.{◌≡◌, [], ◌+◌, ◌*◌, length};
 ghost use Rattle.std.specs.Float.Ieee.Scale.{finite};
 ghost use Rattle.exact.specs.Products.{dotted};
 ghost use Rattle.estimate.specs.Estimate.{rounded_sum, rounded_size, clearly};
-ghost use Rattle.audit.specs.Audit.{within, drift_finite, column_verdict_given, verdict_with};
-ghost use Rattle.audit.specs.Lists.{number_in, entry_in, weighed_in, audited_in};
+ghost use Rattle.audit.specs.Audit.{within, drift_finite, column_verdict_given, verdict_with, number_of};
+ghost use Rattle.audit.specs.Lists.{number_in, AllFit, entry_in, weighed_in, audited_in};
 
 // Whether the number at a place of a list is finite. Past the list's end there is none.
 fn finite_at(numbers: &[f64], at: usize) -> bool
@@ -26,7 +26,7 @@ pub fn drift_finite(drift: &[f64], wells: usize, columns: usize) -> bool
     if columns == 0 {
         return true; // there is no entry to look at
     }
-    let mut good = true;
+    let mut good = true; // kept: the scope, 01, "Language forms in the code", names the labelled break out of the nest of wells and columns
     let mut at = 0;
     'wells: for i in 0..wells {
         for j in 0..columns {
@@ -49,31 +49,28 @@ struct Sums {
 
 // Σ z_i·x_i and Σ |z_i·x_i|, in turn, each operation rounded. Where the numbers end before the weights there is no number to take: the sums are none.
 fn rounded_sums(weights: &[f64], numbers: &[f64], column: usize, width: usize) -> Sums
-    requires { (column < 2 ^ 60) × (width < 2 ^ 60) }
     ensures sum { result.sum ≡ rounded_sum (length weights.now) (number_in weights.now)
         (λ i. number_in numbers.now (column + i * width)) }
     ensures size { result.size ≡ rounded_size (length weights.now) (number_in weights.now)
         (λ i. number_in numbers.now (column + i * width)) }
+    ensures lists { AllFit weights.now × AllFit numbers.now }
 {
     let mut sum = 0.0;
     let mut size = 0.0;
     let mut at = column;
-    for i in 0..weights.len() {
+    for weight in weights {
         if at >= numbers.len() {
             return Sums {
                 sum: 0.0 / 0.0,
                 size: 0.0 / 0.0,
             };
         }
-        let term = weights[i] * numbers[at];
+        let term = *weight * numbers[at];
         sum += term;
         size += ieee::abs(term);
-        at += width;
+        at = at.saturating_add(width); // kept: it goes by the width, which may be 0, where step_by takes no step of 0
     }
-    Sums {
-        sum: sum,
-        size: size,
-    }
+    Sums { sum, size }
 }
 
 // The least that a row has to be within for sums with rounding to tell: 2^-1000.
@@ -105,94 +102,127 @@ fn clearly_met(n: usize, sums: Sums, target: f64, tolerance: f64) -> bool
     sums.size * SHARE <= margin
 }
 
-// |Σ z_i·x_i − target| ≤ t·(1 + |target|): one row of the audit, with z and a column of numbers whose rows are of that width. Both sides are exact sums.
-fn exactly_met(
-    weights: &[f64],
-    numbers: &[f64],
+// A row of the audit: weights with a column of numbers, whose rows are of a width, the target that their sum should be, and the tolerance.
+#[derive(Clone, Copy)]
+struct Row<'a> {
+    weights: &'a [f64],
+    numbers: &'a [f64],
     column: usize,
     width: usize,
     target: f64,
     tolerance: f64,
-) -> bool
-    ensures { result ≡ within tolerance (dotted weights.now numbers.now column width) target }
-{
-    let sum = exact::dot_product(weights, numbers, column, width);
-    let missing = exact::sub_product(sum, target, 1.0);
-    let one = exact::add_product([0; 67], tolerance, 1.0);
-    let allowed = exact::add_product(one, tolerance, ieee::abs(target));
-    let compared = words::compare(words::magnitude(missing), allowed);
-    let order = compared.order;
-    order.is_at_most()
 }
 
-// The same row. Where sums with rounding leave no doubt that it is met, the exact ones, which say the same, are not worked out.
-fn row_met(
-    weights: &[f64],
-    numbers: &[f64],
-    column: usize,
-    width: usize,
-    target: f64,
-    tolerance: f64,
-) -> bool
-    requires { (column < 2 ^ 60) × (width < 2 ^ 60) }
-    ensures { result ≡ within tolerance (dotted weights.now numbers.now column width) target }
+// |Σ z_i·x_i − target| ≤ t·(1 + |target|). Both sides are exact sums.
+fn exactly_met(row: &Row<'_>) -> bool
+    ensures { result ≡ within row.now.tolerance
+        (dotted row.now.weights.now row.now.numbers.now row.now.column row.now.width) row.now.target }
 {
-    let sums = rounded_sums(weights, numbers, column, width);
-    if clearly_met(weights.len(), sums, target, tolerance) {
+    let sum = exact::dot_product(row.weights, row.numbers, row.column, row.width);
+    let missing = exact::sub_product(sum, row.target, 1.0);
+    let one = exact::add_product([0; 67], row.tolerance, 1.0);
+    let allowed = exact::add_product(one, row.tolerance, ieee::abs(row.target));
+    let compared = words::compare(words::magnitude(missing), allowed);
+    compared.is_at_most()
+}
+
+// The same. Where sums with rounding leave no doubt that the row is met, the exact ones, which say the same, are not worked out.
+fn row_met(row: &Row<'_>) -> bool
+    ensures { result ≡ within row.now.tolerance
+        (dotted row.now.weights.now row.now.numbers.now row.now.column row.now.width) row.now.target }
+{
+    let sums = rounded_sums(row.weights, row.numbers, row.column, row.width);
+    if clearly_met(row.weights.len(), sums, row.target, row.tolerance) {
         return true;
     }
-    exactly_met(weights, numbers, column, width, target, tolerance)
+    exactly_met(row)
 }
 
-// Rows 1 to p, which read no value: 255 where a weight, an F entry or an f0 entry is not finite, else the first row missed, else 0.
-// F is the same for every node, so whether it is finite is looked at once, by `drift_finite`.
+// What an audit finds of a node: that it passed, the first row that it missed, counted from 1, or that a number is not finite. Its number is the verdict.
+#[derive(Clone, Copy)]
+pub enum Finding {
+    Passed,
+    Missed(usize),
+    NotFinite,
+}
+
+impl Finding {
+    // The verdict, as the paper numbers it.
+    pub fn number(self) -> usize
+        ensures { result ≡ number_of self }
+    {
+        match self {
+            Self::Passed => 0,
+            Self::Missed(row) => row,
+            Self::NotFinite => 255,
+        }
+    }
+}
+
+// Rows 1 to p, which read no value. F is the same for every node, so whether it is finite is looked at once, by `drift_finite`.
 pub fn audit_columns(
     weights: &[f64],
     drift: &[f64],
     finite_drift: bool,
     f0: &[f64],
     tolerance: f64,
-) -> usize
-    ensures { result ≡ column_verdict_given finite_drift (weighed_in weights.now drift.now f0.now tolerance) }
+) -> Finding
+    ensures { number_of result
+        ≡ column_verdict_given finite_drift (weighed_in weights.now drift.now f0.now tolerance) }
 {
     if !ieee::all_finite(weights) {
-        return 255;
+        return Finding::NotFinite;
     }
     if !finite_drift {
-        return 255;
+        return Finding::NotFinite;
     }
     if !ieee::all_finite(f0) {
-        return 255;
+        return Finding::NotFinite;
     }
     for j in 0..f0.len() {
-        if !row_met(weights, drift, j, f0.len(), f0[j], tolerance) {
-            return j + 1;
+        let row = Row {
+            weights,
+            numbers: drift,
+            column: j,
+            width: f0.len(),
+            target: f0[j],
+            tolerance,
+        };
+        if !row_met(&row) {
+            return Finding::Missed(j + 1);
         }
     }
-    0
+    Finding::Passed
 }
 
-// Row p + 1, and the verdict: 255 where the figure is not finite, else that of rows 1 to p where it is not 0, else p + 1 where the row is missed, else 0.
-// Of f0 it takes how many there are, and of F nothing.
+// Row p + 1, and the verdict: where the figure is finite, that of rows 1 to p, unless they passed. Of f0 it takes how many there are, and of F nothing.
 pub fn audit_figure(
-    drift_verdict: usize,
+    columns: Finding,
     weights: &[f64],
     f0: &[f64],
     values: &[f64],
     figure: f64,
     tolerance: f64,
-) -> usize
-    ensures { result ≡ verdict_with drift_verdict
+) -> Finding
+    ensures { number_of result ≡ verdict_with (number_of columns)
         (audited_in (weighed_in weights.now [] f0.now tolerance) values.now figure) }
 {
     if !ieee::is_finite(figure) {
-        return 255;
+        return Finding::NotFinite;
     }
-    if drift_verdict != 0 {
-        return drift_verdict;
+    if columns.number() != 0 {
+        return columns;
     }
-    if row_met(weights, values, 0, 1, figure, tolerance) {
-        return 0;
+    let row = Row {
+        weights,
+        numbers: values,
+        column: 0,
+        width: 1,
+        target: figure,
+        tolerance,
+    };
+    if row_met(&row) {
+        return Finding::Passed;
     }
-    f0.len() + 1
+    Finding::Missed(f0.len() + 1)
 }

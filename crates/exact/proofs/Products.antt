@@ -1,5 +1,6 @@
 -- Products added to 67 words in turn: the three words of one, what its carry makes of them, and where a column ends.
-use Rattle.std.proofs.Common.{◌≡◌, ℕ, ◌+◌, ◌*◌, ◌^◌, ◌<◌, ◌≤◌, Bool, ◌⊎◌, List, length, get_or, set, ℤ, pos, ◌+ℤ◌, ◌*ℤ◌, sym, refl, ap, ◌∙◌, subst, ap₂, inl, ⊎_elim, add-zero, mul-le-mul_right, one-mul, zero-add, add-one, arith, length-set}
+use Rattle.std.proofs.Common.{◌≡◌, ℕ, ◌+◌, ◌*◌, ◌^◌, ◌<◌, ◌≤◌, Bool, true, false, ◌⊎◌, List, length, get_or, set, ℤ, pos, ◌+ℤ◌, ◌*ℤ◌, sym, refl, ap, ◌∙◌, subst, ap₂, inl, ⊎_elim, add-zero, mul-le-mul_right, one-mul, zero-add, add-one, arith, length-set}
+use Rattle.std.specs.Int.{from_bool}
 use lib.ListN.{get_or-eq_default}
 use lib.Ieee.{Float, nan}
 use lib.IntN.{+ℤ_assoc, *ℤ-zero}
@@ -22,7 +23,17 @@ raised : (i j : ℕ) → j ≡ i + 1 → 2 ^ (64 * j) ≡ 2 ^ 64 * 2 ^ (64 * i)
 raised i j e = ap (λ (n : ℕ). 2 ^ (64 * n)) e ∙ up i
 
 -- ---- one product: three words at place k of ws, one after another, and the carry c that leaves them
-module _ (s : Bool) (ws : List ℕ) (k low middle high x₀ c₀ x₁ c₁ x₂ c₂ : ℕ) where
+module _ (s : Bool) (ws : List ℕ) (k low middle high x₀ : ℕ) (d₀ : Bool) (x₁ : ℕ) (d₁ : Bool) (x₂ : ℕ) (d₂ : Bool) where
+  -- the carries as numbers
+  abbrev c₀ : ℕ
+  c₀ = from_bool d₀
+
+  abbrev c₁ : ℕ
+  c₁ = from_bool d₁
+
+  abbrev c₂ : ℕ
+  c₂ = from_bool d₂
+
   abbrev pub first : List ℕ
   first = set ws k x₀
 
@@ -69,15 +80,15 @@ module _ (s : Bool) (ws : List ℕ) (k low middle high x₀ c₀ x₁ c₁ x₂ 
         subst (λ (x : ℕ). Moved s n (number third) t x) (ap₂ (λ (x y : ℕ). x * y) (add-zero c₂) (sym top)) m₃
 
     -- the words after a product: the three with no carry, and otherwise what `carried` makes of them
-    pub product_added : Words ws → length ws ≡ 67 → x₀ < 2 ^ 64 → x₁ < 2 ^ 64 → x₂ < 2 ^ 64 → c₂ ≤ 1 → (next : List ℕ)
-        → ((c₂ ≡ 0 → ⊥) × (next ≡ held (reading third +ℤ signed s (2 ^ (64 * (k + 3)))))) ⊎ ((c₂ ≡ 0) × (next ≡ third))
+    pub product_added : Words ws → length ws ≡ 67 → x₀ < 2 ^ 64 → x₁ < 2 ^ 64 → x₂ < 2 ^ 64 → (next : List ℕ)
+        → ((d₂ ≡ true) × (next ≡ held (reading third +ℤ signed s (2 ^ (64 * (k + 3)))))) ⊎ ((d₂ ≡ false) × (next ≡ third))
         → (z : ℤ) → z ≡ signed s (whole * 2 ^ (64 * k)) → next ≡ held (reading ws +ℤ z)
-    product_added w l b₀ b₁ b₂ small next came z e =
+    product_added w l b₀ b₁ b₂ next came z e =
         ⊎_elim
         (λ h.
         moved_on s third ws next (whole * 2 ^ (64 * k)) (2 ^ (64 * (k + 3)))
         (subst (λ (x : ℕ). Moved s (number ws) (number third) (whole * 2 ^ (64 * k)) x) (one h.0) three_words) h.1)
-        (λ h. h.1 ∙ moved_held s third ws words size (whole * 2 ^ (64 * k)) c₂ (k + 3) (inl h.0) three_words)
+        (λ h. h.1 ∙ moved_held s third ws words size (whole * 2 ^ (64 * k)) c₂ (k + 3) (inl (ap from_bool h.0)) three_words)
         came
         ∙ ap (λ (y : ℤ). held (reading ws +ℤ y)) (sym e)
       where
@@ -87,8 +98,8 @@ module _ (s : Bool) (ws : List ℕ) (k low middle high x₀ c₀ x₁ c₁ x₂ 
         size : length third ≡ 67
         size = length-set second (k + 2) x₂ ∙ length-set first (k + 1) x₁ ∙ length-set ws k x₀ ∙ l
 
-        one : (c₂ ≡ 0 → ⊥) → c₂ * 2 ^ (64 * (k + 3)) ≡ 2 ^ (64 * (k + 3))
-        one h = let e : c₂ ≡ 1 = omega arith in ap (λ (x : ℕ). x * 2 ^ (64 * (k + 3))) e ∙ one-mul (2 ^ (64 * (k + 3)))
+        one : d₂ ≡ true → c₂ * 2 ^ (64 * (k + 3)) ≡ 2 ^ (64 * (k + 3))
+        one h = ap (λ (d : Bool). from_bool d * 2 ^ (64 * (k + 3))) h ∙ one-mul (2 ^ (64 * (k + 3)))
 
 -- ---- the products of a column
 module _ (z f : List Float) (column width : ℕ) where

@@ -3,6 +3,7 @@
 #![tactic(auto)]
 
 ghost use Rattle.std.specs.Prelude.{◌≡◌, ◌+◌, ◌*◌, ◌^◌, ◌<◌, ◌≤◌, pos, ◌+ℤ◌, ◌-ℤ◌, ◌*ℤ◌};
+ghost use Rattle.std.specs.Int.{from_bool};
 ghost use Rattle.ieee.specs.Values.{signed};
 ghost use Rattle.exact.specs.Units.{units};
 ghost use Rattle.exact.specs.Products.{dotted};
@@ -22,19 +23,19 @@ fn parts_of(x: f64) -> Parts
     ensures range { (result.significand < 2 ^ 53) × (result.shift ≤ 2046) }
 {
     if ieee::is_finite(x) {
-        let bits = f64::to_bits(x);
+        let bits = x.to_bits();
         let negative = bits >= 0x8000_0000_0000_0000;
         let exponent = bits % 0x8000_0000_0000_0000 / 0x10_0000_0000_0000;
         let fraction = bits % 0x10_0000_0000_0000;
         if exponent == 0 {
             return Parts {
-                negative: negative,
+                negative,
                 significand: fraction,
                 shift: 0,
             };
         }
         return Parts {
-            negative: negative,
+            negative,
             significand: 0x10_0000_0000_0000 + fraction,
             shift: exponent - 1,
         };
@@ -69,7 +70,7 @@ fn multiply(a: u64, b: u64) -> Wide
     let first = across + low / 0x1_0000_0000;
     let second = cross + first % 0x1_0000_0000;
     Wide {
-        low: std::num::wrapping_add_u64(low, (cross + across) << 32),
+        low: low.wrapping_add((cross + across) << 32),
         high: high + first / 0x1_0000_0000 + second / 0x1_0000_0000,
     }
 }
@@ -94,17 +95,17 @@ fn shifted(product: Wide, shift: u64, negative: bool, place: usize) -> Term
     let high = product.high;
     if shift == 0 {
         return Term {
-            negative: negative,
-            place: place,
-            low: low,
+            negative,
+            place,
+            low,
             middle: high,
             high: 0,
         };
     }
     let back = 64 - shift;
     Term {
-        negative: negative,
-        place: place,
+        negative,
+        place,
         low: low << shift,
         middle: (high << shift) + (low >> back),
         high: high >> back,
@@ -127,58 +128,30 @@ fn term_of(x: f64, y: f64) -> Term
     shifted(product, shift % 64, b.negative, place)
 }
 
-// A word of a sum after a step, and the carry or the borrow that goes to the next word.
-#[derive(Clone, Copy)]
-struct Step {
-    word: u64,
-    carry: u64,
-}
-
-// A word to which a word and a carry are added with wrap. A sum that wrapped is below its summand: that is its carry.
-fn add_word(old: u64, word: u64, carry: u64) -> Step
-    requires { carry ≤ 1 }
-    ensures value { old + (word + carry) ≡ result.word + 2 ^ 64 * result.carry }
-    ensures carry { result.carry ≤ 1 }
+// kept: the scope, 01, "Language forms in the code", names adding and subtracting with wrap, and the carry by comparison, where `carrying_add` and
+// `borrowing_sub` would do the same; two functions, since the one is told from its operand and the other from what it takes away
+// A word to which a word and a carry are added with wrap, and the carry. A sum that wrapped is below its summand.
+fn add_word(old: u64, word: u64, carry: bool) -> (u64, bool)
+    ensures { old + (word + from_bool carry) ≡ result.0 + 2 ^ 64 * from_bool result.1 }
 {
-    let part = std::num::wrapping_add_u64(old, word);
-    let new = std::num::wrapping_add_u64(part, carry);
-    if part < old {
-        return Step {
-            word: new,
-            carry: 1,
-        };
-    }
-    Step {
-        word: new,
-        carry: if new < part { 1 } else { 0 },
-    }
+    let part = old.wrapping_add(word);
+    let new = part.wrapping_add(carry as u64);
+    (new, part < old || new < part)
 }
 
-// A word from which a word and a borrow are taken with wrap. A difference that wrapped is above what was there: that is its borrow.
-fn sub_word(old: u64, word: u64, borrow: u64) -> Step
-    requires { borrow ≤ 1 }
-    ensures value { result.word + (word + borrow) ≡ old + 2 ^ 64 * result.carry }
-    ensures carry { result.carry ≤ 1 }
+// A word from which a word and a borrow are taken with wrap, and the borrow. A difference that wrapped is above what was there.
+fn sub_word(old: u64, word: u64, borrow: bool) -> (u64, bool)
+    ensures { result.0 + (word + from_bool borrow) ≡ old + 2 ^ 64 * from_bool result.1 }
 {
-    let part = std::num::wrapping_sub_u64(old, word);
-    let new = std::num::wrapping_sub_u64(part, borrow);
-    if part > old {
-        return Step {
-            word: new,
-            carry: 1,
-        };
-    }
-    Step {
-        word: new,
-        carry: if new > part { 1 } else { 0 },
-    }
+    let part = old.wrapping_sub(word);
+    let new = part.wrapping_sub(borrow as u64);
+    (new, part > old || new > part)
 }
 
-// One word of a sum: a word and the carry are added to it, or taken away where they are negative.
-fn step_word(old: u64, word: u64, carry: u64, negative: bool) -> Step
-    requires { carry ≤ 1 }
-    ensures value { pos old +ℤ signed negative (word + carry) ≡ pos result.word +ℤ signed negative (2 ^ 64 * result.carry) }
-    ensures carry { result.carry ≤ 1 }
+// One word of a sum: a word and the carry are added to it, or taken away where they are negative, and the carry or the borrow goes to the next word.
+fn step_word(old: u64, word: u64, carry: bool, negative: bool) -> (u64, bool)
+    ensures { pos old +ℤ signed negative (word + from_bool carry)
+        ≡ pos result.0 +ℤ signed negative (2 ^ 64 * from_bool result.1) }
 {
     if negative {
         return sub_word(old, word, carry);
@@ -191,16 +164,12 @@ fn carried(sum: [u64; 67], from: usize, negative: bool) -> [u64; 67]
     ensures { result ≡ held (reading sum +ℤ signed negative (2 ^ (64 * from))) }
 {
     let mut total = sum;
-    let mut carry = 1;
-    let mut i = from;
-    while i < 67 {
-        if carry == 0 {
+    for i in from..67 {
+        let (word, carry) = step_word(total[i], 0, true, negative);
+        total[i] = word;
+        if !carry {
             return total;
         }
-        let next = step_word(total[i], 0, carry, negative);
-        total[i] = next.word;
-        carry = next.carry;
-        i += 1;
     }
     total
 }
@@ -210,29 +179,26 @@ fn add_products(sum: [u64; 67], z: &[f64], f: &[f64], column: usize, width: usiz
     ensures { result ≡ held (reading sum +ℤ dotted z.now f.now column width) }
 {
     let mut total = sum;
-    let mut at = column;
-    let mut i = 0;
-    while i < z.len() {
+    let mut at = column; // kept: it goes by the width, which may be 0, where step_by takes no step of 0, and may lead past the end of f
+    for x in z {
         if at >= f.len() {
             return total;
         }
-        let term = term_of(z[i], f[at]);
+        let term = term_of(*x, f[at]);
         let place = term.place;
-        let low = step_word(total[place], term.low, 0, term.negative);
-        total[place] = low.word;
-        let middle = step_word(total[place + 1], term.middle, low.carry, term.negative);
-        total[place + 1] = middle.word;
-        let high = step_word(total[place + 2], term.high, middle.carry, term.negative);
-        total[place + 2] = high.word;
-        if high.carry != 0 {
-            let next = carried(total, place + 3, term.negative);
-            total = next;
+        let (low, carry) = step_word(total[place], term.low, false, term.negative);
+        total[place] = low;
+        let (middle, carry) = step_word(total[place + 1], term.middle, carry, term.negative);
+        total[place + 1] = middle;
+        let (high, carry) = step_word(total[place + 2], term.high, carry, term.negative);
+        total[place + 2] = high;
+        if carry {
+            total = carried(total, place + 3, term.negative);
         }
         if width >= f.len() - at {
             return total; // f ends here, and what it does not have counts as 0
         }
         at += width;
-        i += 1;
     }
     total
 }

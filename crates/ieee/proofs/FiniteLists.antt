@@ -1,9 +1,13 @@
 -- The tests of finite numbers come out false exactly where a number is not finite.
-use Rattle.std.proofs.Common.{ℕ, zero, suc, ◌<◌, Bool, true, false, not, ◌&&◌, T, ◌↔◌, List, [], ◌∷◌, length, get_or, le_of_suc-le-suc, not-suc-le-zero, zero-lt-suc, arith, T_not}
+use Rattle.std.proofs.Common.{◌≡◌, ℕ, zero, suc, ◌<◌, Bool, true, false, not, ◌&&◌, T, ◌↔◌, List, [], ◌∷◌, length, get_or, suc-le-suc, le_of_suc-le-suc, not-suc-le-zero, zero-lt-suc, arith, T_not}
+use Rattle.std.specs.Cmp.{both_ways}
+use Rattle.std.specs.List.{EachIndex}
 use lib.Dec.{not_T}
 use lib.Ieee.{Float, nan, inf, fin}
-use lib.Ieee.Fits.{and_l, and_r}
+use lib.Ieee.Fits.{and_i, and_l, and_r}
+use lib.Ieee.Bits.{is_true}
 use lib.Ieee.Scale.{finite}
+use Rattle.ieee.proofs.Zero.{holds}
 use Rattle.ieee.specs.Finite.{all_finite, NotFinite, not_a_number, infinite, SomeNotFinite}
 
 -- ---- one number
@@ -25,6 +29,7 @@ is_finite (inf s) n = n (infinite s)
 is_finite (fin s m e) n = tt
 
 -- ---- a list
+
 some_not_finite : (xs : List Float) → T (not (all_finite xs)) → SomeNotFinite xs
 unfolding all_finite
 some_not_finite [] h = absurd h
@@ -40,6 +45,18 @@ unfolding all_finite
 finite_at [] k h l = absurd (not-suc-le-zero l)
 finite_at (x ∷ xs) zero h l = and_l (finite x) (all_finite xs) h
 finite_at (x ∷ xs) (suc k) h l = finite_at xs k (and_r (finite x) (all_finite xs) h) (le_of_suc-le-suc l)
+
+pub all_at : (xs : List Float) → ((k : ℕ) → k < length xs → T (finite (get_or xs k nan))) → T (all_finite xs)
+unfolding all_finite
+all_at [] h = tt
+all_at (x ∷ xs) h = and_i (finite x) (all_finite xs) (h 0 (zero-lt-suc (length xs))) (all_at xs (λ k l. h (suc k) (suc-le-suc l)))
+
+-- a test that holds exactly where each number is finite
+pub tests_all : (xs : List Float) (b : Bool) → b ≡ true ↔ EachIndex xs (λ k. finite (get_or xs k nan) ≡ true) → b ≡ all_finite xs
+tests_all xs b h =
+    both_ways b (all_finite xs)
+    (λ e. is_true (all_finite xs) (all_at xs (λ k l. holds (finite (get_or xs k nan)) (h.0 e k l))))
+    (λ e. h.1 (λ k l. is_true (finite (get_or xs k nan)) (finite_at xs k (holds (all_finite xs) e) l)))
 
 pub not_all_finite : (xs : List Float) → T (not (all_finite xs)) ↔ SomeNotFinite xs
 not_all_finite xs = (

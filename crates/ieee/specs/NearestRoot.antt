@@ -6,8 +6,7 @@ use Rattle.std.specs.Float.Ieee.Scale.{finite}
 use Rattle.ieee.specs.Values.{multiple, sign_of}
 
 -- r is the f64 nearest the exact root of x. In whole multiples of 2^-1074, with V, R and Y those of x, r and any other finite f64 y that is not negative, and
--- U = 2^1074,
--- the root is √(V-as-U). It lies nearer to R than to Y: above the middle of the two where Y < R, and below it where R < Y.
+-- U = 2^1074, the root is √(V·U). It lies nearer to R than to Y: above the middle of the two where Y < R, and below it where R < Y.
 pub record NearestRoot (x r : Float) : Type 0 where
   pub format : T (fits binary64 r)
   pub number : T (finite r)

@@ -21,12 +21,7 @@ pub fn is_finite(x: f64) -> bool
 pub fn all_finite(xs: &[f64]) -> bool
     ensures { result ≡ all_finite xs.now }
 {
-    for i in 0..xs.len() {
-        if !is_finite(xs[i]) {
-            return false;
-        }
-    }
-    true
+    xs.iter().all(|x| is_finite(*x))
 }
 
 // The magnitude of x: its sign is cleared, a zero's too. A NaN stays one.
@@ -43,6 +38,7 @@ pub fn abs(x: f64) -> f64
 }
 
 // x where x > y, and y otherwise.
+// kept: it and `min` are one line each, an operator apart; one function for both would take the comparison, and be longer than the two and no plainer
 pub fn max(x: f64, y: f64) -> f64
     ensures { result ≡ max_of x y }
 {
@@ -70,7 +66,7 @@ fn normalised(field: u64, fraction: u64) -> Scaled
     ensures { Normalised field fraction result.significand result.exponent }
 {
     if field == 0 {
-        let shift = u64::leading_zeros(fraction) as u64 - 11;
+        let shift = fraction.leading_zeros() as u64 - 11;
         return Scaled {
             significand: fraction << shift,
             exponent: 1074 - shift,
@@ -91,8 +87,7 @@ fn root_digits(n: u64) -> u64
     let mut digits = n * 0x400;
     let mut rest: u64 = 0;
     let mut root: u64 = 0;
-    let mut i: u64 = 0;
-    while i < 54 {
+    for _ in 0..54u64 {
         rest = rest * 4 + digits / 0x4000_0000_0000_0000;
         digits = digits % 0x4000_0000_0000_0000 * 4;
         if root * 4 + 1 <= rest {
@@ -101,7 +96,6 @@ fn root_digits(n: u64) -> u64
         } else {
             root = root * 2;
         }
-        i += 1;
     }
     root
 }
@@ -162,7 +156,7 @@ fn guessed_root(n: u64) -> u64
     let m = n / 0x40_0000;
     let y = better_guess(m, better_guess(m, better_guess(m, first_guess(m))));
     let first = m * y / 0x8000_0000 % 0x1_0000_0000;
-    let rest = std::num::wrapping_sub_u64(n * 0x400, first * first);
+    let rest = (n * 0x400).wrapping_sub(first * first);
     first * 0x40_0000 + rest / 0x20 % 0x1_0000_0000 * y / 0x20_0000_0000
 }
 
@@ -188,7 +182,7 @@ fn nearest_root(x: f64) -> f64
     requires { T (positive x) }
     ensures { result ≡ root_of (multiple x) }
 {
-    let bits = f64::to_bits(x);
+    let bits = x.to_bits();
     let scaled = normalised(bits / 0x10_0000_0000_0000, bits % 0x10_0000_0000_0000);
     let half = scaled.exponent / 2;
     let root = whole_root(scaled.significand * (1 + scaled.exponent % 2));
@@ -234,7 +228,7 @@ fn whole_part(x: f64) -> f64
     requires { T (finite x) × (sign_of x ≡ false) }
     ensures { result ≡ floor_of x }
 {
-    f64::from_bits(whole_bits(f64::to_bits(x)))
+    f64::from_bits(whole_bits(x.to_bits()))
 }
 
 // The greatest whole number not above x, for a finite negative x: x itself, or 1 below its whole part.

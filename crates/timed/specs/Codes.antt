@@ -1,9 +1,9 @@
 -- The numbers by which `timed` tells an order to other languages.
 use Rattle.std.specs.Prelude.{ℕ}
-use Rattle.words.specs.declared.Order.{Order}
-use Rattle.words.specs.declared.Order.TheVariants.{Below, Same, Above}
+use Rattle.std.specs.declared.cmp.Ordering.{Ordering}
+use Rattle.std.specs.declared.cmp.Ordering.TheVariants.{Less, Equal, Greater}
 
-abbrev pub code_of : Order → ℕ
-code_of Below = 0
-code_of Same = 1
-code_of Above = 2
+abbrev pub code_of : Ordering → ℕ
+code_of Less = 0
+code_of Equal = 1
+code_of Greater = 2

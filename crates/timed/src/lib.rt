@@ -6,7 +6,7 @@ ghost use Rattle.words.specs.Words.{reading};
 ghost use Rattle.words.specs.Compared.{order_of, words_taken};
 ghost use Rattle.timed.specs.Codes.{code_of};
 
-use words::Order;
+use std::cmp::Ordering;
 
 // `compare` of two exact sums: 0 where the first is below the second, 1 where they are the same, 2 where it is above. How many words it took goes to
 // its place.
@@ -17,10 +17,9 @@ pub extern "C" fn timed_compare(a: &[u64; 67], b: &[u64; 67], words: &mut usize)
 {
     let compared = words::compare(*a, *b);
     *words = compared.words;
-    let order = compared.order;
-    match order {
-        Order::Below => 0,
-        Order::Same => 1,
-        Order::Above => 2,
+    match compared.order {
+        Ordering::Less => 0,
+        Ordering::Equal => 1,
+        Ordering::Greater => 2,
     }
 }

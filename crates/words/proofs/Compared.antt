@@ -5,8 +5,8 @@ use borrow.Author.Tests.{lt-leb, eqb-false}
 use lib.Signed.{le_z}
 use lib.ListN.{get_or-eq_default}
 use lib.Arith.{lt_of_le-ne}
-use Rattle.words.specs.declared.Order.{Order}
-use Rattle.words.specs.declared.Order.TheVariants.{Below, Same, Above}
+use Rattle.std.specs.declared.cmp.Ordering.{Ordering}
+use Rattle.std.specs.declared.cmp.Ordering.TheVariants.{Less, Equal, Greater}
 use Rattle.words.specs.Words.{number, modulus, half, reading}
 use Rattle.words.specs.Compared.{order_of, is_at_most, HighestDiffering, signed_word, read_at, or_lowest}
 use Rattle.words.specs.Compared.{lowest_place, highest_place, less_place, words_taken, SaysOf}
@@ -17,17 +17,17 @@ use Rattle.words.proofs.Sign.{twos, twos_low, twos_high, reading_twos, low_top, 
 
 -- ---- the order of two natural numbers
 
-pub below : (x y : ℕ) → x < y → order_of (pos x) (pos y) ≡ Below
+pub below : (x y : ℕ) → x < y → order_of (pos x) (pos y) ≡ Less
 below x y h = rw (lt-ltb x y h)
 
-pub above : (x y : ℕ) → y < x → order_of (pos x) (pos y) ≡ Above
+pub above : (x y : ℕ) → y < x → order_of (pos x) (pos y) ≡ Greater
 above x y h = rw (le-ltb x y (le_of_lt h)) (rw (lt-ltb y x h))
 
-pub same : (x y : ℕ) → x ≤ y → y ≤ x → order_of (pos x) (pos y) ≡ Same
+pub same : (x y : ℕ) → x ≤ y → y ≤ x → order_of (pos x) (pos y) ≡ Equal
 same x y h k = rw (le-ltb x y k) (rw (le-ltb y x h))
 
 -- a number stands to itself as the same
-pub itself : (z : ℤ) → order_of z z ≡ Same
+pub itself : (z : ℤ) → order_of z z ≡ Equal
 itself (pos n) = same n n (le_refl n) (le_refl n)
 itself (negsuc n) = same n n (le_refl n) (le_refl n)
 
@@ -48,12 +48,12 @@ module _ (h m x y : ℕ) (k : x < m) (l : y < m) where
   both_high : h ≤ x → h ≤ y → order_of (twos h m x) (twos h m y) ≡ order_of (pos x) (pos y)
   both_high p q =
       ap₂ order_of (twos_high h m x k p) (twos_high h m y l q)
-      ∙ ap₂ (λ (s t : Bool). cond s Below (cond t Above Same)) (turn m x y k l) (turn m y x l k)
+      ∙ ap₂ (λ (s t : Bool). cond s Less (cond t Greater Equal)) (turn m x y k l) (turn m y x l k)
 
-  first_high : h ≤ x → y < h → order_of (twos h m x) (twos h m y) ≡ Below
+  first_high : h ≤ x → y < h → order_of (twos h m x) (twos h m y) ≡ Less
   first_high p q = ap₂ order_of (twos_high h m x k p) (twos_low h m y q)
 
-  second_high : x < h → h ≤ y → order_of (twos h m x) (twos h m y) ≡ Above
+  second_high : x < h → h ≤ y → order_of (twos h m x) (twos h m y) ≡ Greater
   second_high p q = ap₂ order_of (twos_low h m x p) (twos_high h m y l q)
 
 -- numbers in one order
@@ -139,7 +139,7 @@ module _ (a b : List ℕ) (u : Words a) (v : Words b) (k : length a ≡ 67) (l :
       (either_lt i 66)
 
   -- top words of two signs differ, so it is they that decide
-  unlike : (o : Order) → order_of (signed_word (get_or a 66 0)) (signed_word (get_or b 66 0)) ≡ o → (get_or a 66 0 ≡ get_or b 66 0 → ⊥)
+  unlike : (o : Ordering) → order_of (signed_word (get_or a 66 0)) (signed_word (get_or b 66 0)) ≡ o → (get_or a 66 0 ≡ get_or b 66 0 → ⊥)
       → order_of (read_at i (get_or a i 0)) (read_at i (get_or b i 0)) ≡ o
   unlike o e n =
       ⊎_elim
@@ -166,12 +166,12 @@ module _ (a b : List ℕ) (u : Words a) (v : Words b) (k : length a ≡ 67) (l :
   high_low : 2 ^ 63 ≤ get_or a 66 0 → get_or b 66 0 < 2 ^ 63 → Decided
   high_low h g =
       readings ∙ first_high half modulus (number a) (number b) (number_below a u k) (number_below b v l) (high_top a u k h) (low_top b v l g)
-      ∙ sym (unlike Below (first_high (2 ^ 63) (2 ^ 64) (get_or a 66 0) (get_or b 66 0) (words_get a 66 u) (words_get b 66 v) h g) (λ e. omega arith))
+      ∙ sym (unlike Less (first_high (2 ^ 63) (2 ^ 64) (get_or a 66 0) (get_or b 66 0) (words_get a 66 u) (words_get b 66 v) h g) (λ e. omega arith))
 
   low_high : get_or a 66 0 < 2 ^ 63 → 2 ^ 63 ≤ get_or b 66 0 → Decided
   low_high h g =
       readings ∙ second_high half modulus (number a) (number b) (number_below a u k) (number_below b v l) (low_top a u k h) (high_top b v l g)
-      ∙ sym (unlike Above (second_high (2 ^ 63) (2 ^ 64) (get_or a 66 0) (get_or b 66 0) (words_get a 66 u) (words_get b 66 v) h g) (λ e. omega arith))
+      ∙ sym (unlike Greater (second_high (2 ^ 63) (2 ^ 64) (get_or a 66 0) (get_or b 66 0) (words_get a 66 u) (words_get b 66 v) h g) (λ e. omega arith))
 
   -- "the first word that differs" tells the order of the sums, "the top word read as signed"
   pub decided : order_of (reading a) (reading b) ≡ order_of (read_at i (get_or a i 0)) (read_at i (get_or b i 0))

@@ -1,24 +1,24 @@
 -- Two exact sums compared: paper 02, "Audit comparison that stops early".
-use Rattle.std.specs.Prelude.{◌≡◌, ℕ, suc, ◌-◌, ◌^◌, ◌<◌, Bool, true, false, cond, List, [], ◌∷◌, ℤ, pos, ◌-ℤ◌, ◌==◌, int_lt, nat_lt, slice_index, slice_index_or}
+use Rattle.std.specs.Prelude.{◌≡◌, ℕ, suc, ◌-◌, ◌^◌, ◌<◌, Bool, true, false, cond, List, [], ◌∷◌, ℤ, pos, ◌-ℤ◌, ◌==◌, int_lt, nat_lt, slice_index}
 use Rattle.std.proofs.Math.Option.{Option, none, some}
-use Rattle.words.specs.declared.Order.{Order}
-use Rattle.words.specs.declared.Order.TheVariants.{Below, Same, Above}
+use Rattle.std.specs.declared.cmp.Ordering.{Ordering}
+use Rattle.std.specs.declared.cmp.Ordering.TheVariants.{Less, Equal, Greater}
 
 -- "It answers their order": how one whole number stands to another
-abbrev pub order_of : ℤ → ℤ → Order
-order_of x y = cond (int_lt x y) Below (cond (int_lt y x) Above Same)
+abbrev pub order_of : ℤ → ℤ → Ordering
+order_of x y = cond (int_lt x y) Less (cond (int_lt y x) Greater Equal)
 
 -- which orders are those of a number that is at most the other
-abbrev pub is_at_most : Order → Bool
-is_at_most Below = true
-is_at_most Same = true
-is_at_most Above = false
+abbrev pub is_at_most : Ordering → Bool
+is_at_most Less = true
+is_at_most Equal = true
+is_at_most Greater = false
 
 -- ---- the words that decide
 
 -- "the highest differing word" stands at place i: there the two differ, and nowhere above
 pub record HighestDiffering (a b : List ℕ) (i : ℕ) : Type 0 where
-  pub differs : slice_index_or a i 0 ≡ slice_index b i → ⊥
+  pub differs : slice_index a i ≡ slice_index b i → ⊥
   pub above : (j : ℕ) → i < j → slice_index a j ≡ slice_index b j
 
 -- "the top word read as signed": in two's complement, as the whole sum is

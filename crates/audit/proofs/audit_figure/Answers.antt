@@ -6,8 +6,8 @@ use Rattle.audit.proofs.audit_figure.Goals as goal
 pub returns-then-not-is_finite : goal.returns-then-not-is_finite
 returns-then-not-is_finite c = search (rules, joined)
 
-pub returns-then-drift_verdict-ne0 : goal.returns-then-drift_verdict-ne0
-returns-then-drift_verdict-ne0 c = grind (rules, joined)
+pub returns-then-number-ne0 : goal.returns-then-number-ne0
+returns-then-number-ne0 c = grind (rules, joined)
 
 pub returns-then-row_met : goal.returns-then-row_met
 returns-then-row_met c = grind (rules, joined)

@@ -1,4 +1,5 @@
 -- `audit::drift_finite` meets its contract. The invariants: the rows above row i are finite, and row i as far as column j; `at` is the entry's place.
+-- The measures are the rows and the columns that are left.
 use Prim.Native.Nat.{◌+◌, ◌-◌, ◌*◌, ◌≤◌, ◌<◌}
 use mathlib.Core.Path.{◌≡◌}
 use mathlib.Core.Bool.{true}

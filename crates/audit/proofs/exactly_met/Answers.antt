@@ -1,4 +1,5 @@
 -- `audit::exactly_met` meets its contract: a slice has too few numbers for its exact sum to wrap.
+use Rattle.std.proofs.Common.{rules}
 use Prim.Native.Nat.{◌*◌, ◌^◌, ◌<◌}
 use native.Mathlib.Omega.{arith}
 use mathlib.Core.Path.{◌∙◌, sym, ap}
@@ -10,7 +11,7 @@ use Rattle.exact.specs.Units.{units}
 use Rattle.words.specs.Words.{reading, held}
 use Rattle.words.specs.Compared.{is_at_most}
 use Rattle.words.proofs.Compared.{at_most}
-use Rattle.audit.proofs.Row.{row_is}
+use Rattle.audit.proofs.ExactRow.{row_is}
 use Rattle.audit.proofs.exactly_met.Goals as goal
 
 pub returns : goal.returns
@@ -19,11 +20,11 @@ returns c =
     let allowed = c.add_product-allowed in
     let missing = c.sub_product-missing in
     let sum = c.dot_product-sum in
-    let a = c.args in
-    let few : length a.weights.now * 8 < 2 ^ 63 = c.well_formed.0.1 in
+    let a = c.args.row.now in
+    let few : length a.weights.now * 8 < 2 ^ 63 = omega arith in
     let same = ap (λ (y : Float). held (reading c.add_product-one.result +ℤ units a.tolerance *ℤ units y)) c.abs.ensures in
     c.is_at_most.ensures ∙ ap is_at_most compared.ensures.order ∙ sym (at_most (reading c.magnitude.result) (reading allowed.result))
     ∙ row_is a.weights.now a.numbers.now a.column a.width a.target (omega arith) a.tolerance
-    (holds (fits binary64 a.target) c.well_formed.1.1.1.1.0.1)
+    (holds (fits binary64 a.target) (search rules))
     sum.result missing.result c.magnitude.result c.add_product-one.result allowed.result
     sum.ensures missing.ensures c.magnitude.ensures c.add_product-one.ensures (allowed.ensures ∙ same)

@@ -11,6 +11,6 @@ returns c =
     let l = a % h * (b % h) in
     let m = a / h * (b % h) + l / h in
     let high : ℕ = a / h * (b / h) + m / h + (a % h * (b / h) + m % h) / h in
-    ap (λ (x : ℕ). x + 2 ^ 64 * high) (c.wrapping_add_u64.ensures.value ∙ low_word l (a % h * (b / h)) (a / h * (b % h)))
+    ap (λ (x : ℕ). x + 2 ^ 64 * high) (low_word l (a % h * (b / h)) (a / h * (b % h)))
     ∙ by_halves h (a % h) (a / h) (b % h) (b / h) _ _ _ _ _ _ (div-add-mod' l h) (div-add-mod' m h) (div-add-mod' (a % h * (b / h) + m % h) h)
     ∙ ap₂ (λ (x y : ℕ). x * y) (div-add-mod' a h) (div-add-mod' b h)

@@ -1,7 +1,8 @@
 -- `words::negated` meets its contract. The invariant: the first i words of the result and of the sum make up the borrow at place i.
-use Rattle.std.proofs.Common.{◌≡◌, ℕ, ◌+◌, ◌*◌, ◌^◌, ◌<◌, true, List, length, get_or, take, set, replicate, pos, ◌-ℤ◌, neg_ℤ, sym, ap, ◌∙◌, ap₂, inr, le_refl, zero-add, add-one, arith, length-set, take_all, get_or-set_same, lt-length-set}
+use Rattle.std.proofs.Common.{rules, ◌≡◌, ℕ, ◌+◌, ◌*◌, ◌^◌, ◌<◌, true, List, length, get_or, take, set, replicate, pos, ◌-ℤ◌, neg_ℤ, sym, ap, ◌∙◌, ap₂, inr, le_refl, zero-add, add-one, arith, length-set, take_all, get_or-set_same, lt-length-set}
 use lib.Seq.{take-set-le}
 use lib.IntN.{+ℤ_idl}
+use Rattle.std.specs.Int.{from_bool}
 use Rattle.words.specs.Words.{number, reading, held}
 use Rattle.words.proofs.Words.{words_set, place_suc}
 use Rattle.words.proofs.Held.{held_zero, held_add, held_negℤ}
@@ -30,17 +31,15 @@ loop-i-preserved c =
     let l = c.loop-i in
     let sum = c.args.sum in
     let v = l.invariant in
-    let r = c.negated_word-next.result in
+    let r = c.borrowing_sub-word.result in
     let place : l.i < length l.rest = omega arith in
     let word : l.i < length sum = omega arith in
     let up : 2 ^ (64 * (l.i + 1)) ≡ 2 ^ 64 * 2 ^ (64 * l.i) = ap (λ (n : ℕ). 2 ^ (64 * n)) (add-one l.i) ∙ place_suc l.i in (
-      omega arith,
-      v.1,
-      words_set l.rest l.i r.word v.2 c.negated_word-next.type_inv.1.1.0.1,
-      length-set l.rest l.i r.word ∙ v.3,
-      c.negated_word-next.ensures.borrow,
-      word-taken _ _ _ _ r.word (get_or sum l.i 0) l.borrow r.borrow _ _ (next_word l.rest l.i r.word place) (same_word sum l.i word)
-          c.negated_word-next.ensures.value up v.5,
+      v.0,
+      words_set l.rest l.i r.0 v.1 (search rules),
+      length-set l.rest l.i r.0 ∙ v.2,
+      word-taken _ _ _ _ r.0 (get_or sum l.i 0) (from_bool l.borrow) (from_bool r.1) _ _ (next_word l.rest l.i r.0 place) (same_word sum l.i word)
+          (omega arith) up v.3,
     )
 
 -- rest
@@ -50,10 +49,10 @@ returns c =
     let v = l.invariant in
     let sum = c.args.sum in
     let n = number sum in
-    let all : number l.rest + n ≡ 0 + l.borrow * 2 ^ (64 * l.i) =
+    let all : number l.rest + n ≡ 0 + from_bool l.borrow * 2 ^ (64 * l.i) =
     ap₂ (λ (ws vs : List ℕ). number ws + number vs) (sym (take_all l.i l.rest (omega arith))) (sym (take_all l.i sum (omega arith)))
-    ∙ v.5 ∙ sym (zero-add _) in
-    moved_held true l.rest (replicate 67 0) v.2 v.3 n l.borrow l.i (inr c.loop-i-test.false) all
+    ∙ v.3 ∙ sym (zero-add _) in
+    moved_held true l.rest (replicate 67 0) v.1 v.2 n (from_bool l.borrow) l.i (inr c.loop-i-test.false) all
     ∙ ap (λ (ws : List ℕ). held (reading ws -ℤ pos n)) held_zero
     ∙ held_add (pos 0) (neg_ℤ (pos n))
     ∙ ap held (+ℤ_idl (neg_ℤ (pos n)))
