@@ -584,6 +584,28 @@ pub fn fraction_table() -> [u64; 512]
     FRACTIONS
 }
 
+// The same as a value that is known to be the table: who has one gets e^−u by it, and not what some array gives.
+#[derive(Drop)]
+pub struct FractionTable {
+    pub entries: [u64; 512],
+    pub ghost own: { entries ≡ fraction_table },
+}
+
+impl FractionTable {
+    pub fn new() -> Self {
+        Self {
+            entries: fraction_table(),
+        }
+    }
+
+    // e^−u.
+    pub fn exp_neg(&self, u: f64) -> f64
+        ensures { result ≡ exp_neg u }
+    {
+        exp_neg_by(&self.entries, u)
+    }
+}
+
 // Entry i of a table that is lent: whatever that holds, no more than 1.
 fn fraction_entry(lent: &[u64; 512], i: usize) -> u64
     requires { i < 512 }
@@ -596,24 +618,12 @@ fn fraction_entry(lent: &[u64; 512], i: usize) -> u64
     entry
 }
 
-// a·b·2^-62, the rest cut off: of the product's two words, by halves of 32 bits as in `exact`, the high one and the two highest bits of the low one.
+// a·b·2^-62, the rest cut off.
 fn product(a: u64, b: u64) -> u64
     requires { (a ≤ 2 ^ 62) × (b ≤ 2 ^ 62) }
     ensures { result ≡ times a b }
 {
-    let a_low = a % 0x1_0000_0000;
-    let a_high = a / 0x1_0000_0000;
-    let b_low = b % 0x1_0000_0000;
-    let b_high = b / 0x1_0000_0000;
-    let low = a_low * b_low;
-    let cross = a_low * b_high;
-    let across = a_high * b_low;
-    let high = a_high * b_high;
-    let first = across + low / 0x1_0000_0000;
-    let second = cross + first % 0x1_0000_0000;
-    let low_word = std::num::wrapping_add_u64(low, (cross + across) << 32);
-    let high_word = high + first / 0x1_0000_0000 + second / 0x1_0000_0000;
-    high_word * 4 + low_word / 0x4000_0000_0000_0000
+    (u128::from(a) * u128::from(b) >> 62) as u64
 }
 
 // e^−f for an f below 1/512: the terms of its series up to the fifth power.
@@ -660,6 +670,7 @@ fn scaled(u: f64) -> u64
 
 // e^−u by a table that is lent, which is `fraction_table`'s where the answer is to be e^−u. An infinite u gives 0 and a NaN gives a NaN; −0 counts as 0,
 // and below zero it is a NaN.
+// kept: any array, where a `FractionTable` could stand, since it answers by whatever that holds (docs/STATEMENTS.md: `exp_neg_by`).
 pub fn exp_neg_by(lent: &[u64; 512], u: f64) -> f64
     ensures { result ≡ exp_neg_by lent.now u }
 {
@@ -677,8 +688,7 @@ pub fn exp_neg_by(lent: &[u64; 512], u: f64) -> f64
 pub fn exp_neg(u: f64) -> f64
     ensures { result ≡ exp_neg u }
 {
-    let table = fraction_table();
-    exp_neg_by(&table, u)
+    FractionTable::new().exp_neg(u)
 }
 
 // e^−u of each number of a list, as far as the area goes: the table is written out once for all of them.
@@ -686,13 +696,8 @@ pub fn exp_neg_each(us: &[f64], out: &mut [f64])
     ensures { out.new ≡ written 0 (min (length us.now) (length out.old))
         (λ i. exp_neg (slice_index_or us.now i nan)) out.old }
 {
-    let table = fraction_table();
-    let mut i = 0;
-    while i < us.len() {
-        if i >= out.len() {
-            return;
-        }
-        out[i] = exp_neg_by(&table, us[i]);
-        i += 1;
+    let table = FractionTable::new();
+    for i in 0..us.len().min(out.len()) {
+        out[i] = table.exp_neg(us[i]);
     }
 }

@@ -1,4 +1,4 @@
--- A point with finite coordinates is at distance +0 from itself, and so its variogram with itself is +0, where the same_spot distance is above zero.
+-- A point with finite coordinates is at distance +0 from itself, and so its variogram with itself is +0, where the same-spot distance is above zero.
 use Prim.Native.Nat.{ℕ, zero, suc, ◌*◌, ◌<◌}
 use native.Mathlib.Omega.{arith}
 use mathlib.Core.Path.{◌≡◌, refl, ap, ◌∙◌}
@@ -43,6 +43,6 @@ squares_itself a (suc d) f =
 pub distance_itself : (xs : List Float) (i d : ℕ) → offered d ≡ true → ((k : ℕ) → k < d → T (finite (axis_from xs (i * d) k))) → distance xs i xs i d ≡ zero_float
 distance_itself xs i d o f = distance_offered xs i xs i d o ∙ ap sqrt_of (squares_itself (axis_from xs (i * d)) d f) ∙ root_zero
 
--- +0 is below every same_spot distance above it
+-- +0 is below every same-spot distance above it
 pub variogram_itself : (v : Variogram) → lt zero_float v.same_spot ≡ true → semivariance v zero_float ≡ zero_float
 variogram_itself v near = same_spot v zero_float near

@@ -1,4 +1,4 @@
--- Laws of the variogram: what it is below the same_spot distance, past it by its model, and sounding F.
+-- Laws of the variogram: what it is below the same-spot distance, past it by its model, and sounding F.
 use Prim.Native.Nat.{ℕ, zero, suc, ◌*◌, ◌≤◌, ◌<◌}
 use native.Mathlib.Nat.{mul-pos, zero-lt-suc, zero-mul}
 use native.Mathlib.Omega.{arith}
@@ -22,7 +22,7 @@ use Rattle.variogram.specs.Model.{variogram, spheric, spherical, linear, of_mode
 use Rattle.variogram.specs.Model.{wrong_model}
 use Rattle.variogram.specs.Model.{NotAboveZero, a_zero, negative, not_a_number, WrongModel}
 
--- the variogram of a distance below the same_spot distance is +0, whatever the model and its numbers
+-- the variogram of a distance below the same-spot distance is +0, whatever the model and its numbers
 pub with_same_spot_lem : (exp : Float → Float) (v : Variogram) (h : Float) → lt h v.same_spot ≡ true → semivariance_with exp v h ≡ zero_float
 unfolding semivariance_with
 with_same_spot_lem exp v h near = rw near

@@ -1,4 +1,4 @@
--- The same_spot distance: one step below it and at it, which patterns 22 takes, and that such a distance is above zero.
+-- The same-spot distance: one step below it and at it, which patterns 22 takes, and that such a distance is above zero.
 use Prim.Native.Nat.{ℕ, zero, suc, ◌+◌, ◌*◌, ◌/◌, ◌%◌, ◌^◌, ◌≤◌, ◌<◌}
 use native.Mathlib.Nat.{mul-pos, zero-mul, zero-lt-suc}
 use native.Mathlib.Omega.{arith}
@@ -24,7 +24,7 @@ use Rattle.variogram.specs.Model.{with_same_spot, semivariance, wrong_spot, Wron
 use Rattle.variogram.specs.Spot.{OneStep, Taken}
 use Rattle.variogram.proofs.Model.{same_spot, by_model_lem}
 
--- ---- a same_spot distance that 22 takes is above zero
+-- ---- a same-spot distance that 22 takes is above zero
 pub above_zero : (x : Float) → T (finite x) → lt x epsilon ≡ false → lt zero_float x ≡ true
 unfolding lt of_bits
 above_zero nan f h = absurd f

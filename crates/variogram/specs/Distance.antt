@@ -22,9 +22,12 @@ distance2d ax ay bx by = sqrt_of (squared_distance2d ax ay bx by)
 abbrev pub squares : (ℕ → Float) → (ℕ → Float) → ℕ → Float
 squares a b k = running_sum k (λ i. square (sub binary64 (a i) (b i)))
 
--- the point that begins at a place of a list: its number on axis k, a NaN past the list's end
+-- a point's number on axis k, and that of the point that begins at a place of a list: a NaN past the list's end
+abbrev pub axis : List Float → ℕ → Float
+axis xs k = get_or xs k nan
+
 abbrev pub axis_from : List Float → ℕ → ℕ → Float
-axis_from xs start k = get_or xs (start + k) nan
+axis_from xs start k = axis xs (start + k)
 
 -- "d not 1, 2 or 3" is refused
 abbrev pub offered : ℕ → Bool

@@ -1,3 +1,4 @@
 pub mod Model
+pub mod Numbers
 pub mod Spot
 pub mod Distance

@@ -1,14 +1,10 @@
 -- `variogram::sum_axes` meets its contract. The loop's invariant: the sum is that over the axes passed.
-use mathlib.Core.Path.{refl}
-use native.Mathlib.Omega.{arith}
-use native.Mathlib.Numerals.{add-one}
-use Rattle.ieee.specs.Sums.{add_each}
+use Rattle.std.proofs.Common.{refl}
+use Rattle.ieee.proofs.Sums.{no_terms, sum_turn}
 use Rattle.variogram.proofs.sum_axes.Goals as goal
 
 pub loop-k-init : goal.loop-k-init
-unfolding add_each
-loop-k-init c = (omega arith, refl)
+loop-k-init c = no_terms _
 
 pub loop-k-preserved : goal.loop-k-preserved
-unfolding add_each
-loop-k-preserved c = let at = c in (omega arith, rw (add-one, at.loop-k.invariant.1))
+loop-k-preserved c = sum_turn c.loop-k.k _ c.loop-k.dist_sq _ refl c.loop-k.invariant

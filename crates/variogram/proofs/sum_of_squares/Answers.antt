@@ -1,15 +1,12 @@
 -- `variogram::sum_of_squares` meets its contract: where a point ends past its list, its last axis is a NaN, and so is the sum.
-use Prim.Native.Nat.{ℕ, ◌+◌, ◌-◌, ◌<◌}
-use native.Mathlib.Omega.{arith}
-use mathlib.Core.Path.{◌≡◌, sym, ap, ◌∙◌}
-use mathlib.Core.List.{List}
-use borrow.Author.Tests.{ltb-true}
-use lib.ListN.{length, get_or-eq_default}
+use Rattle.std.proofs.Common.{◌≡◌, ℕ, ◌+◌, ◌-◌, ◌<◌, List, length, sym, ap, ◌∙◌, arith}
+use lib.ListN.{get_or-eq_default}
 use lib.Ieee.{Float, nan, binary64, sub, mul, neg}
 use Rattle.ieee.specs.Sums.{add_each}
 use Rattle.ieee.proofs.Sums.{none_from}
 use Rattle.ieee.proofs.RoundingSum.{add_nan}
 use Rattle.variogram.specs.Distance.{square, squares, axis_from}
+use Rattle.variogram.proofs.Parts.{taken_squares}
 use Rattle.variogram.proofs.sum_of_squares.Goals as goal
 
 -- an axis past the end
@@ -32,20 +29,19 @@ returns-then-d-eq0 c =
     let a = c.args in
     sym (ap (λ (k : ℕ). squares (axis_from a.p1.now a.a) (axis_from a.p2.now a.b) k) c.if-d-eq0.true)
 
-pub returns-then-past_end : goal.returns-then-past_end
-returns-then-past_end c =
-    let t = c in
-    let e = t in
-    let a = e.args in
-    let h = ltb-true (length a.p1.now) (a.a + a.d) (sym e.past_end.ensures ∙ t.if-past_end.true) in
+pub returns-in_default : goal.returns-in_default
+returns-in_default c =
+    let a = c.args in
     c.not_a_number.ensures
-    ∙ sym (from_first (axis_from a.p1.now a.a) (axis_from a.p2.now a.b) a.d (omega arith) (past a.p1.now a.a a.d h (omega arith)))
+    ∙ sym (from_first (axis_from a.p1.now a.a) (axis_from a.p2.now a.b) a.d (omega arith) (past a.p1.now a.a a.d c.in_default.ensures (omega arith)))
 
-pub returns-then-past_end-2 : goal.returns-then-past_end-2
-returns-then-past_end-2 c =
-    let t = c in
-    let e = t in
-    let a = e.args in
-    let h = ltb-true (length a.p2.now) (a.b + a.d) (sym e.past_end-2.ensures ∙ t.if-past_end-2.true) in
-    c.not_a_number-then-past_end-2.ensures
-    ∙ sym (from_second (axis_from a.p1.now a.a) (axis_from a.p2.now a.b) a.d (omega arith) (past a.p2.now a.b a.d h (omega arith)))
+pub returns-in_default-axes : goal.returns-in_default-axes
+returns-in_default-axes c =
+    let a = c.args in
+    c.not_a_number-in_default-axes.ensures
+    ∙ sym (from_second (axis_from a.p1.now a.a) (axis_from a.p2.now a.b) a.d (omega arith) (past a.p2.now a.b a.d c.in_default-axes.ensures (omega arith)))
+
+pub returns : goal.returns
+returns c =
+    rw (c.sum_axes.ensures, c.in-Some.ensures.1, c.in-Some-axes.ensures.1)
+    (taken_squares c.args.p1.now c.args.p2.now c.args.a c.args.b c.args.d c.in-Some.ensures.0)
