@@ -1,10 +1,12 @@
 -- A fill from the first place on, and a list that is copied there: the values, and then what was there.
 use Prim.Native.Nat.{ℕ, zero, suc, ◌+◌, ◌≤◌, ◌<◌}
-use native.Mathlib.Nat.{zero-add}
+use native.Mathlib.Nat.{zero-add, add-zero, add-suc}
 use native.Mathlib.Omega.{arith}
-use mathlib.Core.Path.{◌≡◌, refl, ap, sym, ◌∙◌}
-use mathlib.Core.List.{List, ◌++◌, map}
-use lib.ListN.{length, get_or, set, take, drop, length-map, get_or-map}
+use mathlib.Core.Path.{◌≡◌, ap, ap₂, sym, ◌∙◌}
+use mathlib.Core.List.{List, ◌∷◌, ◌++◌, map}
+use Rattle.std.proofs.Common.{append_assoc}
+use Rattle.std.proofs.lemmas.List.{take-append-drop}
+use lib.ListN.{length, get_or, set, take, drop, length-map, length-append, get_or-map}
 use lib.Seq.{take-suc, drop-cons, append_snoc, set_at, length-take-le, take-length, take-append_seam, drop-append_seam, get_or-take, ext_get_or}
 use Rattle.area.specs.Area.{written, copied, Kept}
 use Rattle.area.proofs.Turns.{length-written}
@@ -25,18 +27,28 @@ pub kept_start : {A : Type 0} (k : ℕ) (f : ℕ → A) (xs : List A) → Kept k
 kept_start k f xs = kept_written k 0 k f xs (omega arith)
 
 -- ---- a list
-first_written : {A : Type 0} (d : A) (xs area : List A) (k : ℕ) → k ≤ length xs → k ≤ length area
-    → written 0 k (λ j. get_or xs j d) area ≡ take k xs ++ drop k area
-first_written d xs area zero h g = refl
-first_written {A} d xs area (suc k) h g =
-    ap (λ (ys : List A). set ys (0 + k) (get_or xs k d)) (first_written d xs area k (omega arith) (omega arith)
-    ∙ ap (λ (ys : List A). take k xs ++ ys) (drop-cons area k d g))
-    ∙ set_at (take k xs) (get_or area k d) (drop (suc k) area) (get_or xs k d) (0 + k) (length-take-le k xs (omega arith) ∙ sym (zero-add k))
-    ∙ sym (append_snoc (take k xs) (get_or xs k d) (drop (suc k) area))
-    ∙ ap (λ (ys : List A). ys ++ drop (suc k) area) (sym (take-suc xs k d h))
+-- from a place on: what lies before it, the values, and past them what was there
+pub pasted : {A : Type 0} (start : ℕ) (d : A) (xs area : List A) (k : ℕ) → k ≤ length xs → start + k ≤ length area
+    → written start k (λ j. get_or xs j d) area ≡ take start area ++ (take k xs ++ drop (start + k) area)
+pasted {A} start d xs area zero h g = sym (ap (λ (n : ℕ). take start area ++ drop n area) (add-zero start) ∙ take-append-drop start area)
+pasted {A} start d xs area (suc k) h g =
+    let before : List A = take start area in
+    let value : A = get_or xs k d in
+    let rest : List A = drop (suc (start + k)) area in
+    let l : length (before ++ take k xs) ≡ start + k =
+    length-append before (take k xs) ∙ ap₂ (λ (i j : ℕ). i + j) (length-take-le start area (omega arith)) (length-take-le k xs (omega arith)) in
+    ap (λ (ys : List A). set ys (start + k) value) (pasted start d xs area k (omega arith) (omega arith)
+    ∙ ap (λ (ys : List A). before ++ (take k xs ++ ys)) (drop-cons area (start + k) d (omega arith))
+    ∙ sym (append_assoc before (take k xs) (get_or area (start + k) d ∷ rest)))
+    ∙ set_at (before ++ take k xs) (get_or area (start + k) d) rest value (start + k) l
+    ∙ append_assoc before (take k xs) (value ∷ rest)
+    ∙ ap (λ (ys : List A). before ++ ys) (sym (append_snoc (take k xs) value rest) ∙ ap (λ (ys : List A). ys ++ rest) (sym (take-suc xs k d h)))
+    ∙ ap (λ (n : ℕ). before ++ (take (suc k) xs ++ drop n area)) (sym (add-suc start k))
 
 pub copied_is : {A : Type 0} (d : A) (xs area : List A) → length xs ≤ length area → copied d xs area ≡ xs ++ drop (length xs) area
-copied_is {A} d xs area h = first_written d xs area (length xs) (omega arith) h ∙ ap (λ (ys : List A). ys ++ drop (length xs) area) (take-length xs)
+copied_is {A} d xs area h =
+    pasted 0 d xs area (length xs) (omega arith) (omega arith)
+    ∙ ap₂ (λ (ys : List A) (n : ℕ). ys ++ drop n area) (take-length xs) (zero-add (length xs))
 
 -- the list stands at the start of the area
 pub take_copied : {A : Type 0} (d : A) (xs area : List A) → length xs ≤ length area → take (length xs) (copied d xs area) ≡ xs

@@ -1,46 +1,62 @@
--- Laws of a word's bytes and of the patterns of floats.
-use Prim.Native.Nat.{ℕ, suc, ◌+◌, ◌*◌, ◌%◌, ◌^◌, ◌<◌, ◌≤◌}
+-- Laws of a word's bytes.
+use Prim.Native.Nat.{ℕ, zero, suc, ◌+◌, ◌-◌, ◌*◌, ◌^◌, ◌<◌, ◌≤◌}
 use native.Mathlib.Omega.{arith}
-use native.Mathlib.Numerals.{add-one}
-use mathlib.Core.Path.{◌≡◌, sym, ◌∙◌, subst}
-use mathlib.Core.Bool.{Bool, true, false, not}
-use mathlib.Core.List.{List}
-use lib.Dec.{T}
-use borrow.Author.Tests.{lt-ltb, le-ltb}
-use lib.ListN.{length, get_or, get_or-eq_default}
-use lib.Pow.{pow-add}
-use lib.Ieee.{Float, nan, inf, fin, binary64, of_bits, nan_bits, is_nan, eq, ne}
-use lib.Ieee.Bits.{nan_bits_is, nan_bits_above}
-use lib.Ieee.Compare.{differs_from_itself}
+use mathlib.Core.Path.{◌≡◌, refl, ap, sym, ◌∙◌}
+use mathlib.Core.List.{List, [], ◌∷◌, ◌++◌}
+use Rattle.std.specs.Int.{from_le_bytes}
+use Rattle.std.proofs.Common.{w64}
+use Rattle.ieee.specs.Bytes.{number_in}
+use lib.Dec.{lit<}
+use lib.ListN.{length, get_or, take, drop, replicate, length-append, length-replicate}
+use Rattle.std.proofs.lemmas.List.{drop-replicate}
+use lib.Seq.{take-length}
+use Rattle.std.proofs.Common.{pow-suc}
 use Rattle.ieee.proofs.Bytes.{number_more}
-use Rattle.ieee.proofs.Fields.{is_nan_lem}
 use Rattle.patterns.specs.Words.{number_at}
 
--- a byte past the end
-pub past : (xs : List ℕ) (i : ℕ) → length xs ≤ i → 0 ≡ get_or xs i 0
-past xs i h = sym (get_or-eq_default xs 0 {n = i} h)
-
 -- one byte more, below those that a number has already
-pub byte_more : (xs : List ℕ) (at k w : ℕ) → w ≡ number_at xs (suc at) k → w * 256 + get_or xs at 0 ≡ number_at xs at (k + 1)
-byte_more xs at k w h = let e = number_more xs at k in rw add-one (omega arith)
+pub room_more : (k w b : ℕ) → w < 256 ^ k → b < 256 → w * 256 + b < 256 ^ suc k
+room_more k w b h g = let p = 256 ^ k in rw (pow-suc 256 k) (omega arith)
 
-pub room_more : (k w b : ℕ) → w < 256 ^ k → b < 256 → w * 256 + b < 256 ^ (k + 1)
-room_more k w b h g = let p = 256 ^ k in rw (pow-add 256 k 1) (omega arith)
+pub number_below : (xs : List ℕ) (at k : ℕ) → ((i : ℕ) → get_or xs i 0 < 256) → number_at xs at k < 256 ^ k
+unfolding number_in
+number_below xs at zero h = lit< tt
+number_below xs at (suc k) h =
+    let e = number_more xs at k in
+    let m = room_more k (number_at xs (suc at) k) (get_or xs at 0) (number_below xs (suc at) k h) (h at) in
+    omega arith
 
--- ---- patterns
--- a pattern above infinity's, its sign aside, is a NaN's
-pub nan_pattern : (n : ℕ) → 0x7ff0_0000_0000_0000 < n % 2 ^ 63 → of_bits binary64 n ≡ nan
-nan_pattern n h = is_nan_lem (of_bits binary64 n) (sym (nan_bits_is binary64 n) ∙ nan_bits_above binary64 n ∙ lt-ltb 0x7ff0_0000_0000_0000 (n % 2 ^ 63) h)
+-- a byte past the end counts as 0
+pub zeros_after : (xs : List ℕ) (j : ℕ) → number_in (xs ++ replicate j 0) ≡ number_in xs
+unfolding number_in
+zeros_after [] zero = refl
+zeros_after [] (suc j) = let e = zeros_after [] j in omega arith
+zeros_after (x ∷ xs) j = ap (λ (n : ℕ). x + 256 * n) (zeros_after xs j)
 
-pub no_nan_pattern : (n : ℕ) → n % 2 ^ 63 ≤ 0x7ff0_0000_0000_0000 → T (not (nan_bits binary64 n))
-no_nan_pattern n h = rw (nan_bits_above binary64 n, le-ltb 0x7ff0_0000_0000_0000 (n % 2 ^ 63) h) tt
+-- the word of eight bytes is what the library reads
+pub word_of_eight : (xs : List ℕ) → length xs ≡ 8 → from_le_bytes w64 xs ≡ number_in xs
+unfolding number_in
+word_of_eight xs h =
+    let whole : take 8 xs ≡ xs = ap (λ (n : ℕ). take n xs) (sym h) ∙ take-length xs in
+    let all : from_le_bytes w64 xs ≡ number_at xs 0 8 =
+    omega (
+      arith,
+      number_more xs 0 7,
+      number_more xs 1 6,
+      number_more xs 2 5,
+      number_more xs 3 4,
+      number_more xs 4 3,
+      number_more xs 5 2,
+      number_more xs 6 1,
+      number_more xs 7 0,
+    ) in
+    all ∙ ap number_in whole
 
--- a float that differs from itself is the NaN, and no other does
-pub differs : (x : Float) → ne x x ≡ true → x ≡ nan
-differs x h = differs_from_itself x (subst (λ (b : Bool). T b) (sym h) tt)
-
-pub same : (x : Float) → ne x x ≡ false → T (not (is_nan x))
-unfolding is_nan ne eq
-same nan h = let z : ◌≡◌ {A = ℕ} 0 1 = cc in absurd (omega arith)
-same (inf s) h = tt
-same (fin s m e) h = tt
+-- fewer bytes in front of zeros
+pub word_of_few : (xs : List ℕ) (k : ℕ) → k ≤ 8 → length xs ≡ k → from_le_bytes w64 (xs ++ drop k (replicate 8 0)) ≡ number_in xs
+word_of_few xs k few h =
+    let zeros : List ℕ = drop k (replicate 8 0) in
+    let past : zeros ≡ replicate (8 - k) 0 = drop-replicate k 8 0 in
+    let many : length zeros ≡ 8 - k = ap length past ∙ length-replicate {A = ℕ} (8 - k) 0 in
+    let eight : length (xs ++ zeros) ≡ 8 = omega (arith, length-append xs zeros, many) in
+    word_of_eight (xs ++ zeros) eight ∙ ap (λ (ys : List ℕ). number_in (xs ++ ys)) past ∙ zeros_after xs (8 - k)

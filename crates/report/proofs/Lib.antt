@@ -9,3 +9,4 @@ pub mod Numbers
 pub mod Longest
 pub mod Cases
 pub mod Apart
+pub mod Judged

@@ -2,22 +2,18 @@
 use Prim.Native.Nat.{ℕ, suc, ◌+◌, ◌<◌}
 use native.Mathlib.Numerals.{add-one}
 use native.Mathlib.Omega.{arith}
-use mathlib.Core.Path.{◌≡◌, subst}
 use mathlib.Core.List.{List}
 use Rattle.report.specs.Listing.{lines}
-use Rattle.area.specs.Placed.{Room, Put}
-use Rattle.area.proofs.Placed.{put_then, room_then}
+use Rattle.area.specs.Cursor.{HasRoom, Puts}
+use Rattle.area.specs.declared.Cursor.{Cursor}
+use Rattle.area.proofs.Placed.{puts_then, has_room_then}
 use Rattle.report.proofs.Lengths.{lines_before}
 
-module _ (line : ℕ → List ℕ) (at : ℕ) (area : List ℕ) where
+module _ (line : ℕ → List ℕ) {c d : Cursor} where
   -- one line more
-  pub put_line : (k : ℕ) {p q : ℕ} {one two : List ℕ} → Put at (lines k line) area p one → Put p (line k) one q two → Put at (lines (k + 1) line) area q two
-  put_line k u v = rw add-one (put_then u v)
+  pub puts_line : (k : ℕ) {e : Cursor} → Puts (lines k line) c d → Puts (line k) d e → Puts (lines (k + 1) line) c e
+  puts_line k u v = rw add-one (puts_then u v)
 
   -- where all n lines have room, the next has it past those that stand there
-  pub room_line : (k n : ℕ) {p : ℕ} {one : List ℕ} → k < n → Room at (lines n line) area → Put at (lines k line) area p one → Room p (line k) one
-  room_line k n h r u = room_then (line k) (let b = lines_before (suc k) n line h in omega arith) u
-
-  -- where the loop ends, all of them stand there
-  pub put_all : {k n : ℕ} {p : ℕ} {one : List ℕ} → k ≡ n → Put at (lines k line) area p one → Put at (lines n line) area p one
-  put_all {p = p} {one = one} e u = subst (λ (j : ℕ). Put at (lines j line) area p one) e u
+  pub has_room_line : (k n : ℕ) → k < n → HasRoom (lines n line) c → Puts (lines k line) c d → HasRoom (line k) d
+  has_room_line k n h r u = has_room_then (line k) (let b = lines_before (suc k) n line h in omega arith) u

@@ -10,7 +10,7 @@ use Rattle.area.specs.Area.{copied}
 use Rattle.report.specs.Numerals.{ascii, digit, in_tens, decimal_text, in_sixteens, hex_text, bits_of, bits_text}
 use Rattle.report.specs.Listing.{node_line, lines, node_at, listing, refused_text, longest}
 use Rattle.report.specs.Printed.{outcome_of, printed}
-use Rattle.report.specs.declared.Printed.TheVariants.{Done}
+use Rattle.std.specs.Prelude.{Ok}
 use Rattle.report.proofs.Answers.{with_room}
 use Rattle.report.proofs.Numerals.{decimal_length_lem}
 use Rattle.report.proofs.Lengths.{word_line_length, node_line_length, lines_more, lines_before, listing_length}
@@ -61,5 +61,5 @@ longest_refusal number b =
 
 -- in the area that `text_area` gives, whatever is no longer has room
 pub in_text_area : (text : List ℕ) → length text ≤ longest
-    → printed text (replicate longest 0) ≡ outcome_of (Done (length text)) (copied 0 text (replicate longest 0))
+    → printed text (replicate longest 0) ≡ outcome_of (Ok (length text)) (copied 0 text (replicate longest 0))
 in_text_area text h = with_room text (replicate longest 0) (let l = length-replicate {A = ℕ} longest 0 in omega arith)

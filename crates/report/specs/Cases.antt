@@ -1,5 +1,5 @@
 -- Cases of what is printed, each by its text.
-use Rattle.std.specs.Prelude.{ℕ, ◌≡◌, List, [], ◌∷◌, ◌++◌, length, replicate, Float}
+use Rattle.std.specs.Prelude.{ℕ, Ok, Err, ◌≡◌, List, [], ◌∷◌, ◌++◌, length, replicate, Float}
 use Rattle.std.specs.Float.{nan, binary64}
 use Rattle.std.specs.Float.Ieee.{of_bits}
 use Rattle.error.specs.Numbers.{number_of}
@@ -7,7 +7,7 @@ use Rattle.error.specs.declared.Refusal.TheVariants.{SurveyFile, TooMany}
 use Rattle.report.specs.Numerals.{ascii, bits_text}
 use Rattle.report.specs.Listing.{listing, refused_text, longest}
 use Rattle.report.specs.Printed.{outcome_of, printed, listed}
-use Rattle.report.specs.declared.Printed.TheVariants.{Done, TooShort, Uneven}
+use Rattle.report.specs.declared.Unprinted.TheVariants.{TooShort, Uneven}
 
 -- a float by its pattern, and so many alike
 abbrev pub f : ℕ → Float
@@ -30,15 +30,15 @@ pub record Cases : Type 0 where
   pub bytes : ascii "nodes 1\n" ≡ 110 ∷ 111 ∷ 100 ∷ 101 ∷ 115 ∷ 32 ∷ 49 ∷ 10 ∷ []
   pub case_b_lem : of_b listing ≡ case_b
   -- into an area of just its length, into one with a byte more, and into one with a byte less
-  pub just_room : of_b listed (replicate 91 7) ≡ outcome_of (Done 91) case_b
-  pub more_room : of_b listed (replicate 92 7) ≡ outcome_of (Done 91) (case_b ++ (7 ∷ []))
-  pub less_room : of_b listed (replicate 90 7) ≡ outcome_of TooShort (replicate 90 7)
+  pub just_room : of_b listed (replicate 91 7) ≡ outcome_of (Ok 91) case_b
+  pub more_room : of_b listed (replicate 92 7) ≡ outcome_of (Ok 91) (case_b ++ (7 ∷ []))
+  pub less_room : of_b listed (replicate 90 7) ≡ outcome_of (Err TooShort) (replicate 90 7)
   -- two figures, or two variances, for one node
-  pub two_figures : listed (zeros 2) (zeros 1) (0 ∷ []) (zeros 1) (zeros 1) (replicate 99 7) ≡ outcome_of Uneven (replicate 99 7)
-  pub two_variances : listed (zeros 1) (zeros 2) (0 ∷ []) (zeros 1) (zeros 1) (replicate 99 7) ≡ outcome_of Uneven (replicate 99 7)
+  pub two_figures : listed (zeros 2) (zeros 1) (0 ∷ []) (zeros 1) (zeros 1) (replicate 99 7) ≡ outcome_of (Err Uneven) (replicate 99 7)
+  pub two_variances : listed (zeros 1) (zeros 2) (0 ∷ []) (zeros 1) (zeros 1) (replicate 99 7) ≡ outcome_of (Err Uneven) (replicate 99 7)
   -- two numbers of the trend for one multiplier, or none
-  pub two_trends : listed (zeros 1) (zeros 1) (0 ∷ []) (zeros 1) (zeros 2) (replicate 120 7) ≡ outcome_of Uneven (replicate 120 7)
-  pub no_trend_lem : listed (zeros 1) (zeros 1) (0 ∷ []) (zeros 1) [] (replicate 99 7) ≡ outcome_of Uneven (replicate 99 7)
+  pub two_trends : listed (zeros 1) (zeros 1) (0 ∷ []) (zeros 1) (zeros 2) (replicate 120 7) ≡ outcome_of (Err Uneven) (replicate 120 7)
+  pub no_trend_lem : listed (zeros 1) (zeros 1) (0 ∷ []) (zeros 1) [] (replicate 99 7) ≡ outcome_of (Err Uneven) (replicate 99 7)
   -- case C: "figure NaN, variance +0, verdict 255"; its well is A's, and the trend's estimate "doesn't depend on the nodes": 5
   pub case_c : listing (nan ∷ []) (zeros 1) (255 ∷ []) (nan ∷ []) (f 0x4014_0000_0000_0000 ∷ [])
       ≡ ascii "nodes 1\n1 7ff8000000000000 0000000000000000 255\ncoef 7ff8000000000000\ntrend 4014000000000000\n"
@@ -64,7 +64,7 @@ pub record Cases : Type 0 where
   -- "A refusal prints only `refused N`"
   pub refused_9 : refused_text (number_of TooMany) ≡ ascii "refused 9\n"
   pub refused_16 : refused_text (number_of SurveyFile) ≡ ascii "refused 16\n"
-  pub refusal_with_room : printed (refused_text 16) (replicate 12 7) ≡ outcome_of (Done 11) (ascii "refused 16\n" ++ (7 ∷ []))
-  pub refusal_without : printed (refused_text 16) (replicate 10 7) ≡ outcome_of TooShort (replicate 10 7)
+  pub refusal_with_room : printed (refused_text 16) (replicate 12 7) ≡ outcome_of (Ok 11) (ascii "refused 16\n" ++ (7 ∷ []))
+  pub refusal_without : printed (refused_text 16) (replicate 10 7) ≡ outcome_of (Err TooShort) (replicate 10 7)
   -- the longest listing has so many bytes
   pub reached : length (listing (zeros 100) (zeros 100) (replicate 100 255) (zeros 12) (zeros 12)) ≡ longest

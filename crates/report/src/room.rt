@@ -1,10 +1,15 @@
-// How many bytes a text takes, worked out before any of it is written. A room is one more than the bytes that are left, and 0 where a text was longer than
-// what was left: so no sum of lengths passes a machine word.
-ghost use Rattle.std.specs.Prelude.{◌≡◌, List, ◌+◌, ◌-◌, ◌^◌, ◌<◌, ◌≤◌, leb, Float, length};
+// How many bytes a text takes, worked out before any of it is written. What is left of a room is taken from it text by text, and there is none where a text is
+// longer: so no sum of lengths passes a machine word.
+ghost use Rattle.std.specs.Prelude.{◌≡◌, List, ◌≤◌, Float, length};
 ghost use Rattle.report.specs.Numerals.{decimal_text};
 ghost use Rattle.report.specs.Listing.{node_line, lines, node_at, listing, refused_text};
+ghost use Rattle.report.specs.Judged.{of_answer, Judges, Leaves};
+ghost use Rattle.report.specs.declared.Unprinted.TheVariants.{TooShort};
 
-// How many digits a number has in decimal, at most 20.
+use crate::Unprinted;
+use crate::lists::Lists;
+
+// How many digits a number has in decimal, at most 20. Kept: a fixed area and its count, since there is no heap.
 fn decimal_length(n: u64) -> usize
     ensures { (result ≡ length (decimal_text n)) × (result ≤ 20) }
 {
@@ -12,11 +17,14 @@ fn decimal_length(n: u64) -> usize
     io::decimal(n, &mut digits)
 }
 
-// The bytes of a refusal's line: its word, a space and a line feed are 9 of them.
-pub(crate) fn refusal_length(number: u8) -> usize
-    ensures { result ≡ length (refused_text number) }
+// That a refusal's line has room in `size` bytes: its word, a space and a line feed are 9 of its own.
+pub(crate) fn for_refusal(number: u8, size: usize) -> Result<(), Unprinted>
+    ensures { Judges (length (refused_text number) ≤ size) TooShort result }
 {
-    decimal_length(number as u64) + 9
+    if decimal_length(number as u64) + 9 > size {
+        return Err(Unprinted::TooShort);
+    }
+    Ok(())
 }
 
 // The bytes of a node's line: figure, variance, three spaces and a line feed are 36 of them.
@@ -27,34 +35,34 @@ fn node_length(number: u64, verdict: u8) -> usize
 }
 
 // What is left of a room.
-fn left(room: usize, taken: usize) -> usize
-    ensures { result ≡ room - taken }
+fn left(room: usize, taken: usize) -> Result<usize, Unprinted>
+    ensures { Leaves room taken result }
 {
-    if taken < room { room - taken } else { 0 }
+    room.checked_sub(taken).ok_or(Unprinted::TooShort)
 }
 
 // What the lines of all nodes leave of a room.
-fn left_by_nodes(verdicts: &[u8], room: usize) -> usize
+fn left_by_nodes(verdicts: &[u8], room: usize) -> Result<usize, Unprinted>
     ensures { (figures variances : List Float)
-        → result ≡ room - length (lines (length verdicts.now) (node_at figures variances verdicts.now)) }
+        → Leaves room (length (lines (length verdicts.now) (node_at figures variances verdicts.now))) result }
 {
     let mut rest = room;
-    for i in 0..verdicts.len() {
-        rest = left(rest, node_length(i as u64 + 1, verdicts[i]));
+    for (i, &verdict) in verdicts.iter().enumerate() {
+        rest = left(rest, node_length(i as u64 + 1, verdict))?;
     }
-    rest
+    Ok(rest)
 }
 
-// Whether the listing of these verdicts and p columns has at most `size` bytes: a column's coef line has 22 and its trend line 23.
-pub(crate) fn listing_fits(verdicts: &[u8], p: usize, size: usize) -> bool
-    requires { size < 2 ^ 63 }
-    ensures { (figures variances multipliers trend : List Float) → length multipliers ≡ p → length trend ≡ p
-        → result ≡ leb (length (listing figures variances verdicts.now multipliers trend)) size }
+// That a listing has room in `size` bytes: the line of the number of nodes has 7 of its own, a column's coef line 22 and its trend line 23.
+pub(crate) fn for_listing(lists: &Lists<'_>, size: usize) -> Result<(), Unprinted>
+    ensures { Judges (length (of_answer listing lists.now.answer.now) ≤ size) TooShort result }
 {
-    let room = left(size + 1, decimal_length(verdicts.len() as u64) + 7);
-    let rest = left_by_nodes(verdicts, room);
-    if rest == 0 {
-        return false;
+    let answer = lists.answer;
+    let verdicts = answer.verdicts;
+    let room = left(size, decimal_length(verdicts.len() as u64) + 7)?;
+    let rest = left_by_nodes(verdicts, room)?;
+    if answer.multipliers.len() > rest / 45 {
+        return Err(Unprinted::TooShort);
     }
-    p <= (rest - 1) / 45
+    Ok(())
 }

@@ -1,48 +1,32 @@
 -- `report::write_refusal` meets its contract: the line is put only where it has room.
-use Prim.Native.Nat.{ℕ, ◌≤◌}
 use native.Mathlib.Omega.{arith}
-use mathlib.Core.Path.{◌≡◌, ap, subst}
-use mathlib.Core.List.{List}
-use lib.ListN.{length}
+use mathlib.Core.Path.{◌≡◌, refl}
+use Rattle.std.proofs.Common.{rules, Ok}
 use Rattle.error.specs.Numbers.{number_of}
-use Rattle.report.specs.Listing.{refused_text, longest}
-use Rattle.area.specs.Placed.{Put}
-use Rattle.report.proofs.Answers.{without_room, put_whole}
-use Rattle.report.proofs.Numbers.{text_numbered}
+use Rattle.report.specs.Listing.{refused_text}
+use Rattle.report.specs.Printed.{outcome_of, printed}
+use Rattle.report.proofs.Answers.{without_room, puts_whole}
+use Rattle.report.proofs.Judged.{handed_on}
 use Rattle.report.proofs.Longest.{longest_refusal}
 use Rattle.report.proofs.write_refusal.Goals as goal
 
--- return Printed::TooShort;
-pub returns-then-refusal_length-text : goal.returns-then-refusal_length-text
-returns-then-refusal_length-text c =
-    let line_of : List ℕ = refused_text (number_of c.args.refusal) in
-    let text-is : refused_text c.number-number.result ≡ line_of = ap refused_text c.number-number.ensures in
-    let line-is : length (refused_text c.number-number.result) ≡ length line_of = ap length text-is in
-    let no_longer : length line_of ≤ longest = let number = c.number-number in omega (arith, line-is, longest_refusal number.result number.type_inv) in
-    let sized = c in
-    let area = sized.args.text.now in
-    let short = without_room line_of area (omega (arith, sized.refusal_length.ensures, line-is)) in
-    record {
-      equation = short;
-      longest = no_longer;
-      numbered = text_numbered line_of area _ _ short;
-    }
+pub returns-in_err-for_refusal-clause-equation : goal.returns-in_err-for_refusal-clause-equation
+returns-in_err-for_refusal-clause-equation c =
+    let told = c.in_err-for_refusal.ensures in
+    let number = c.from-number.ensures in
+    handed_on (λ r. outcome_of r c.args.text.now ≡ printed (refused_text (number_of c.args.refusal)) c.args.text.now) c.from_residual.ensures.1
+    (rw (told.0, ← number) (without_room (refused_text c.from-number.result) c.args.text.now (let h = told.1 in omega arith)))
 
-pub returns : goal.returns
-returns c =
-    let line_of : List ℕ = refused_text (number_of c.args.refusal) in
-    let text-is : refused_text c.number-number.result ≡ line_of = ap refused_text c.number-number.ensures in
-    let line-is : length (refused_text c.number-number.result) ≡ length line_of = ap length text-is in
-    let no_longer : length line_of ≤ longest = let number = c.number-number in omega (arith, line-is, longest_refusal number.result number.type_inv) in
-    let called = c in
-    let sized = called in
-    let area = sized.args.text.now in
-    let put =
-    subst (λ (t : List ℕ). Put 0 t area called.put_refusal.result called.put_refusal.new.text) text-is called.put_refusal.ensures in
-    let room : length line_of ≤ length area = omega (arith, sized.refusal_length.ensures, line-is, called.if-refusal_length-text.false) in
-    let done = put_whole line_of area room put in
-    record {
-      equation = done;
-      longest = no_longer;
-      numbered = text_numbered line_of area _ _ done;
-    }
+pub returns-in_err-for_refusal-clause-longest : goal.returns-in_err-for_refusal-clause-longest
+returns-in_err-for_refusal-clause-longest c = rw (← c.from-number.ensures) (longest_refusal c.from-number.result c.from-number.type_inv)
+
+pub returns-clause-equation : goal.returns-clause-equation
+returns-clause-equation c =
+    let text = refused_text c.from-number.result in
+    let put : outcome_of (Ok c.put_refusal.new.out.at) c.put_refusal.new.out.area.now ≡ printed text c.args.text.now =
+    puts_whole text c.args.text.now refl refl c.in_ok-for_refusal.ensures c.put_refusal.ensures in
+    let number = c.from-number.ensures in
+    rw (← number) (search rules)
+
+pub returns-clause-longest : goal.returns-clause-longest
+returns-clause-longest c = rw (← c.from-number.ensures) (longest_refusal c.from-number.result c.from-number.type_inv)

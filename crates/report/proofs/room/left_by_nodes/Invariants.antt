@@ -1,12 +1,8 @@
 -- `report::room::left_by_nodes` meets its contract: after i turns the first i lines are taken off the room.
-use Prim.Native.Nat.{◌≤◌, ◌-◌}
-use mathlib.Core.Path.{◌≡◌}
-use mathlib.Core.List.{List}
-use lib.ListN.{length}
+use Rattle.std.proofs.Common.{◌≡◌, ◌+◌, List, length}
 use lib.Ieee.{Float}
 use Rattle.report.specs.Listing.{lines, node_at}
 use Rattle.report.proofs.room.left_by_nodes.Given as goal
 
 abbrev pub invariant-loop-i : goal.invariant-loop-i
-invariant-loop-i l =
-    (l.i ≤ length l.verdicts) × (l.i-end ≡ length l.verdicts) × ((figures variances : List Float) → l.rest ≡ l.room - length (lines l.i (node_at figures variances l.verdicts)))
+invariant-loop-i l = (figures variances : List Float) → l.rest + length (lines l.i (node_at figures variances l.verdicts)) ≡ l.room
