@@ -7,8 +7,7 @@ use mathlib.Core.List.{List, [], ◌∷◌, ◌++◌}
 use native.Mathlib.Omega.{arith}
 use lib.Dec.{T, ltb, ltb→lt}
 use lib.Ieee.Fits.{and_l, and_r}
-use Rattle.error.specs.declared.Judgement.{Judgement}
-use Rattle.error.specs.declared.Judgement.TheVariants.{Accepted, Refused}
+use Rattle.std.specs.Prelude.{Result, Ok, Err}
 use Rattle.error.specs.declared.Refusal.{Refusal}
 use Rattle.error.specs.declared.Refusal.TheVariants.{CoordinatesLength, NodesLength, NoBasis, BasisCode, Regularization, ExternalLength}
 use Rattle.error.specs.declared.Refusal.TheVariants.{TooFewWells, NodeExternalLength, TooMany, Tolerance, NotFinite, Model}
@@ -76,7 +75,7 @@ first_later (t ∷ ts) us p e =
     go true l h f = absurd (omega arith)
     go false l h f = f h
 
--- ---- as a judgement
+-- ---- as an answer
 -- a refusal has a number
 pub numbers : (r : Refusal) → number_of r ≢ 0
 numbers CoordinatesLength h = omega arith
@@ -101,9 +100,12 @@ numbers Singular h = omega arith
 numbers SameSpot h = omega arith
 
 -- the refusal of a part is that of the whole
-pub refused : (j : Judgement) (r : Refusal) (ts us : List Test) → j ≡ Refused r → judged j ≡ first_of ts → judged j ≡ first_of (ts ++ us)
+pub refused : {A : Type 0} (j : Result A Refusal) (r : Refusal) (ts us : List Test) → j ≡ Err r → judged j ≡ first_of ts → judged j ≡ first_of (ts ++ us)
 refused j r ts us is e = e ∙ sym (first_given ts us (λ z. numbers r (sym (ap judged is) ∙ e ∙ z)))
 
+pub turned_away : (r : Refusal) (ts us : List Test) → number_of r ≡ first_of ts → number_of r ≡ first_of (ts ++ us)
+turned_away r ts us e = refused {A = Unit {0}} (Err r) r ts us refl e
+
 -- past a part that accepts, the rest decides
-pub accepted : (j : Judgement) (ts us : List Test) → T (numbered ts) → j ≡ Accepted → judged j ≡ first_of ts → first_of (ts ++ us) ≡ first_of us
-accepted j ts us p is e = first_later ts us p (sym e ∙ ap judged is)
+pub accepted : {A : Type 0} (j : Result A Refusal) (x : A) (ts us : List Test) → T (numbered ts) → j ≡ Ok x → judged j ≡ first_of ts → first_of (ts ++ us) ≡ first_of us
+accepted j x ts us p is e = first_later ts us p (sym e ∙ ap judged is)

@@ -1,7 +1,5 @@
 -- The numbers of paper 01, "What turns a call away", and of paper 02: a refusal carries only its number.
-use Rattle.std.specs.Prelude.{ℕ}
-use Rattle.error.specs.declared.Judgement.{Judgement}
-use Rattle.error.specs.declared.Judgement.TheVariants.{Accepted, Refused}
+use Rattle.std.specs.Prelude.{ℕ, Result, Ok, Err}
 use Rattle.error.specs.declared.Refusal.{Refusal}
 use Rattle.error.specs.declared.Refusal.TheVariants.{CoordinatesLength, NodesLength, NoBasis, BasisCode, Regularization, ExternalLength}
 use Rattle.error.specs.declared.Refusal.TheVariants.{TooFewWells, NodeExternalLength, TooMany, Tolerance, NotFinite, Model, Dimension}
@@ -30,7 +28,7 @@ number_of AnswerArea = 18
 number_of Singular = 19
 number_of SameSpot = 22
 
--- what tests come to: 0 where none holds, else the number of the first that does
-abbrev pub judged : Judgement → ℕ
-judged Accepted = 0
-judged (Refused r) = number_of r
+-- what the tests of a call come to, and how a call ends: 0 where none holds, else the number of the first that does
+abbrev pub judged : {A : Type 0} → Result A Refusal → ℕ
+judged (Ok _) = 0
+judged (Err r) = number_of r

@@ -1,5 +1,6 @@
 -- "What turns a call away": the tests of a call in the order in which they are made, each with its number. The first that holds gives the number.
-use Rattle.std.specs.Prelude.{ℕ, zero, suc, Bool, true, false, ◌&&◌, ◌||◌, cond, List, [], ◌∷◌, T}
+use Rattle.std.specs.Prelude.{ℕ, zero, suc, Bool, true, ◌&&◌, cond, List, [], ◌∷◌, T}
+use Rattle.std.specs.List.{list_any}
 
 -- a refusal's number, and whether its condition holds
 pub record Test : Type 0 where
@@ -21,8 +22,7 @@ all (suc k) f = all k f && f k
 
 -- f holds of some element
 abbrev pub any : {A : Type 0} → (A → Bool) → List A → Bool
-any f [] = false
-any f (x ∷ xs) = f x || any f xs
+any f xs = list_any f xs
 
 -- a test tells a condition: it comes out true exactly where the condition holds
 pub record Tells (b : Bool) (A : Type 0) : Type 0 where

@@ -1,17 +1,21 @@
 -- Laws of the counts that basis codes give, as a pass over the codes uses them.
-use Prim.Native.Nat.{ℕ, ◌+◌, ◌*◌, ◌/◌, ◌%◌, ◌^◌, ◌≤◌, ◌<◌}
+use Prim.Native.Nat.{ℕ, zero, suc, ◌+◌, ◌*◌, ◌/◌, ◌%◌, ◌^◌, ◌≤◌, ◌<◌}
 use native.Mathlib.Nat.{min-eq_left, min-eq_right, div-add-mod', mul-div_cancel, mul-mod_left}
 use native.Mathlib.Numerals.{add-one}
 use native.Mathlib.Decide.{ℕ_discrete, dec_lt}
 use native.Mathlib.Omega.{arith}
-use mathlib.Core.Path.{◌≡◌, sym, ap, ◌∙◌}
+use mathlib.Core.Path.{◌≡◌, refl, sym, ap, ◌∙◌}
 use mathlib.Core.Bool.{Bool, true, false, cond, ◌||◌}
 use mathlib.Core.List.{List, [], ◌∷◌}
 use borrow.Author.Tests.{lt-ltb, le-ltb, eq-eqb, ne_eqb}
 use lib.Dec.{eqb, ltb}
 use lib.ListN.{length, get_or, drop, drop_of_length-le}
 use lib.Seq.{drop-cons}
+use Rattle.std.specs.List.{count_by}
+use Rattle.std.specs.Result.{is_err}
+use Rattle.std.proofs.lemmas.List.Recursion.{is_count_by}
 use Rattle.error.specs.Tests.{any}
+use Rattle.survey.specs.Bases.{basis_of}
 use Rattle.survey.specs.Survey.{code_columns, column_sum, columns_held, external_count}
 use Rattle.survey.specs.Refusals.{bad_code}
 
@@ -40,6 +44,28 @@ too_high c b l h = rw (le-ltb c 1 l, lt-ltb 4 c h)
 
 pub good : (c : ℕ) (b : Bool) → 1 ≤ c → c ≤ 4 → (bad_code c || b) ≡ b
 good c b l h = rw (le-ltb c 1 l, le-ltb 4 c h)
+
+-- the code of no basis is one outside 1 to 4
+other : (c : ℕ) → 4 < c → is_err (basis_of c) ≡ bad_code c
+other c l =
+    let differs : (k : ℕ) → k ≤ 4 → eqb c k ≡ false = λ k h. ne_eqb c k (λ e. omega (arith, e, h, l)) in
+    rw (differs 1 (omega arith), differs 2 (omega arith), differs 3 (omega arith), differs 4 (omega arith), le-ltb c 1 (omega (arith, l)), lt-ltb 4 c l)
+
+pub code_of_none : (c : ℕ) → is_err (basis_of c) ≡ bad_code c
+code_of_none zero = refl
+code_of_none (suc zero) = refl
+code_of_none (suc (suc zero)) = refl
+code_of_none (suc (suc (suc zero))) = refl
+code_of_none (suc (suc (suc (suc zero)))) = refl
+code_of_none (suc (suc (suc (suc (suc c))))) = other (suc (suc (suc (suc (suc c))))) (omega arith)
+
+-- k by a filter
+one_more : (b : Bool) (k : ℕ) → cond b 1 0 + k ≡ cond b (1 + k) k
+one_more true k = refl
+one_more false k = omega arith
+
+pub externals_counted : (cs : List ℕ) → count_by (λ c. eqb c 4) cs ≡ external_count cs
+externals_counted cs = sym (is_count_by external_count (λ c. eqb c 4) refl (λ c cs. one_more (eqb c 4) (external_count cs)) cs)
 
 -- ---- the codes from one place on
 from_next : (cs : List ℕ) (i : ℕ) → i < length cs → drop i cs ≡ get_or cs i 0 ∷ drop (i + 1) cs

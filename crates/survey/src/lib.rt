@@ -1,12 +1,64 @@
-// A survey besides its lists: the options of a fit, and what a call takes at most.
+// A survey as it is lent, the options of a fit, and what a call takes at most.
 // The counts of its codes and what turns it away are defined in specs/; their code is in the crate survey_checks.
 #![tactic(auto)]
 
 ghost use Rattle.std.specs.Prelude.{◌≡◌};
 ghost use Rattle.survey.specs.Options.{default_bases, default_options};
 ghost use Rattle.survey.specs.Limits.{library, program};
+ghost use Rattle.survey.specs.Survey.{wells, node_count};
+ghost use Rattle.survey.specs.Lent.{survey_lent};
+ghost use Rattle.survey.specs.Bases.{basis_of, basis_columns};
 
 use variogram::{Variogram, VariogramModel};
+
+// The drift bases, each with its code.
+#[derive(Clone, Copy, Debug, PartialEq, Eq)]
+pub enum DriftBasis {
+    // 1
+    Constant = 1,
+    // 1, x, y
+    Linear = 2,
+    // 1, x, y, x², xy, y²
+    Quadratic = 3,
+    // one external value
+    External = 4,
+}
+
+// A code that names no drift basis.
+#[derive(Clone, Copy, Debug, PartialEq, Eq)]
+pub struct UnknownBasis {
+    pub code: u8,
+}
+
+impl TryFrom<u8> for DriftBasis {
+    type Error = UnknownBasis;
+
+    ghost try_from_gives = { λ code basis. basis ≡ basis_of code };
+
+    fn try_from(code: u8) -> Result<Self, UnknownBasis> {
+        match code {
+            1 => Ok(DriftBasis::Constant),
+            2 => Ok(DriftBasis::Linear),
+            3 => Ok(DriftBasis::Quadratic),
+            4 => Ok(DriftBasis::External),
+            _ => Err(UnknownBasis { code }),
+        }
+    }
+}
+
+impl DriftBasis {
+    // How many drift columns it gives.
+    pub fn columns(self) -> usize
+        ensures { result ≡ basis_columns self }
+    {
+        match self {
+            DriftBasis::Constant => 1,
+            DriftBasis::Linear => 3,
+            DriftBasis::Quadratic => 6,
+            DriftBasis::External => 1,
+        }
+    }
+}
 
 // What a call of the library takes at most: wells, n. The capacities of every crate above are computed from these; specs/Limits has them for the contracts.
 pub const MOST_WELLS: usize = 96;
@@ -40,24 +92,61 @@ pub struct UniversalKrigingOptions {
 
 impl UniversalKrigingOptions {
     // The default drift bases: Constant alone.
-    pub const DRIFT_BASES: [u8; 1] = [1];
+    pub const DRIFT_BASES: [u8; 1] = [DriftBasis::Constant as u8];
     // The default regularisation.
     pub const REGULARIZATION: f64 = 1e-10;
-
-    pub fn default() -> Self
-        ensures { result ≡ default_options }
-    {
-        Self {
-            variogram: Variogram::new(VariogramModel::Spherical, 0.0, 1.0, 1.0),
-            regularization: Self::REGULARIZATION,
-        }
-    }
 
     // The drift bases that go with the default options.
     pub fn drift_bases() -> [u8; 1]
         ensures { result ≡ default_bases }
     {
         Self::DRIFT_BASES
+    }
+}
+
+impl Default for UniversalKrigingOptions {
+    ghost is_default = { λ options. options ≡ default_options };
+
+    fn default() -> Self {
+        Self {
+            variogram: Variogram::new(VariogramModel::Spherical, 0.0, 1.0, 1.0),
+            regularization: Self::REGULARIZATION,
+        }
+    }
+}
+
+// A survey: the lists and the numbers that every call of the fit and of the file takes, in this order.
+#[derive(Clone, Copy)]
+pub struct Survey<'a> {
+    // The values of n wells.
+    pub values: &'a [f64],
+    // Their coordinates x, y in turn.
+    pub coords: &'a [f64],
+    // The codes of the drift bases.
+    pub bases: &'a [u8],
+    // The wells' external values, column after column.
+    pub external: &'a [f64],
+    pub options: UniversalKrigingOptions,
+    // The coordinates of m nodes.
+    pub nodes: &'a [f64],
+    // The nodes' external values, node after node.
+    pub node_external: &'a [f64],
+    pub tolerance: f64,
+}
+
+impl Survey<'_> {
+    // n
+    pub fn wells(&self) -> usize
+        ensures { result ≡ wells (survey_lent self.now) }
+    {
+        self.values.len()
+    }
+
+    // m, of a list with an odd number too
+    pub fn node_count(&self) -> usize
+        ensures { result ≡ node_count (survey_lent self.now) }
+    {
+        self.nodes.len() / 2
     }
 }
 

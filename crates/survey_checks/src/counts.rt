@@ -2,6 +2,8 @@
 ghost use Rattle.std.specs.Prelude.{◌≡◌, ◌*◌, eqb, ltb};
 ghost use Rattle.survey.specs.Survey.{code_columns, column_sum, external_count, columns_held};
 
+use survey::DriftBasis;
+
 // Counted columns stop here: more wells than a list of f64 can have.
 const MOST: usize = 0x1000_0000_0000_0000;
 
@@ -9,12 +11,9 @@ const MOST: usize = 0x1000_0000_0000_0000;
 pub fn drift_basis_columns(code: u8) -> usize
     ensures { result ≡ code_columns code }
 {
-    match code {
-        1 => 1,
-        2 => 3,
-        3 => 6,
-        4 => 1,
-        _ => 0,
+    match DriftBasis::try_from(code) {
+        Ok(basis) => basis.columns(),
+        Err(_) => 0,
     }
 }
 
@@ -23,8 +22,8 @@ pub fn drift_columns(bases: &[u8]) -> usize
     ensures { result ≡ columns_held bases.now }
 {
     let mut p = 0;
-    for i in 0..bases.len() {
-        p += drift_basis_columns(bases[i]);
+    for code in bases {
+        p += drift_basis_columns(*code);
         if p >= MOST {
             return MOST;
         }
@@ -38,8 +37,8 @@ pub fn more_columns(bases: &[u8], most: usize) -> bool
     ensures { result ≡ ltb most (column_sum bases.now) }
 {
     let mut left = most;
-    for i in 0..bases.len() {
-        let columns = drift_basis_columns(bases[i]);
+    for code in bases {
+        let columns = drift_basis_columns(*code);
         if left < columns {
             return true;
         }
@@ -52,13 +51,8 @@ pub fn more_columns(bases: &[u8], most: usize) -> bool
 pub fn external_columns(bases: &[u8]) -> usize
     ensures { result ≡ external_count bases.now }
 {
-    let mut k = 0;
-    for i in 0..bases.len() {
-        if bases[i] == 4 {
-            k += 1;
-        }
-    }
-    k
+    let external = DriftBasis::External as u8;
+    bases.iter().filter(|code| **code == external).count()
 }
 
 // Whether a list of this length holds k numbers for each of n. The product need not fit a word: by division.
