@@ -17,9 +17,9 @@ use Rattle.error.specs.Rules.{Rule, Ruled, NoneApplies, positive, lacks, Told, n
 use Rattle.error.proofs.First.{numbers}
 use Rattle.error.proofs.Tells.{below}
 use Rattle.error.proofs.Rules.{ruled_exactly, none_exactly, never_given}
-use Rattle.elimination.specs.declared.Elimination.{Elimination}
-use Rattle.elimination.specs.declared.Elimination.TheVariants.{Done, Stopped, TooShort}
-use Rattle.elimination.specs.Elimination.{eliminated, outcome_of, Through, StopsAt, Outcome as Eliminated}
+use Rattle.std.specs.Prelude.{Ok, Err}
+use Rattle.elimination.specs.declared.Stop.TheVariants.{Pivot, TooShort}
+use Rattle.elimination.specs.Elimination.{End, eliminated, outcome_of, Through, StopsAt, Outcome as Eliminated}
 use Rattle.elimination.specs.Call.{work_tests, work_rules, Call, matrix, after_elimination, call_where, called, work_after, Ends}
 use Rattle.elimination.proofs.Keeps.{kept_stepped}
 use Rattle.elimination.proofs.Laid.{kept_laid}
@@ -64,7 +64,7 @@ module _ {A : Type 0} (c : Call A) where
       by (suc k) n e = sym (one_applies k (sym e))
 
   -- and an elimination that ended so, where no rule applies
-  pub eliminated_there : (r : Elimination) (xs : List Float) → c.refusal ≡ 0 → outcome_of r xs ≡ eliminated c.skip c.size (matrix c)
+  pub eliminated_there : (r : End) (xs : List Float) → c.refusal ≡ 0 → outcome_of r xs ≡ eliminated c.skip c.size (matrix c)
       → after_elimination c r xs ≡ called c
   eliminated_there r xs e h = sym (none_applies (outcome_of r xs) e (sym h))
 
@@ -97,7 +97,7 @@ module _ {A : Type 0} (ts : List Test) (rules : List Rule) (c : Call A) (tests :
   none_given = (λ e. (none_exactly told numbers).0 (sym tests ∙ e), λ n. tests ∙ (none_exactly told numbers).1 n)
 
   -- 17 is the work area's: where no rule applies it is long enough
-  never_short : NoneApplies rules → (eliminated c.skip c.size (matrix c)).answer ≢ TooShort
+  never_short : NoneApplies rules → (eliminated c.skip c.size (matrix c)).answer ≢ Err TooShort
   never_short n t =
       let l = long n in
       let m = (kept_laid c.size c.entry c.work).len in
@@ -107,10 +107,10 @@ module _ {A : Type 0} (ts : List Test) (rules : List Rule) (c : Call A) (tests :
   way : Way rules c
   way = by c.refusal refl
     where
-      after : (n : NoneApplies rules) (o : Elimination) → (eliminated c.skip c.size (matrix c)).answer ≡ o → Way rules c
-      after n Done f = let t = (done_exactly c.skip c.size (matrix c)).0 f in gone_through n t (where_it_solves c (none_given.1 n) t)
-      after n (Stopped i) f = let t = (stops_exactly c.skip c.size i (matrix c)).0 f in stopped_at i n t (where_it_stops c i (none_given.1 n) t)
-      after n TooShort f = absurd (never_short n f)
+      after : (n : NoneApplies rules) (o : End) → (eliminated c.skip c.size (matrix c)).answer ≡ o → Way rules c
+      after n (Ok tt) f = let t = (done_exactly c.skip c.size (matrix c)).0 f in gone_through n t (where_it_solves c (none_given.1 n) t)
+      after n (Err (Pivot i)) f = let t = (stops_exactly c.skip c.size i (matrix c)).0 f in stopped_at i n t (where_it_stops c i (none_given.1 n) t)
+      after n (Err TooShort) f = absurd (never_short n f)
 
       by : (k : ℕ) → c.refusal ≡ k → Way rules c
       by zero e = after (none_given.0 e) (eliminated c.skip c.size (matrix c)).answer refl

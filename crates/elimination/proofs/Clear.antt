@@ -5,10 +5,15 @@ use mathlib.Core.Path.{◌≡◌, refl, ap, ◌∙◌, sym}
 use mathlib.Core.Logic.{◌≢◌, ◌⊎◌, inl, inr}
 use mathlib.Core.Bool.{Bool, true, false, not, ◌&&◌, cond}
 use mathlib.Core.List.{List}
+use lib.Dec.{eqb}
 use lib.Ieee.{Float, eq, ne}
 use borrow.Author.Tests.{eq-eqb, ne_eqb, not-true, not-false}
 use Rattle.ieee.specs.Floats.{zero_float}
 use Rattle.elimination.specs.Elimination.{at, reduced, spared, cleared}
+
+-- whether rows are skipped, by the number that a const parameter is
+abbrev pub skips : ℕ → Bool
+skips number = not (eqb number 0)
 
 -- one row more, by whether it is spared
 one_more : (skip : Bool) (w i k : ℕ) (xs zs : List Float) (b : Bool) → zs ≡ cleared skip w i k xs → spared skip w i k zs ≡ b
@@ -34,17 +39,17 @@ other_test skip w i k zs n = ap (λ (b : Bool). cond b true (skip && eq (at w zs
 
 -- a row whose factor is zero, where it is skipped, stays
 pub skipped_row : (skip : Bool) (w i k : ℕ) (xs zs : List Float) → zs ≡ cleared skip w i k xs → k ≢ i
-    → not skip ≡ false → ne (at w zs k i) zero_float ≡ false → zs ≡ cleared skip w i (k + 1) xs
+    → skip ≡ true → ne (at w zs k i) zero_float ≡ false → zs ≡ cleared skip w i (k + 1) xs
 unfolding ne
 skipped_row skip w i k xs zs h n s z =
     one_more skip w i k xs zs true h
     (other_test skip w i k zs n
-    ∙ ap (λ (b : Bool). b && eq (at w zs k i) zero_float) (not-false skip s)
+    ∙ ap (λ (b : Bool). b && eq (at w zs k i) zero_float) s
     ∙ not-false (eq (at w zs k i) zero_float) z)
 
 -- any other is cleared
 pub cleared_row : (skip : Bool) (w i k : ℕ) (xs ys zs : List Float) → zs ≡ cleared skip w i k xs → k ≢ i
-    → (not skip ≡ true) ⊎ (ne (at w zs k i) zero_float ≡ true) → ys ≡ reduced w i k (at w zs k i) zs → ys ≡ cleared skip w i (k + 1) xs
+    → (skip ≡ false) ⊎ (ne (at w zs k i) zero_float ≡ true) → ys ≡ reduced w i k (at w zs k i) zs → ys ≡ cleared skip w i (k + 1) xs
 unfolding ne
 cleared_row skip w i k xs ys zs h n t r = r ∙ one_more skip w i k xs zs false h (other_test skip w i k zs n ∙ by t)
   where
@@ -52,6 +57,6 @@ cleared_row skip w i k xs ys zs h n t r = r ∙ one_more skip w i k xs zs false 
     never true = refl
     never false = refl
 
-    by : (not skip ≡ true) ⊎ (ne (at w zs k i) zero_float ≡ true) → (skip && eq (at w zs k i) zero_float) ≡ false
-    by (inl s) = ap (λ (b : Bool). b && eq (at w zs k i) zero_float) (not-true skip s)
+    by : (skip ≡ false) ⊎ (ne (at w zs k i) zero_float ≡ true) → (skip && eq (at w zs k i) zero_float) ≡ false
+    by (inl s) = ap (λ (b : Bool). b && eq (at w zs k i) zero_float) s
     by (inr z) = ap (λ (b : Bool). skip && b) (not-true (eq (at w zs k i) zero_float) z) ∙ never skip

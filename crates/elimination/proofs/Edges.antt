@@ -4,7 +4,8 @@ use mathlib.Core.Bool.{true, false}
 use mathlib.Core.List.{[], ◌∷◌}
 use lib.IntN.{pos, negsuc}
 use lib.Ieee.{Float, nan, fin, of_bits, lt, eq, sub, mul, div}
-use Rattle.elimination.specs.declared.Elimination.TheVariants.{Done, Stopped}
+use Rattle.std.specs.Prelude.{Ok, Err}
+use Rattle.elimination.specs.declared.Stop.TheVariants.{Pivot}
 use Rattle.elimination.specs.Elimination.{hold, outcome_of, eliminated}
 
 -- plus and minus zero, one and a half; 2^-52 and 2^-53
@@ -27,11 +28,11 @@ abbrev -half : Float
 -half = fin true 1 (negsuc 0)
 
 -- "refusing where the pivot equals 2^-52" is a mistake: the elimination goes on
-at_the_edge : eliminated true 1 (fin false 1 (negsuc 51) ∷ I ∷ []) ≡ outcome_of Done (I ∷ fin false 1 (pos 52) ∷ [])
+at_the_edge : eliminated true 1 (fin false 1 (negsuc 51) ∷ I ∷ []) ≡ outcome_of (Ok tt) (I ∷ fin false 1 (pos 52) ∷ [])
 unfolding eliminated lt eq sub mul div of_bits
 at_the_edge = refl
 
-below_the_edge : eliminated true 1 (fin false 1 (negsuc 52) ∷ I ∷ []) ≡ outcome_of (Stopped 0) (fin false 1 (negsuc 52) ∷ I ∷ [])
+below_the_edge : eliminated true 1 (fin false 1 (negsuc 52) ∷ I ∷ []) ≡ outcome_of (Err (Pivot 0)) (fin false 1 (negsuc 52) ∷ I ∷ [])
 unfolding eliminated lt eq sub mul div of_bits
 below_the_edge = refl
 
@@ -53,11 +54,11 @@ unfolding hold lt
 greater_taken = refl
 
 -- "one elimination for both calls" is a mistake: the zero below the first pivot keeps its sign where its row is skipped, and loses it where it is not
-zero_skipped : eliminated true 2 (I ∷ o ∷ I ∷ o ∷ -o ∷ I ∷ o ∷ I ∷ []) ≡ outcome_of Done (I ∷ o ∷ I ∷ o ∷ -o ∷ I ∷ o ∷ I ∷ [])
+zero_skipped : eliminated true 2 (I ∷ o ∷ I ∷ o ∷ -o ∷ I ∷ o ∷ I ∷ []) ≡ outcome_of (Ok tt) (I ∷ o ∷ I ∷ o ∷ -o ∷ I ∷ o ∷ I ∷ [])
 unfolding eliminated lt eq sub mul div of_bits
 zero_skipped = refl
 
-zero_cleared : eliminated false 2 (I ∷ o ∷ I ∷ o ∷ -o ∷ I ∷ o ∷ I ∷ []) ≡ outcome_of Done (I ∷ o ∷ I ∷ o ∷ o ∷ I ∷ o ∷ I ∷ [])
+zero_cleared : eliminated false 2 (I ∷ o ∷ I ∷ o ∷ -o ∷ I ∷ o ∷ I ∷ []) ≡ outcome_of (Ok tt) (I ∷ o ∷ I ∷ o ∷ o ∷ I ∷ o ∷ I ∷ [])
 unfolding eliminated lt eq sub mul div of_bits
 zero_cleared = refl
 
@@ -66,7 +67,7 @@ three : eliminated true 3
     (o ∷ I ∷ I ∷ I ∷ o ∷ o
     ∷ I ∷ o ∷ I ∷ o ∷ I ∷ o
     ∷ I ∷ I ∷ o ∷ o ∷ o ∷ I ∷ [])
-    ≡ outcome_of Done
+    ≡ outcome_of (Ok tt)
     (I ∷ o ∷ o ∷ -half ∷ half ∷ half
     ∷ o ∷ I ∷ o ∷ half ∷ -half ∷ half
     ∷ -o ∷ -o ∷ I ∷ half ∷ half ∷ -half ∷ [])

@@ -4,8 +4,10 @@ use native.Mathlib.Omega.{arith}
 use mathlib.Core.Path.{◌≡◌, ap, ◌∙◌, sym}
 use mathlib.Core.Bool.{Bool, true, false, cond}
 use mathlib.Core.List.{List}
+use lib.ListN.{length}
 use lib.Ieee.{Float, lt}
 use Rattle.elimination.specs.Elimination.{magnitude, held, hold}
+use Rattle.elimination.proofs.Rows.{row_inside}
 
 -- row k, the next below those passed, is held instead or not
 next_row : (w i k : ℕ) (xs : List Float) → i + 1 ≤ k
@@ -58,3 +60,7 @@ hold_from s i xs = (held_range (2 * s) i (s - (i + 1)) xs).0
 pub hold_below : (s i : ℕ) (xs : List Float) → i < s → hold s i xs < s
 unfolding hold
 hold_below s i xs h = omega (arith, (held_range (2 * s) i (s - (i + 1)) xs).1)
+
+-- so it lies inside the area
+pub hold_inside : (s i r : ℕ) (xs : List Float) → i < s → r ≡ hold s i xs → 2 * s * s ≤ length xs → r * (2 * s) + 2 * s ≤ length xs
+hold_inside s i r xs b e h = row_inside s r (length xs) (omega (arith, e, hold_below s i xs b)) h

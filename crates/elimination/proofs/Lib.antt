@@ -13,3 +13,4 @@ pub mod Agree
 pub mod Beside
 pub mod RowParts
 pub mod Upper
+pub mod Sections

@@ -1,8 +1,7 @@
 -- One turn of each loop over a row: what the loop has written so far, with its next store, is what one turn more writes.
-use Prim.Native.Nat.{ℕ, zero, suc, ◌+◌, ◌*◌, ◌<◌, ◌≤◌}
-use native.Mathlib.Nat.{add_assoc, zero-lt-suc}
+use Prim.Native.Nat.{ℕ, ◌+◌, ◌*◌, ◌<◌, ◌≤◌}
+use native.Mathlib.Nat.{add_assoc}
 use native.Mathlib.Omega.{arith}
-use native.Mathlib.Numerals.{add-one}
 use mathlib.Core.Path.{◌≡◌, refl, ap, ◌∙◌, sym}
 use mathlib.Core.Logic.{◌≢◌}
 use mathlib.Core.List.{List}
@@ -10,7 +9,7 @@ use lib.ListN.{get_or, set}
 use lib.Ieee.{Float, nan, binary64, sub, mul}
 use Rattle.area.specs.Area.{written}
 use Rattle.area.proofs.Turns.{get_d_past}
-use Rattle.area.proofs.Places.{next, other_place, same_values, set_written, written_add}
+use Rattle.area.proofs.Places.{next, other_place, same_values, written_add}
 use Rattle.area.proofs.Rows.{apart, row_end}
 use Rattle.elimination.specs.Elimination.{at, reduced}
 use Rattle.elimination.specs.Parts.{lessened}
@@ -18,18 +17,6 @@ use Rattle.elimination.specs.Parts.{lessened}
 -- row r of s rows of 2s lies inside an area that holds them all
 pub row_inside : (s r n : ℕ) → r < s → 2 * s * s ≤ n → r * (2 * s) + 2 * s ≤ n
 row_inside s r n h k = omega (arith, row_end (2 * s) r s h)
-
--- so a row's width fits
-pub width_inside : (s n : ℕ) → 2 * s * s ≤ n → 2 * s ≤ n
-width_inside zero n h = omega arith
-width_inside (suc s) n h = omega (arith, row_inside (suc s) 0 n (zero-lt-suc s) h)
-
--- what a loop that writes row k reads in its turn j: the entry of row k itself, and that of another row, as they were
-own_entry : (w k j : ℕ) (f : ℕ → Float) (xs ys : List Float) → ys ≡ written (k * w) j f xs → at w ys k j ≡ at w xs k j
-own_entry w k j f xs ys h = rw h (get_d_past (k * w) j f xs (k * w + j) nan (omega arith))
-
-other_entry : (w i k j : ℕ) (f : ℕ → Float) (xs ys : List Float) → i ≢ k → j < w → ys ≡ written (k * w) j f xs → at w ys i j ≡ at w xs i j
-other_entry w i k j f xs ys n b h = rw h (other_place (k * w) j f xs (i * w + j) nan (λ a c. apart w i k j a n b (omega arith)))
 
 -- a fill, and m numbers more
 pub fill_more : (start k m : ℕ) {n : ℕ} (f g : ℕ → Float) (xs ys zs : List Float) → k + m ≡ n → ((c : ℕ) → c < m → g c ≡ f (k + c))
@@ -64,26 +51,6 @@ module _ (w i k : ℕ) (factor : Float) (xs : List Float) where
   pub lessened_row : {n : ℕ} {ys : List Float} → n ≡ w → ys ≡ lessened n (i * w) (k * w) factor xs → ys ≡ reduced w i k factor xs
   unfolding lessened reduced
   lessened_row e h = lessened_as e h
-
-pub swap_turn : (w i r j : ℕ) (xs ys : List Float) → i ≢ r → j < w
-    → ys ≡ written (r * w) j (at w xs i) (written (i * w) j (at w xs r) xs)
-    → set (set ys (i * w + j) (at w ys r j)) (r * w + j) (at w ys i j)
-    ≡ written (r * w) (j + 1) (at w xs i) (written (i * w) (j + 1) (at w xs r) xs)
-swap_turn w i r j xs ys n b h =
-    let zs : List Float = written (i * w) j (at w xs r) xs in
-    let own : at w ys r j ≡ at w xs r j = own_entry w r j (at w xs i) zs ys h ∙ other_entry w r i j (at w xs r) xs zs (λ e. n (sym e)) b refl in
-    let new : at w ys i j ≡ at w xs i j = other_entry w i r j (at w xs i) zs ys n b h ∙ own_entry w i j (at w xs r) xs zs refl in
-    let first : set ys (i * w + j) (at w xs r j) ≡ written (r * w) j (at w xs i) (set zs (i * w + j) (at w xs r j)) =
-    rw h (set_written (r * w) j (at w xs i) zs (i * w + j) (at w xs r j) (λ a c. apart w i r j a n b (omega arith))) in
-    ap (λ (x : Float). set (set ys (i * w + j) x) (r * w + j) (at w ys i j)) own
-    ∙ ap (λ (x : Float). set (set ys (i * w + j) (at w xs r j)) (r * w + j) x) new
-    ∙ ap (λ (zs : List Float). set zs (r * w + j) (at w xs i j)) first
-    ∙ rw add-one
-
-pub swap_all : (w i r : ℕ) {j k : ℕ} (xs : List Float) {ys : List Float} → j ≡ k
-    → ys ≡ written (r * w) j (at w xs i) (written (i * w) j (at w xs r) xs)
-    → ys ≡ written (r * w) k (at w xs i) (written (i * w) k (at w xs r) xs)
-swap_all w i r xs e h = h ∙ ap (λ (n : ℕ). written (r * w) n (at w xs i) (written (i * w) n (at w xs r) xs)) e
 
 -- what the rows above row i hold in column i is as it was
 pub mirror_turn : (w i j : ℕ) (xs ys : List Float) → j < i → i < w → ys ≡ written (i * w) j (λ c. at w xs c i) xs

@@ -10,7 +10,8 @@ use lib.ListN.{length}
 use lib.Ieee.{Float, nan, lt}
 use Rattle.area.specs.Area.{written}
 use Rattle.area.proofs.Places.{as_it_was}
-use Rattle.elimination.specs.declared.Elimination.TheVariants.{Done, Stopped, TooShort}
+use Rattle.std.specs.Prelude.{Ok, Err}
+use Rattle.elimination.specs.declared.Stop.TheVariants.{Pivot, TooShort}
 use Rattle.ieee.specs.Floats.{epsilon}
 use Rattle.elimination.specs.Elimination.{at, magnitude, hold, small, swapped, divided, cleared, step, outcome_of, run, eliminated}
 
@@ -36,30 +37,30 @@ same_test s i r v xs b e f t =
     ∙ ap (λ (x : Float). lt x epsilon) (sym f)
     ∙ t
 
-pub refuses : (skip : Bool) (s : ℕ) (xs : List Float) → ltb (length xs) (2 * s * s) ≡ true → eliminated skip s xs ≡ outcome_of TooShort xs
+pub refuses : (skip : Bool) (s : ℕ) (xs : List Float) → ltb (length xs) (2 * s * s) ≡ true → eliminated skip s xs ≡ outcome_of (Err TooShort) xs
 unfolding eliminated
-refuses skip s xs h = ap (λ (b : Bool). cond b (outcome_of TooShort xs) (run skip s s 0 xs)) h
+refuses skip s xs h = ap (λ (b : Bool). cond b (outcome_of (Err TooShort) xs) (run skip s s 0 xs)) h
 
 pub begins : (skip : Bool) (s : ℕ) (xs : List Float) → ltb (length xs) (2 * s * s) ≡ false → eliminated skip s xs ≡ run skip s (s - 0) 0 xs
 unfolding eliminated
 begins skip s xs h =
-    ap (λ (b : Bool). cond b (outcome_of TooShort xs) (run skip s s 0 xs)) h ∙ ap (λ (n : ℕ). run skip s n 0 xs) (sym (sub-zero s))
+    ap (λ (b : Bool). cond b (outcome_of (Err TooShort) xs) (run skip s s 0 xs)) h ∙ ap (λ (n : ℕ). run skip s n 0 xs) (sym (sub-zero s))
 
 -- step i is to be done, and s - i steps with it
 left : (skip : Bool) (s i : ℕ) (xs : List Float) → i < s
-    → run skip s (s - i) i xs ≡ cond (small s i xs) (outcome_of (Stopped i) xs) (run skip s (s - (i + 1)) (i + 1) (step skip s i xs))
+    → run skip s (s - i) i xs ≡ cond (small s i xs) (outcome_of (Err (Pivot i)) xs) (run skip s (s - (i + 1)) (i + 1) (step skip s i xs))
 unfolding run
 left skip s i xs h = let e : s - i ≡ suc (s - (i + 1)) = omega arith in ap (λ (n : ℕ). run skip s n i xs) e
 
-pub stops : (skip : Bool) (s i : ℕ) (xs : List Float) → i < s → small s i xs ≡ true → run skip s (s - i) i xs ≡ outcome_of (Stopped i) xs
+pub stops : (skip : Bool) (s i : ℕ) (xs : List Float) → i < s → small s i xs ≡ true → run skip s (s - i) i xs ≡ outcome_of (Err (Pivot i)) xs
 stops skip s i xs h t =
-    left skip s i xs h ∙ ap (λ (b : Bool). cond b (outcome_of (Stopped i) xs) (run skip s (s - (i + 1)) (i + 1) (step skip s i xs))) t
+    left skip s i xs h ∙ ap (λ (b : Bool). cond b (outcome_of (Err (Pivot i)) xs) (run skip s (s - (i + 1)) (i + 1) (step skip s i xs))) t
 
 pub goes_on : (skip : Bool) (s i : ℕ) (xs : List Float) → i < s → small s i xs ≡ false
     → run skip s (s - i) i xs ≡ run skip s (s - (i + 1)) (i + 1) (step skip s i xs)
 goes_on skip s i xs h t =
-    left skip s i xs h ∙ ap (λ (b : Bool). cond b (outcome_of (Stopped i) xs) (run skip s (s - (i + 1)) (i + 1) (step skip s i xs))) t
+    left skip s i xs h ∙ ap (λ (b : Bool). cond b (outcome_of (Err (Pivot i)) xs) (run skip s (s - (i + 1)) (i + 1) (step skip s i xs))) t
 
-pub ends : (skip : Bool) (s i : ℕ) (xs : List Float) → i ≡ s → run skip s (s - i) i xs ≡ outcome_of Done xs
+pub ends : (skip : Bool) (s i : ℕ) (xs : List Float) → i ≡ s → run skip s (s - i) i xs ≡ outcome_of (Ok tt) xs
 unfolding run
 ends skip s i xs h = let e : s - i ≡ 0 = omega arith in ap (λ (n : ℕ). run skip s n i xs) e

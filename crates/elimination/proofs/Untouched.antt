@@ -10,7 +10,8 @@ use lib.ListN.{length, get_or}
 use lib.Ieee.{Float, nan}
 use Rattle.area.specs.Area.{Kept}
 use Rattle.area.proofs.Kept.{kept_same, kept_then, kept_place}
-use Rattle.elimination.specs.declared.Elimination.TheVariants.{Stopped, TooShort}
+use Rattle.std.specs.Prelude.{Err}
+use Rattle.elimination.specs.declared.Stop.TheVariants.{Pivot, TooShort}
 use Rattle.elimination.specs.Elimination.{small, step, Outcome, outcome_of, run, eliminated}
 use Rattle.elimination.proofs.Keeps.{kept_step}
 
@@ -26,7 +27,7 @@ kept_run skip s zero i xs h = kept_same (s * (2 * s)) xs
 kept_run skip s (suc n) i xs h =
     let ys : List Float = step skip s i xs in
     let k : Kept (s * (2 * s)) xs ys = kept_step skip s i xs (omega arith) in
-    area_of (small s i xs) (outcome_of (Stopped i) xs) (run skip s n (i + 1) ys) (kept_same (s * (2 * s)) xs)
+    area_of (small s i xs) (outcome_of (Err (Pivot i)) xs) (run skip s n (i + 1) ys) (kept_same (s * (2 * s)) xs)
     (kept_then k (kept_run skip s n (i + 1) ys (omega arith)))
 
 -- the whole elimination, for every s and every area
@@ -34,7 +35,7 @@ pub kept_eliminated : (skip : Bool) (s : ℕ) (xs : List Float) → Kept (2 * s 
 unfolding eliminated
 kept_eliminated skip s xs =
     let e : s * (2 * s) ≡ 2 * s * s = omega arith in
-    area_of (ltb (length xs) (2 * s * s)) (outcome_of TooShort xs) (run skip s s 0 xs) (kept_same (2 * s * s) xs)
+    area_of (ltb (length xs) (2 * s * s)) (outcome_of (Err TooShort) xs) (run skip s s 0 xs) (kept_same (2 * s * s) xs)
     (rw e at (kept_run skip s s 0 xs (omega arith)))
 
 -- place by place

@@ -1,13 +1,12 @@
 -- A call that eliminates, whichever it is: turned away before, stopped at a step, or gone through.
-use Rattle.std.specs.Prelude.{ℕ, zero, suc, ◌*◌, ◌<◌, ◌≡◌, ◌≢◌, ◌↔◌, Bool, List, [], ◌∷◌, ltb, length, Float}
+use Rattle.std.specs.Prelude.{ℕ, zero, suc, ◌*◌, ◌<◌, ◌≡◌, ◌≢◌, ◌↔◌, Bool, List, [], ◌∷◌, ltb, length, Ok, Err, Float}
 use Rattle.error.specs.declared.Refusal.TheVariants.{Singular}
 use Rattle.error.specs.Numbers.{number_of}
 use Rattle.error.specs.Outcome.{Outcome, outcome}
 use Rattle.error.specs.Tests.{Test, test}
 use Rattle.error.specs.Rules.{Rule, rule, Ruled, NoneApplies}
-use Rattle.elimination.specs.declared.Elimination.{Elimination}
-use Rattle.elimination.specs.declared.Elimination.TheVariants.{Done, Stopped, TooShort}
-use Rattle.elimination.specs.Elimination.{end_number, eliminated, stepped, Through, StopsAt}
+use Rattle.elimination.specs.declared.Stop.TheVariants.{Pivot, TooShort}
+use Rattle.elimination.specs.Elimination.{End, end_number, eliminated, stepped, Through, StopsAt}
 use Rattle.elimination.specs.Inverse.{laid}
 
 -- "17 work area under 2·s·s numbers": of every call that eliminates, as a test and as a rule
@@ -37,13 +36,13 @@ matrix c = laid c.size c.entry c.work
 
 -- The areas of a call whose elimination ended so, by what the work area holds then. "19 leaves the work area as elimination stopped"; "On success the work
 -- area holds the finished elimination". An area that is too short is refused by 17 before.
-abbrev pub areas_after : {A : Type 0} → Call A → Elimination → List Float → A
-areas_after c Done work = c.answered work
-areas_after c (Stopped i) work = c.stopped work
-areas_after c TooShort work = c.lent
+abbrev pub areas_after : {A : Type 0} → Call A → End → List Float → A
+areas_after c (Ok u) work = c.answered work
+areas_after c (Err (Pivot i)) work = c.stopped work
+areas_after c (Err TooShort) work = c.lent
 
 -- what such an elimination gives the call, with the number of its end
-unfoldable pub after_elimination : {A : Type 0} → Call A → Elimination → List Float → Outcome A
+unfoldable pub after_elimination : {A : Type 0} → Call A → End → List Float → Outcome A
 after_elimination c end work = outcome (end_number end) (areas_after c end work)
 
 -- the call by its refusal: "A refusal carries only its number and writes nothing"

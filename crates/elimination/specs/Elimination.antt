@@ -1,14 +1,15 @@
 -- Elimination, stage by stage as paper 01 says it, on "the matrix beside the identity, s rows of 2s", which lies in a list row after row.
 -- One definition serves both calls: `skip` says whether a row whose factor is zero is passed over.
-use Rattle.std.specs.Prelude.{ℕ, zero, suc, ◌+◌, ◌-◌, ◌*◌, ◌≤◌, ◌<◌, ◌≡◌, ◌↔◌, Bool, true, false, ◌&&◌, cond, List, eqb, ltb, length, get_or, Float}
+use Rattle.std.specs.Prelude.{ℕ, zero, suc, ◌+◌, ◌-◌, ◌*◌, ◌≤◌, ◌<◌, ◌≡◌, ◌↔◌, Bool, true, false, ◌&&◌, cond, List, eqb, ltb, length, get_or, Result, Ok, Err, Float}
 use Rattle.std.specs.Float.{nan, binary64}
 use Rattle.std.specs.Float.Ieee.{lt, eq, sub, mul, div}
 use Rattle.area.specs.Area.{written}
 use Rattle.ieee.specs.Floats.{zero_float, abs_of, epsilon}
+use Rattle.error.specs.declared.Refusal.{Refusal}
 use Rattle.error.specs.declared.Refusal.TheVariants.{WorkArea, Singular}
 use Rattle.error.specs.Numbers.{number_of}
-use Rattle.elimination.specs.declared.Elimination.{Elimination}
-use Rattle.elimination.specs.declared.Elimination.TheVariants.{Done, Stopped, TooShort}
+use Rattle.elimination.specs.declared.Stop.{Stop}
+use Rattle.elimination.specs.declared.Stop.TheVariants.{Pivot, TooShort}
 
 -- the entry in row r and column c of a matrix with `width` columns
 abbrev pub at : ℕ → List Float → ℕ → ℕ → Float
@@ -65,34 +66,42 @@ unfoldable pub step : Bool → ℕ → ℕ → List Float → List Float
 unfolding hold swapped divided cleared
 step skip s i xs = cleared skip (2 * s) i s (divided (2 * s) i (swapped (2 * s) i (hold s i xs) xs))
 
+-- the refusal that a stop comes to
+abbrev pub refusal_of : Stop → Refusal
+refusal_of (Pivot i) = Singular
+refusal_of TooShort = WorkArea
+
+-- an elimination's end: every step went through, or where it stopped
+abbrev pub End : Type 0
+End = Result (Unit {0}) Stop
+
 -- the number of an elimination's end: that of the refusal it comes to, and 0 where every step went through
-abbrev pub end_number : Elimination → ℕ
-end_number Done = 0
-end_number (Stopped i) = number_of Singular
-end_number TooShort = number_of WorkArea
+abbrev pub end_number : End → ℕ
+end_number (Ok u) = 0
+end_number (Err stop) = number_of (refusal_of stop)
 
 -- how a call ends: its answer, and what the work area holds
 pub record Outcome : Type 0 where
-  pub answer : Elimination
+  pub answer : End
   pub area : List Float
 
-abbrev pub outcome_of : Elimination → List Float → Outcome
+abbrev pub outcome_of : End → List Float → Outcome
 outcome_of a xs = record { answer = a; area = xs }
 
 -- n steps from step i on; a step whose held magnitude is small stops the run before its swap
 unfoldable pub run : Bool → ℕ → ℕ → ℕ → List Float → Outcome
 unfolding small step
-run skip s zero i xs = outcome_of Done xs
+run skip s zero i xs = outcome_of (Ok tt) xs
 run skip s (suc n) i xs =
     let rest = run skip s n (i + 1) (step skip s i xs) in
-    cond (small s i xs) (outcome_of (Stopped i) xs) rest
+    cond (small s i xs) (outcome_of (Err (Pivot i)) xs) rest
 
 -- the whole elimination, s steps; an area of fewer than 2·s·s numbers is left as it is
 unfoldable pub eliminated : Bool → ℕ → List Float → Outcome
 unfolding run
 eliminated skip s xs =
     let all = run skip s s 0 xs in
-    cond (ltb (length xs) (2 * s * s)) (outcome_of TooShort xs) all
+    cond (ltb (length xs) (2 * s * s)) (outcome_of (Err TooShort) xs) all
 
 -- the area once the steps below n are done
 unfoldable pub stepped : Bool → ℕ → ℕ → List Float → List Float

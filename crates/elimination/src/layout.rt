@@ -37,8 +37,6 @@ fn fill_identity(work: &mut [f64], size: usize, i: usize)
     ensures { work.new ≡ written (i * (2 * size) + size) size (λ j. cond (eqb j i) one_float zero_float) work.old }
 {
     let from = i * (2 * size) + size;
-    for j in 0..size {
-        work[from + j] = 0.0;
-    }
+    work[from..from + size].fill(0.0);
     work[from + i] = 1.0;
 }

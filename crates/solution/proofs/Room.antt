@@ -2,10 +2,8 @@
 use Prim.Native.Nat.{ℕ, ◌-◌, ◌*◌, ◌≤◌, ◌<◌}
 use native.Mathlib.Omega.{arith}
 use mathlib.Core.Path.{◌≡◌, ap, ◌∙◌}
-use mathlib.Core.Bool.{true, false}
 use mathlib.Core.List.{List}
 use borrow.Author.Tests.{lt-ltb, le-ltb}
-use lib.Dec.{ltb}
 use lib.ListN.{length, get_or}
 use lib.Ieee.{Float, nan}
 use Rattle.area.specs.Area.{written}
@@ -21,17 +19,17 @@ unfolding solved
 solved_is size work b z hw hb hz = simp (le-ltb _ _ hw, le-ltb _ _ hb, le-ltb _ _ hz)
 
 -- one is not
-pub short_work : (size : ℕ) (work b z : List Float) → ltb (length work) (2 * size * size) ≡ true → solved size work b z ≡ z
+pub short_work : (size : ℕ) (work b z : List Float) → length work < 2 * size * size → solved size work b z ≡ z
 unfolding solved
-short_work size work b z h = simp h
+short_work size work b z h = simp (lt-ltb _ _ h)
 
-pub short_right : (size : ℕ) (work b z : List Float) → ltb (length work) (2 * size * size) ≡ false → length b < size → solved size work b z ≡ z
+pub short_right : (size : ℕ) (work b z : List Float) → 2 * size * size ≤ length work → length b < size → solved size work b z ≡ z
 unfolding solved
-short_right size work b z h hb = simp (h, lt-ltb _ _ hb)
+short_right size work b z h hb = simp (le-ltb _ _ h, lt-ltb _ _ hb)
 
-pub short_z : (size : ℕ) (work b z : List Float) → ltb (length work) (2 * size * size) ≡ false → size ≤ length b → length z < size → solved size work b z ≡ z
+pub short_z : (size : ℕ) (work b z : List Float) → 2 * size * size ≤ length work → size ≤ length b → length z < size → solved size work b z ≡ z
 unfolding solved
-short_z size work b z h hb hz = simp (h, le-ltb _ _ hb, lt-ltb _ _ hz)
+short_z size work b z h hb hz = simp (le-ltb _ _ h, le-ltb _ _ hb, lt-ltb _ _ hz)
 
 -- the trend: the area is a matrix's, and there is room
 pub estimated_is : (size : ℕ) (work values trend : List Float) → 2 * size * size ≤ length work → size - length values ≤ length trend
@@ -40,9 +38,9 @@ unfolding estimated
 estimated_is size work values trend hw ht = simp (le-ltb _ _ hw, le-ltb _ _ ht)
 
 -- it is none
-pub no_matrix : (size : ℕ) (work values trend : List Float) → ltb (length work) (2 * size * size) ≡ true → estimated size work values trend ≡ trend
+pub no_matrix : (size : ℕ) (work values trend : List Float) → length work < 2 * size * size → estimated size work values trend ≡ trend
 unfolding estimated
-no_matrix size work values trend h = simp h
+no_matrix size work values trend h = simp (lt-ltb _ _ h)
 
 -- there is no row past the wells'
 pub no_rows : (size : ℕ) (work values trend : List Float) → 2 * size * size ≤ length work → size < length values → estimated size work values trend ≡ trend

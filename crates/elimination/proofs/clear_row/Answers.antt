@@ -20,12 +20,12 @@ loop-turn-preserved c =
     let a = s.args in
     let w = 2 * a.size in
     let more =
-    lessened_more w a.i a.k a.factor a.work.now (4 * l.turn) 4 l.work _ s.requires.0 (omega arith) l.invariant.7 f.clear_four.ensures in (
+    lessened_more w a.i a.k a.factor a.work.now (4 * l.turn) 4 l.work _ s.requires.0 (omega arith) l.invariant.7 f.clear_part.ensures in (
       omega arith,
       refl,
       refl,
       refl,
-      f.clear_four.auto.work ∙ l.invariant.4,
+      f.clear_part.auto.work ∙ l.invariant.4,
       omega arith,
       omega arith,
       lessened_as w a.i a.k a.factor a.work.now (omega arith) more,
@@ -43,7 +43,7 @@ returns-then-size-eq1 c =
     let xs = a.work.now in
     let so_far = lessened_as w a.i a.k a.factor xs {n = j} (omega arith) l.invariant.7 in
     lessened_row w a.i a.k a.factor xs (omega arith)
-    (lessened_more w a.i a.k a.factor xs j 2 l.work _ s.requires.0 (omega arith) so_far f.clear_two.ensures)
+    (lessened_more w a.i a.k a.factor xs j 2 l.work _ s.requires.0 (omega arith) so_far f.clear_part-then-size-eq1.ensures)
 
 pub returns-else-size-eq1 : goal.returns-else-size-eq1
 returns-else-size-eq1 c =

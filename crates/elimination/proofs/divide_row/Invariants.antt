@@ -1,16 +1,14 @@
--- `elimination::divide_row` meets its contract: after j turns the area is what j stores write.
-use Prim.Native.Nat.{◌≤◌, ◌*◌, ◌+◌, ◌-◌}
+-- `elimination::divide_row` meets its contract: after x-index turns so many of the row's numbers are divided.
+use Prim.Native.Nat.{◌*◌, ◌+◌, ◌-◌, ◌≤◌}
 use mathlib.Core.Path.{◌≡◌}
-use lib.ListN.{length}
 use lib.Ieee.{binary64, div}
+use borrow.Rule.Slice.PartMut.{mid_of}
 use Rattle.area.specs.Area.{written}
 use Rattle.elimination.specs.Elimination.{at}
 use Rattle.elimination.proofs.divide_row.Given as goal
 
-abbrev pub invariant-loop-j : goal.invariant-loop-j
-invariant-loop-j l =
-    (l.j ≤ l.width) × (l.row ≡ l.i * l.width) × (length l.work ≡ length l.initial.work) × (l.row + l.width ≤ length l.initial.work) × (l.pivot ≡ at l.width l.initial.work l.i l.i)
-    × (l.work ≡ written (l.i * l.width) l.j (λ k. div binary64 (at l.width l.initial.work l.i k) (at l.width l.initial.work l.i l.i)) l.initial.work)
-
-abbrev pub decreases-loop-j : goal.decreases-loop-j
-decreases-loop-j l = l.width - l.j
+abbrev pub invariant-loop-x : goal.invariant-loop-x
+invariant-loop-x l =
+    (l.x-index ≤ l.width) × (l.row ≡ l.i * l.width) × (l.pivot ≡ at l.width l.fn.work l.i l.i)
+    × (l.x-items ≡ written 0 l.x-index (λ k. div binary64 (at l.width l.fn.work l.i k) (at l.width l.fn.work l.i l.i))
+    (mid_of (l.i * l.width) (l.i * l.width + l.width - l.i * l.width) l.fn.work))

@@ -1,6 +1,6 @@
 -- `elimination::eliminate` meets its contract. The invariant: the run from step i on makes of the area in hand what the whole elimination makes of the
 -- area that came. The measure is the steps left.
-use Prim.Native.Nat.{ℕ, ◌≤◌, ◌<◌, ◌*◌, ◌+◌, ◌-◌}
+use Prim.Native.Nat.{ℕ, ◌*◌, ◌+◌, ◌-◌}
 use mathlib.Core.Path.{◌≡◌, refl, ap, sym, ◌∙◌}
 use mathlib.Core.Bool.{true, false}
 use native.Mathlib.Omega.{arith}
@@ -8,64 +8,27 @@ use borrow.Author.Tests.{ltb-false}
 use lib.Dec.{ltb}
 use lib.ListN.{length}
 use Rattle.elimination.specs.Elimination.{hold, small, swapped, run}
-use Rattle.elimination.proofs.Rows.{row_inside}
-use Rattle.elimination.proofs.Hold.{hold_from, hold_below}
+use Rattle.elimination.proofs.Hold.{hold_from, hold_inside}
 use Rattle.elimination.proofs.Run.{swap_self, staged, same_test, refuses, begins, stops, goes_on, ends}
+use Rattle.elimination.proofs.Clear.{skips}
 use Rattle.elimination.proofs.eliminate.Goals.{then-max_row-i, else-max_row-i}
 use Rattle.elimination.proofs.eliminate.Goals as goal
 
--- return Elimination::TooShort;
+-- return Err(Stop::TooShort);
 pub returns-then-too_short : goal.returns-then-too_short
-returns-then-too_short c =
+returns-then-too_short g c =
     let a = c.args in
-    sym (refuses a.skip a.size a.work.now (sym c.too_short.ensures ∙ c.if-too_short.true))
+    sym (refuses (skips g.row.SKIP) a.size a.work.now (sym c.too_short.ensures ∙ c.if-too_short.true))
 
 -- for i in 0..size
 pub loop-i-init : goal.loop-i-init
-loop-i-init c =
+loop-i-init g c =
     let long : (let a = c.args in ltb (length a.work.now) (2 * a.size * a.size) ≡ false) = sym c.too_short.ensures ∙ c.if-too_short.false in
     let a = c.args in
-    (omega arith, refl, ltb-false _ _ long, refl, begins a.skip a.size a.work.now long)
-
--- let max_val = ieee::abs(work[max_row * width + i]);
-pub overflow_mul-max_row : goal.overflow_mul-max_row
-overflow_mul-max_row c =
-    let found : c.find_pivot-max_row.result * (2 * c.args.size) + 2 * c.args.size ≤ length c.loop-i.work =
-    let s = c.args.size in
-    let l = c.loop-i in
-    let b : c.find_pivot-max_row.result < s = omega (arith, c.find_pivot-max_row.ensures, hold_below s l.i l.work (omega arith)) in
-    row_inside s c.find_pivot-max_row.result (length l.work) b (omega arith) in
-    omega (arith, found)
-
-pub overflow_add-max_row : goal.overflow_add-max_row
-overflow_add-max_row c =
-    let found : c.find_pivot-max_row.result * (2 * c.args.size) + 2 * c.args.size ≤ length c.loop-i.work =
-    let s = c.args.size in
-    let l = c.loop-i in
-    let b : c.find_pivot-max_row.result < s = omega (arith, c.find_pivot-max_row.ensures, hold_below s l.i l.work (omega arith)) in
-    row_inside s c.find_pivot-max_row.result (length l.work) b (omega arith) in
-    omega (arith, found)
-
-pub offset_bounds-work-max_row : goal.offset_bounds-work-max_row
-offset_bounds-work-max_row c =
-    let found : c.find_pivot-max_row.result * (2 * c.args.size) + 2 * c.args.size ≤ length c.loop-i.work =
-    let s = c.args.size in
-    let l = c.loop-i in
-    let b : c.find_pivot-max_row.result < s = omega (arith, c.find_pivot-max_row.ensures, hold_below s l.i l.work (omega arith)) in
-    row_inside s c.find_pivot-max_row.result (length l.work) b (omega arith) in
-    omega (arith, found)
-
-pub bounds-work-max_row : goal.bounds-work-max_row
-bounds-work-max_row c =
-    let found : c.find_pivot-max_row.result * (2 * c.args.size) + 2 * c.args.size ≤ length c.loop-i.work =
-    let s = c.args.size in
-    let l = c.loop-i in
-    let b : c.find_pivot-max_row.result < s = omega (arith, c.find_pivot-max_row.ensures, hold_below s l.i l.work (omega arith)) in
-    row_inside s c.find_pivot-max_row.result (length l.work) b (omega arith) in
-    omega (arith, found)
+    (omega arith, refl, ltb-false _ _ long, refl, begins (skips g.row.SKIP) a.size a.work.now long)
 
 pub returns-then-max_val : goal.returns-then-max_val
-returns-then-max_val c =
+returns-then-max_val g c =
     let l = c.loop-i in
     let s = c.args.size in
     let tested : small s l.i l.work ≡ true = same_test s l.i c.find_pivot-max_row.result c.abs-max_val.result l.work true c.find_pivot-max_row.ensures c.abs-max_val.ensures c.if-max_val.true in
@@ -73,16 +36,13 @@ returns-then-max_val c =
 
 -- swap_rows(work, width, i, max_row);
 pub swap_rows-requires : goal.swap_rows-requires
-swap_rows-requires c =
-    let found : c.find_pivot-max_row.result * (2 * c.args.size) + 2 * c.args.size ≤ length c.loop-i.work =
-    let s = c.args.size in
+swap_rows-requires g c =
     let l = c.loop-i in
-    let b : c.find_pivot-max_row.result < s = omega (arith, c.find_pivot-max_row.ensures, hold_below s l.i l.work (omega arith)) in
-    row_inside s c.find_pivot-max_row.result (length l.work) b (omega arith) in
-    (omega (arith, c.if-max_row-i.true, c.find_pivot-max_row.ensures, hold_from c.args.size c.loop-i.i c.loop-i.work), found)
+    let chosen = c.find_pivot-max_row in
+    (omega (arith, c.if-max_row-i.true, chosen.ensures, hold_from c.args.size l.i l.work), hold_inside c.args.size l.i chosen.result l.work (omega arith) chosen.ensures (omega arith))
 
 pub loop-i-preserved : goal.loop-i-preserved
-loop-i-preserved c =
+loop-i-preserved g c =
     let l = c.loop-i in
     let a = c.args in
     let s = a.size in
@@ -101,17 +61,17 @@ loop-i-preserved c =
     ] in
     let tested : small s l.i l.work ≡ false =
     same_test s l.i chosen.result c.abs-max_val.result l.work false chosen.ensures c.abs-max_val.ensures c.if-max_val.false in
-    let e = staged a.skip s l.i l.work swaps c.divide_row.ensures c.clear_others.ensures in (
+    let e = staged (skips g.row.SKIP) s l.i l.work swaps c.divide_row.ensures c.clear_others.ensures in (
       omega arith,
       refl,
       omega arith,
       omega (arith, swap-length),
-      l.invariant.4 ∙ goes_on a.skip s l.i l.work (omega arith) tested ∙ ap (run a.skip s (s - (l.i + 1)) (l.i + 1)) (sym e),
+      l.invariant.4 ∙ goes_on (skips g.row.SKIP) s l.i l.work (omega arith) tested ∙ ap (run (skips g.row.SKIP) s (s - (l.i + 1)) (l.i + 1)) (sym e),
     )
 
 pub returns : goal.returns
-returns c =
+returns g c =
     let l = c.loop-i in
     let a = c.args in
     let all : l.i ≡ a.size = omega arith in
-    sym (l.invariant.4 ∙ ends a.skip a.size l.i l.work all)
+    sym (l.invariant.4 ∙ ends (skips g.row.SKIP) a.size l.i l.work all)

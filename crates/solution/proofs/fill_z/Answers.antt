@@ -1,33 +1,26 @@
 -- `solution::fill_z` meets its contract: test by test, then every row.
-use Prim.Native.Nat.{◌*◌}
-use mathlib.Core.Path.{◌≡◌, sym, ◌∙◌}
-use mathlib.Core.Bool.{false}
-use native.Mathlib.Omega.{arith}
-use borrow.Author.Tests.{ltb-false}
-use lib.Dec.{ltb}
-use lib.ListN.{length}
+use Prim.Native.Nat.{ℕ}
+use mathlib.Core.Path.{sym, ap₂, ◌∙◌}
+use mathlib.Core.List.{List}
+use lib.ListN.{get_or}
+use lib.Ieee.{Float, nan}
+use Rattle.area.specs.Area.{written}
+use Rattle.elimination.specs.Inverse.{times_inverse}
 use Rattle.solution.proofs.Room.{solved_is, short_work, short_right, short_z}
 use Rattle.solution.proofs.fill_z.Goals as goal
 
-pub returns-then-too_short : goal.returns-then-too_short
-returns-then-too_short c =
-    let a = c.args in
-    sym (short_work a.size a.work.now a.b.now a.z.now (sym c.too_short.ensures ∙ c.if-too_short.true))
+pub returns-in_default : goal.returns-in_default
+returns-in_default c = let a = c.args in sym (short_work a.size a.work.now a.b.now a.z.now c.in_default.ensures)
 
 pub returns-then-b-size : goal.returns-then-b-size
-returns-then-b-size c =
-    let long : (let a = c.args in ltb (length a.work.now) (2 * a.size * a.size) ≡ false) = sym c.too_short.ensures ∙ c.if-too_short.false in
-    let a = c.args in
-    sym (short_right a.size a.work.now a.b.now a.z.now long c.if-b-size.true)
+returns-then-b-size c = let a = c.args in sym (short_right a.size a.work.now a.b.now a.z.now c.in-Some.ensures.2 c.if-b-size.true)
 
 pub returns-then-z-size : goal.returns-then-z-size
-returns-then-z-size c =
-    let long : (let a = c.args in ltb (length a.work.now) (2 * a.size * a.size) ≡ false) = sym c.too_short.ensures ∙ c.if-too_short.false in
-    let a = c.args in
-    sym (short_z a.size a.work.now a.b.now a.z.now long (omega arith) c.if-z-size.true)
+returns-then-z-size c = let a = c.args in sym (short_z a.size a.work.now a.b.now a.z.now c.in-Some.ensures.2 c.if-b-size.false c.if-z-size.true)
 
 pub returns : goal.returns
 returns c =
-    let long : (let a = c.args in ltb (length a.work.now) (2 * a.size * a.size) ≡ false) = sym c.too_short.ensures ∙ c.if-too_short.false in
     let a = c.args in
-    c.fill_rows.ensures ∙ sym (solved_is a.size a.work.now a.b.now a.z.now (ltb-false _ _ long) (omega arith) (omega arith))
+    c.fill_rows.ensures
+    ∙ ap₂ (λ (s : ℕ) (xs : List Float). written 0 s (times_inverse s xs (λ j. get_or a.b.now j nan)) a.z.now) c.in-Some.ensures.1 c.in-Some.ensures.0
+    ∙ sym (solved_is a.size a.work.now a.b.now a.z.now c.in-Some.ensures.2 c.if-b-size.false c.if-z-size.false)

@@ -1,9 +1,9 @@
--- `solution::fill_last_rows` meets its contract: where z began as the first rows are written, it has i of them.
+-- `solution::Inverse::fill_last_rows` meets its contract: where z began as the first rows are written, it has i of them.
 use native.Mathlib.Omega.{arith}
 use lib.ListN.{length-set}
 use Rattle.area.proofs.Start.{next_start}
 use Rattle.elimination.specs.Inverse.{times_inverse}
-use Rattle.solution.proofs.fill_last_rows.Goals as goal
+use Rattle.solution.proofs.Inverse.fill_last_rows.Goals as goal
 
 pub loop-i-preserved : goal.loop-i-preserved
 unfolding times_inverse
