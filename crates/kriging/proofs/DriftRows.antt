@@ -1,25 +1,20 @@
 -- Laws of the drift columns as they are stored: the columns of one code, and a row of them code after code.
-use Prim.Native.Nat.{ℕ, ◌+◌, ◌<◌}
-use native.Mathlib.Nat.{add-zero}
+use Prim.Native.Nat.{ℕ, ◌+◌, ◌*◌, ◌<◌}
 use native.Mathlib.Numerals.{add-one}
 use native.Mathlib.Omega.{arith}
 use mathlib.Core.Path.{◌≡◌, ap, sym, ◌∙◌}
-use mathlib.Core.Logic.{◌≢◌}
 use mathlib.Core.Bool.{cond}
 use mathlib.Core.List.{List, ◌∷◌, ◌++◌}
-use borrow.Author.Tests.{ne_eqb}
 use lib.Dec.{eqb}
-use lib.ListN.{length, get_or, set, drop, get_or-append}
-use lib.Seq.{drop-cons, drop-length, get_or-append-add}
+use lib.ListN.{length, get_or, drop, get_or-append}
+use lib.Seq.{drop-cons, get_or-append-add}
 use lib.Ieee.{Float, nan}
-use Rattle.ieee.specs.Floats.{one_float}
 use Rattle.area.specs.Area.{written}
 use Rattle.area.proofs.Turns.{length-written}
 use Rattle.area.proofs.Places.{same_values, written_add}
 use Rattle.survey.specs.Survey.{code_columns, column_sum, external_count}
 use Rattle.kriging_theory.specs.Drift.{block, drift_row}
 use Rattle.kriging_theory.proofs.SystemDrift.{block_length}
-use Rattle.kriging_theory.proofs.Nodes.{row_same}
 
 -- a row after the columns of the code c are stored from `col` on
 abbrev pub coded : ℕ → Float → Float → Float → ℕ → List Float → List Float
@@ -28,20 +23,9 @@ coded c x y e col row = written col (code_columns c) (λ j. get_or (block c x y 
 pub length-coded : (c : ℕ) (x y e : Float) (col : ℕ) (row : List Float) → length (coded c x y e col row) ≡ length row
 length-coded c x y e col row = length-written col (code_columns c) (λ j. get_or (block c x y e) j nan) row
 
--- a code that is none of the four stores nothing
-pub coded_none : (c : ℕ) (x y e : Float) (col : ℕ) (row : List Float) → c ≢ 1 → c ≢ 2 → c ≢ 3 → c ≢ 4 → row ≡ coded c x y e col row
-coded_none c x y e col row h1 h2 h3 h4 = rw (ne_eqb c 1 h1, ne_eqb c 2 h2, ne_eqb c 3 h3, ne_eqb c 4 h4)
-
--- one column, of 1 or of the external value, is one store
-pub coded_one : (x y e : Float) (col : ℕ) (row : List Float) → set row col one_float ≡ coded 1 x y e col row
-coded_one x y e col row = rw add-zero
-
-pub coded_external : (x y e : Float) (col : ℕ) (row : List Float) → set row col e ≡ coded 4 x y e col row
-coded_external x y e col row = rw add-zero
-
--- where the code is not 4, the external value is not looked at
-pub coded_any : (c : ℕ) (x y d e : Float) (col : ℕ) (row : List Float) → c ≢ 4 → coded c x y d col row ≡ coded c x y e col row
-coded_any c x y d e col row h = rw (ne_eqb c 4 h)
+-- the external values of a place, by their column
+abbrev pub values : List Float → ℕ → ℕ → ℕ → Float
+values external first step c = get_or external (first + c * step) nan
 
 -- ---- a row: the columns of every code, from `col` on, where `used` external columns are taken already
 
@@ -85,16 +69,3 @@ pub rowed_from : (bases : List ℕ) (i : ℕ) → i < length bases
 rowed_from bases i h x y external used col row next e =
     ap (λ (cs : List ℕ). rowed cs x y external used col row) (from_place bases i h)
     ∙ rowed_cons (get_or bases i 0) (drop (i + 1) bases) x y external used col row next e
-
--- past the last code nothing is stored
-pub rowed_end : (bases : List ℕ) (i : ℕ) → i ≡ length bases
-    → (x y : Float) (external : ℕ → Float) (used col : ℕ) (row : List Float)
-    → row ≡ rowed (drop i bases) x y external used col row
-rowed_end bases i h x y external used col row =
-    sym (ap (λ (cs : List ℕ). rowed cs x y external used col row) (ap (λ (k : ℕ). drop k bases) h ∙ drop-length bases))
-
--- a row with the same external values is the same
-pub rowed_same : (cs : List ℕ) (x y : Float) (e f : ℕ → Float) (used col : ℕ) (row : List Float) {next : List Float}
-    → ((c : ℕ) → e c ≡ f c) → next ≡ rowed cs x y e used col row → next ≡ rowed cs x y f used col row
-rowed_same cs x y e f used col row h g =
-    g ∙ ap (λ (r : List Float). written col (column_sum cs) (λ j. get_or r j nan) row) (row_same cs x y e f used (λ c l b. h c))

@@ -1,9 +1,9 @@
+pub mod Refusing
+pub mod Entries
 pub mod DriftRows
-pub mod Lent
-pub mod MatrixEntries
 pub mod RightHand
 pub mod NodeParts
 pub mod Progress
-pub mod Taken
+pub mod Stored
+pub mod Tested
 pub mod Fitting
-pub mod Promised

@@ -74,23 +74,23 @@ module _ (s : Survey) (work : List Float) (q : ℕ) where
         unread (take (wells s) zs) [] F (node_row s q) s.tolerance c s.values g
         ∙ same_joined (audited_in (weighed_in (take (wells s) zs) F (node_row s q) s.tolerance) s.values g) (audit_of s q z _) same (λ i h. refl) f c _ e
 
--- What the calls behind a node leave, p being how many columns there are: b in a list, z in the first places of one, and F in another.
-pub record Parts (s : Survey) (work : List Float) (q : ℕ) (b zs F : List Float) (given : Bool) (variance figure : Float) (c v : ℕ) (p : ℕ) : Type 0 where
-  pub long : wells s + p ≤ length zs
+-- What the calls behind a node leave: b in a list, z in the first places of one, and F in another.
+pub record Parts (s : Survey) (work : List Float) (q : ℕ) (b zs F : List Float) (given : Bool) (variance figure : Float) (c v : ℕ) : Type 0 where
+  pub long : size s ≤ length zs
   pub right : b ≡ right_hand s q
   pub z_of_lem : take (length b) zs ≡ z_of (length b) work b
   pub variance_of_lem : variance ≡ variance_of (length b) zs b
   pub columns_of : c ≡ column_verdict_given given (weighed_in (take (wells s) zs) F (drop (wells s) b) s.tolerance)
   pub figure_of_lem : figure ≡ running_sum (wells s) (λ i. mul binary64 (get_or zs i nan) (get_or s.values i nan))
   pub verdict_of_lem : v ≡ verdict_with c (audited_in (weighed_in (take (wells s) zs) [] (drop (wells s) b) s.tolerance) s.values figure)
-  pub scanned : given ≡ drift_finite (wells s) p (entry_in F p)
+  pub scanned : given ≡ drift_finite (wells s) (columns s) (entry_in F (columns s))
 
 module _ (s : Survey) (work : List Float) (q : ℕ) (b zs F : List Float) (given : Bool) (variance figure : Float) (c v : ℕ) (hF : DriftIn s F) where
-  abbrev Is : Type 0
-  Is = (take (size s) zs ≡ (node_of s work q).z) × (figure ≡ (node_of s work q).figure) × (variance ≡ (node_of s work q).variance) × (v ≡ (node_of s work q).verdict)
-
-  with_columns : Parts s work q b zs F given variance figure c v (columns s) → Is
-  with_columns h =
+  -- they are the paper's node
+  pub node_is : Parts s work q b zs F given variance figure c v
+      → (take (size s) zs ≡ (node_of s work q).z) × (figure ≡ (node_of s work q).figure) × (variance ≡ (node_of s work q).variance)
+      × (v ≡ (node_of s work q).verdict)
+  node_is h =
       let len = right_length s q in
       let hz =
       subst (λ (k : ℕ). take k zs ≡ z_of k work (right_hand s q)) len
@@ -108,7 +108,3 @@ module _ (s : Survey) (work : List Float) (q : ℕ) (b zs F : List Float) (given
         subst (λ (l : List Float). v ≡ verdict_with c (audited_in (weighed_in (take (wells s) zs) [] l s.tolerance) s.values figure)) f0 h.verdict_of_lem
             ∙ verdict_is s work q zs F given h.long hz hF h.scanned col fig,
       )
-
-  -- they are the paper's node
-  pub node_is : {p : ℕ} → columns s ≡ p → Parts s work q b zs F given variance figure c v p → Is
-  node_is {p} e h = with_columns (subst (λ (k : ℕ). Parts s work q b zs F given variance figure c v k) (sym e) h)

@@ -1,103 +1,67 @@
 // The matrix of a fit beside the identity, in the lent work area.
-ghost use Rattle.std.specs.Prelude.{◌≡◌, ◌+◌, ◌-◌, ◌*◌, ◌≤◌, ◌<◌, length, get_or};
-ghost use Rattle.std.specs.Float.{nan};
+ghost use Rattle.std.specs.Prelude.{◌≡◌, ◌+◌, ◌-◌, ◌*◌, ◌≤◌, ◌<◌, length};
 ghost use Rattle.area.specs.Area.{written};
-ghost use Rattle.exponential.specs.Exponential.{fraction_table};
-ghost use Rattle.elimination.specs.Inverse.{laid};
-ghost use Rattle.kriging_theory.specs.Assembly.{between, joined};
+ghost use Rattle.survey.specs.Lent.{survey_lent};
+ghost use Rattle.survey.specs.Survey.{wells, size};
+ghost use Rattle.kriging_theory.specs.Assembly.{between, entry, assembled};
 
+use crate::call::{Taken, WellDrift};
 use elimination::layout::complete;
-use survey::UniversalKrigingOptions;
 
 // The entry between wells i and j: 0 + r on the diagonal, else the variogram.
-fn gamma(
-    coords: &[f64],
-    options: UniversalKrigingOptions,
-    table: &[u64; 512],
-    i: usize,
-    j: usize,
-) -> f64
-    requires { (2 * i + 1 < length coords.now) × (2 * j + 1 < length coords.now) × (table.now ≡ fraction_table) }
-    ensures { result ≡ between options coords.now i j }
+fn gamma(taken: &Taken<'_>, i: usize, j: usize) -> f64
+    requires { let s = survey_lent taken.now.survey.now in (i < wells s) × (j < wells s) }
+    ensures { let s = survey_lent taken.now.survey.now in result ≡ between s.options s.coords i j }
 {
+    let options = taken.survey.options;
     if i == j {
         return 0.0 + options.regularization;
     }
-    let h = variogram::distance_2d(
-        coords[2 * i],
-        coords[2 * i + 1],
-        coords[2 * j],
-        coords[2 * j + 1],
-    );
-    options.variogram.evaluate_by(table, h)
+    let a = taken.well(i);
+    let b = taken.well(j);
+    let h = variogram::distance_2d(a.x, a.y, b.x, b.y);
+    options.variogram.evaluate_with(taken.table, h)
 }
 
-// The entry in row i and column j of the matrix, on the diagonal or past it, where F lies row after row in `drift`.
-fn matrix_entry(
-    coords: &[f64],
-    options: UniversalKrigingOptions,
-    table: &[u64; 512],
-    drift: &[f64],
-    n: usize,
-    p: usize,
-    i: usize,
-    j: usize,
-) -> f64
-    requires { (i ≤ j) × (j < n + p) × (2 * n ≤ length coords.now) × (n * p ≤ length drift.now) × (table.now ≡ fraction_table) }
-    ensures { result ≡ joined n (between options coords.now) (λ i j. get_or drift.now (i * p + j) nan) i j }
+// The entry in row i and column j of the matrix, on the diagonal or past it.
+fn matrix_entry(drift: &WellDrift<'_>, i: usize, j: usize) -> f64
+    requires { (i ≤ j) × (j < size (survey_lent drift.now.taken.now.survey.now)) }
+    ensures { result ≡ entry (survey_lent drift.now.taken.now.survey.now) i j }
 {
+    let taken = drift.taken;
+    let n = taken.survey.wells();
     if j < n {
-        return gamma(coords, options, table, i, j);
+        return gamma(taken, i, j);
     }
     if i < n {
-        return drift[i * p + (j - n)];
+        return drift.entries[i * taken.p + (j - n)];
     }
     0.0
 }
 
 // Row i of the matrix, from the diagonal on.
-fn fill_from_diagonal(
-    coords: &[f64],
-    options: UniversalKrigingOptions,
-    table: &[u64; 512],
-    drift: &[f64],
-    n: usize,
-    p: usize,
-    i: usize,
-    work: &mut [f64],
-)
-    requires { (i < n + p) × (2 * n ≤ length coords.now) × (n * p ≤ length drift.now) × (i * (2 * (n + p)) + 2 * (n + p) ≤ length work.old)
-        × (table.now ≡ fraction_table) }
-    ensures { work.new ≡ written (i * (2 * (n + p)) + i) (n + p - i)
-        (λ c. joined n (between options coords.now) (λ i j. get_or drift.now (i * p + j) nan) i (i + c))
-        work.old }
+fn fill_from_diagonal(drift: &WellDrift<'_>, i: usize, work: &mut [f64])
+    requires { let s = survey_lent drift.now.taken.now.survey.now in
+        (i < size s) × (i * (2 * size s) + 2 * size s ≤ length work.old) }
+    ensures { let s = survey_lent drift.now.taken.now.survey.now in
+        work.new ≡ written (i * (2 * size s) + i) (size s - i) (λ c. entry s i (i + c)) work.old }
 {
-    let size = n + p;
+    let size = drift.taken.size();
     let row = i * (2 * size);
     for j in i..size {
-        work[row + j] = matrix_entry(coords, options, table, drift, n, p, i, j);
+        work[row + j] = matrix_entry(drift, i, j);
     }
 }
 
 // The matrix beside the identity. It is its own transpose, to the bit: each row is filled from the diagonal on, and what lies before it is copied, so that no
 // variogram is evaluated twice.
-pub(crate) fn assemble(
-    coords: &[f64],
-    options: UniversalKrigingOptions,
-    table: &[u64; 512],
-    drift: &[f64],
-    n: usize,
-    p: usize,
-    work: &mut [f64],
-)
-    requires { (2 * n ≤ length coords.now) × (n * p ≤ length drift.now) × (2 * (n + p) * (n + p) ≤ length work.old) × (table.now ≡ fraction_table) }
-    ensures { work.new ≡ laid (n + p)
-        (joined n (between options coords.now) (λ i j. get_or drift.now (i * p + j) nan))
-        work.old }
+pub(crate) fn assemble(drift: &WellDrift<'_>, work: &mut [f64])
+    requires { let s = survey_lent drift.now.taken.now.survey.now in 2 * size s * size s ≤ length work.old }
+    ensures { work.new ≡ assembled (survey_lent drift.now.taken.now.survey.now) work.old }
 {
-    let size = n + p;
+    let size = drift.taken.size();
     for i in 0..size {
-        fill_from_diagonal(coords, options, table, drift, n, p, i, work);
+        fill_from_diagonal(drift, i, work);
     }
     complete(work, size);
 }

@@ -1,167 +1,121 @@
 // One node: its right-hand side, z, figure, variance and verdict.
-ghost use Rattle.std.specs.Prelude.{◌≡◌, List, ◌+◌, ◌*◌, ◌≤◌, ◌<◌, length, get_or, take, drop, Float};
-ghost use Rattle.std.specs.Float.{nan};
+ghost use Rattle.std.specs.Prelude.{◌≡◌, ◌+◌, ◌*◌, ◌≤◌, ◌<◌, length, take, drop};
 ghost use Rattle.area.specs.Area.{written};
-ghost use Rattle.exponential.specs.Exponential.{fraction_table};
-ghost use Rattle.audit.specs.Audit.{drift_finite, column_verdict_given};
-ghost use Rattle.audit.specs.Lists.{entry_in, weighed_in};
+ghost use Rattle.audit.specs.Audit.{column_verdict_given, number_of};
+ghost use Rattle.audit.specs.Lists.{weighed_in};
 ghost use Rattle.survey.specs.Limits.{most_size};
-ghost use Rattle.survey.specs.Survey.{survey_of, column_sum, external_count, size, x_of, y_of};
-ghost use Rattle.kriging_theory.specs.Drift.{drift_row, DriftIn};
-ghost use Rattle.kriging_theory.specs.Node.{gamma_to, right_hand_of, z_of, variance_of, node_of};
+ghost use Rattle.survey.specs.Lent.{survey_lent};
+ghost use Rattle.survey.specs.Survey.{wells, node_count, size};
+ghost use Rattle.kriging_theory.specs.Node.{gamma_to, right_hand, z_of, variance_of, node_of};
 
-use survey::{MOST_SIZE, UniversalKrigingOptions};
-use variogram::Variogram;
+use crate::call::{Place, Taken, WellDrift};
+use crate::drift::fill_query_drift_row;
+use audit::Finding;
+use survey::MOST_SIZE;
 
 // The variogram from a place to each of the n wells.
-fn fill_gamma(
-    coords: &[f64],
-    variogram: Variogram,
-    table: &[u64; 512],
-    x: f64,
-    y: f64,
-    n: usize,
-    b: &mut [f64],
-)
-    requires { (2 * n ≤ length coords.now) × (n ≤ length b.old) × (table.now ≡ fraction_table) }
-    ensures { b.new ≡ written 0 n (gamma_to variogram coords.now x y) b.old }
+fn fill_gamma(taken: &Taken<'_>, at: Place, b: &mut [f64])
+    requires { wells (survey_lent taken.now.survey.now) ≤ length b.old }
+    ensures { let s = survey_lent taken.now.survey.now in
+        b.new ≡ written 0 (wells s) (gamma_to s.options.variogram s.coords at.x at.y) b.old }
 {
-    for i in 0..n {
-        let h = variogram::distance_2d(coords[2 * i], coords[2 * i + 1], x, y);
-        b[i] = variogram.evaluate_by(table, h);
+    let variogram = taken.survey.options.variogram;
+    // kept: by the well's number, which its place is asked for by: pairs of an iterator say no more
+    for i in 0..taken.survey.wells() {
+        let well = taken.well(i);
+        let h = variogram::distance_2d(well.x, well.y, at.x, at.y);
+        b[i] = variogram.evaluate_with(taken.table, h);
     }
 }
 
 // b of node q: the variogram to each of the n wells, then f0.
-fn fill_right_hand(
-    coords: &[f64],
-    bases: &[u8],
-    variogram: Variogram,
-    table: &[u64; 512],
-    nodes: &[f64],
-    node_external: &[f64],
-    n: usize,
-    k: usize,
-    q: usize,
-    b: &mut [f64],
-)
-    requires { (2 * n ≤ length coords.now) × (2 * q + 1 < length nodes.now) × (external_count bases.now ≡ k)
-        × (q * k + k ≤ length node_external.now) × (n + column_sum bases.now ≤ length b.old) × (table.now ≡ fraction_table) }
-    ensures { take (n + column_sum bases.now) b.new
-        ≡ right_hand_of n (gamma_to variogram coords.now (x_of nodes.now q) (y_of nodes.now q))
-        (drift_row bases.now (x_of nodes.now q) (y_of nodes.now q)
-        (λ c. get_or node_external.now (q * k + c) nan) 0) }
+fn fill_right_hand(taken: &Taken<'_>, q: usize, b: &mut [f64])
+    requires { let s = survey_lent taken.now.survey.now in (q < node_count s) × (size s ≤ length b.old) }
+    ensures { let s = survey_lent taken.now.survey.now in take (size s) b.new ≡ right_hand s q }
 {
-    let x = nodes[2 * q];
-    let y = nodes[2 * q + 1];
-    fill_gamma(coords, variogram, table, x, y, n, b);
-    crate::drift::fill_query_drift_row(bases, node_external, k, q, x, y, b, n);
+    fill_gamma(taken, taken.node(q), b);
+    fill_query_drift_row(taken, q, &mut b[taken.survey.wells()..]);
 }
 
-// A node without the values: z, its variance, and the verdict of rows 1 to p.
+// A node without the values: z, its variance, and what rows 1 to p find.
 #[derive(Clone, Copy)]
 struct Solution {
+    // kept: a fixed area, of which n + p places count, since there is no heap
     z: [f64; MOST_SIZE],
     variance: f64,
-    drift_verdict: usize,
+    columns: Finding,
 }
 
-fn solve_node(
-    work: &[f64],
-    b: &[f64],
-    drift: &[f64],
-    finite_drift: bool,
-    n: usize,
-    tolerance: f64,
-) -> Solution
-    requires { (n ≤ length b.now) × (length b.now ≤ most_size) × (2 * length b.now * length b.now ≤ length work.now) }
+fn solve_node(drift: &WellDrift<'_>, work: &[f64], b: &[f64]) -> Solution
+    requires { (wells (survey_lent drift.now.taken.now.survey.now) ≤ length b.now) × (length b.now ≤ most_size)
+        × (2 * length b.now * length b.now ≤ length work.now) }
     ensures places { length result.z ≡ most_size }
     ensures z { take (length b.now) result.z ≡ z_of (length b.now) work.now b.now }
     ensures variance { result.variance ≡ variance_of (length b.now) result.z b.now }
-    ensures drift { result.drift_verdict ≡ column_verdict_given finite_drift
-        (weighed_in (take n result.z) drift.now (drop n b.now) tolerance) }
+    ensures columns { let s = survey_lent drift.now.taken.now.survey.now in
+        number_of result.columns ≡ column_verdict_given drift.now.finite
+        (weighed_in (take (wells s) result.z) drift.now.entries.now (drop (wells s) b.now) s.tolerance) }
 {
-    let size = b.len();
+    let survey = drift.taken.survey;
+    let n = survey.wells();
     let mut z = [0.0; MOST_SIZE];
-    solution::fill_z(work, size, b, &mut z);
-    let variance = ieee::max(solution::weighted_sum(&z, b, size), 0.0);
-    let drift_verdict = audit::audit_columns(&z[..n], drift, finite_drift, &b[n..], tolerance);
+    solution::fill_z(work, b.len(), b, &mut z);
+    let variance = ieee::max(solution::weighted_sum(&z, b, b.len()), 0.0);
+    let columns = audit::audit_columns(
+        &z[..n],
+        drift.entries,
+        drift.finite,
+        &b[n..],
+        survey.tolerance,
+    );
     Solution {
-        z: z,
-        variance: variance,
-        drift_verdict: drift_verdict,
+        z,
+        variance,
+        columns,
     }
 }
 
-// What a node gets: z with its weights, its figure, its variance and its verdict.
+// What a node gets: z with its weights, its figure, its variance and what its audit finds.
 #[derive(Clone, Copy)]
-pub struct Node {
+pub(crate) struct Node {
     pub z: [f64; MOST_SIZE],
     pub figure: f64,
     pub variance: f64,
-    pub verdict: usize,
+    pub finding: Finding,
 }
 
 // Node q, from the finished elimination: first what does not depend on the values, then what does.
-pub(crate) fn krige_node(
-    values: &[f64],
-    coords: &[f64],
-    bases: &[u8],
-    options: UniversalKrigingOptions,
-    table: &[u64; 512],
-    nodes: &[f64],
-    node_external: &[f64],
-    tolerance: f64,
-    drift: &[f64],
-    finite_drift: bool,
-    p: usize,
-    k: usize,
-    q: usize,
-    work: &[f64],
-) -> Node
-    requires { (2 * length values.now ≤ length coords.now) × (column_sum bases.now ≡ p) × (external_count bases.now ≡ k)
-        × (length values.now + p ≤ most_size) × (2 * q + 1 < length nodes.now) × (q * k + k ≤ length node_external.now)
-        × (2 * (length values.now + p) * (length values.now + p) ≤ length work.now)
-        × (finite_drift ≡ drift_finite (length values.now) p (entry_in drift.now p)) × (table.now ≡ fraction_table) }
+pub(crate) fn krige_node(drift: &WellDrift<'_>, work: &[f64], q: usize) -> Node
+    requires { let s = survey_lent drift.now.taken.now.survey.now in
+        (q < node_count s) × (2 * size s * size s ≤ length work.now) }
     ensures places { length result.z ≡ most_size }
-    ensures byte { result.verdict < 256 }
-    ensures node { (external : List Float)
-        → let s = survey_of values.now coords.now bases.now external
-        options nodes.now node_external.now tolerance in
-        let node = node_of s work.now q in
-        DriftIn s drift.now
-        → (take (size s) result.z ≡ node.z) × (result.figure ≡ node.figure) × (result.variance ≡ node.variance) × (result.verdict ≡ node.verdict) }
+    ensures byte { number_of result.finding < 256 }
+    ensures z { let s = survey_lent drift.now.taken.now.survey.now in take (size s) result.z ≡ (node_of s work.now q).z }
+    ensures figure { result.figure ≡ (node_of (survey_lent drift.now.taken.now.survey.now) work.now q).figure }
+    ensures variance { result.variance ≡ (node_of (survey_lent drift.now.taken.now.survey.now) work.now q).variance }
+    ensures verdict { number_of result.finding ≡ (node_of (survey_lent drift.now.taken.now.survey.now) work.now q).verdict }
 {
-    let n = values.len();
-    let size = n + p;
+    let taken = drift.taken;
+    let survey = taken.survey;
+    let n = survey.wells();
     let mut b = [0.0; MOST_SIZE];
-    fill_right_hand(
-        coords,
-        bases,
-        options.variogram,
-        table,
-        nodes,
-        node_external,
-        n,
-        k,
-        q,
-        &mut b,
-    );
-    let solution = solve_node(work, &b[..size], drift, finite_drift, n, tolerance);
+    fill_right_hand(taken, q, &mut b);
+    let b = &b[..taken.size()];
+    let solution = solve_node(drift, work, b);
     let z = solution.z;
-    let figure = solution::weighted_sum(&z, values, n);
-    let verdict = audit::audit_figure(
-        solution.drift_verdict,
+    let figure = solution::weighted_sum(&z, survey.values, n);
+    let finding = audit::audit_figure(
+        solution.columns,
         &z[..n],
-        &b[n..size],
-        values,
+        &b[n..],
+        survey.values,
         figure,
-        tolerance,
+        survey.tolerance,
     );
     Node {
-        z: z,
-        figure: figure,
+        z,
+        figure,
         variance: solution.variance,
-        verdict: verdict,
+        finding,
     }
 }

@@ -1,14 +1,17 @@
 // What turns a fit away before it eliminates: the survey's refusals, 1 to 11, 22 and 12, then the work area's, 17, and the answer
 // areas', 18.
-ghost use Rattle.std.specs.Prelude.{◌≡◌, [], ◌∷◌, ◌*◌, ltb};
+ghost use Rattle.std.specs.Prelude.{◌≡◌, ◌*◌, ltb};
 ghost use Rattle.error.specs.Numbers.{judged};
-ghost use Rattle.error.specs.Short.{area, too_short};
-ghost use Rattle.survey.specs.Survey.{survey_of};
-ghost use Rattle.kriging_theory.specs.Areas.{areas_of};
+ghost use Rattle.error.specs.Short.{too_short};
+ghost use Rattle.survey.specs.Lent.{survey_lent};
+ghost use Rattle.survey.specs.Survey.{columns};
+ghost use Rattle.kriging_theory.specs.Areas.{answer_areas};
 ghost use Rattle.kriging_theory.specs.Refusals.{refusal};
+ghost use Rattle.kriging.specs.Lent.{areas_lent};
 
-use error::{Judgement, Refusal};
-use survey::{Limits, UniversalKrigingOptions};
+use crate::Areas;
+use error::Refusal;
+use survey::{Limits, Survey};
 
 // Whether `len` numbers are fewer than n * m, which need not fit a word: by division.
 fn below_product(len: usize, n: usize, m: usize) -> bool
@@ -20,96 +23,37 @@ fn below_product(len: usize, n: usize, m: usize) -> bool
     len / n < m
 }
 
-// 18: whether an answer area of these lengths is too short for n wells, p columns and m nodes.
-fn short_answer(
-    n: usize,
-    p: usize,
-    m: usize,
-    predicted: usize,
-    variance: usize,
-    verdicts: usize,
-    weights: usize,
-    multipliers: usize,
-    trend: usize,
-) -> bool
-    ensures { result ≡ too_short (area predicted m ∷ area variance m ∷ area verdicts m ∷ area weights (n * m)
-        ∷ area multipliers p ∷ area trend p ∷ []) }
+// 18: whether an answer area is too short for a survey of p columns.
+fn short_answer(survey: &Survey<'_>, p: usize, areas: &Areas<'_>) -> bool
+    ensures { columns (survey_lent survey.now) ≡ p
+        → result ≡ too_short (answer_areas (survey_lent survey.now) (areas_lent areas.now)) }
 {
-    if predicted < m {
-        return true;
-    }
-    if variance < m {
-        return true;
-    }
-    if verdicts < m {
-        return true;
-    }
-    if below_product(weights, n, m) {
-        return true;
-    }
-    if multipliers < p {
-        return true;
-    }
-    trend < p
+    let n = survey.wells();
+    let m = survey.node_count();
+    areas.predicted.len() < m
+        || areas.variance.len() < m
+        || areas.verdicts.len() < m
+        || below_product(areas.weights.len(), n, m)
+        || areas.multipliers.len() < p
+        || areas.trend.len() < p
 }
 
 // 1 to 11, 22, 12, 17 and 18: the first that applies. Past 7 there are no more columns than wells, so that their count is p itself.
+#[tactic(auto, using(crate::proofs::Refusing::by_survey))]
 pub(crate) fn fit_refusal(
     limits: Limits,
-    values: &[f64],
-    coords: &[f64],
-    bases: &[u8],
-    external: &[f64],
-    options: UniversalKrigingOptions,
-    nodes: &[f64],
-    node_external: &[f64],
-    tolerance: f64,
-    work: &[f64],
-    predicted: &[f64],
-    variance: &[f64],
-    verdicts: &[u8],
-    weights: &[f64],
-    multipliers: &[f64],
-    trend: &[f64],
-) -> Judgement
-    ensures { judged result ≡ refusal limits
-        (survey_of values.now coords.now bases.now external.now
-        options nodes.now node_external.now tolerance)
-        (areas_of work.now predicted.now variance.now verdicts.now
-        weights.now multipliers.now trend.now) }
+    survey: &Survey<'_>,
+    areas: &Areas<'_>,
+) -> Result<(), Refusal>
+    ensures { judged result ≡ refusal limits (survey_lent survey.now) (areas_lent areas.now) }
 {
-    let survey = survey_checks::refusals::survey_refusal(
-        limits,
-        values,
-        coords,
-        bases,
-        external,
-        options,
-        nodes,
-        node_external,
-        tolerance,
-    );
-    if let Judgement::Refused(_) = survey {
-        return survey;
+    survey_checks::refusals::survey_refusal(limits, survey)?;
+    let p = survey_checks::counts::drift_columns(survey.bases);
+    if elimination::too_short(areas.work.len(), survey.wells() + p) {
+        return Err(Refusal::WorkArea);
     }
-    let n = values.len();
-    let p = survey_checks::counts::drift_columns(bases);
-    let m = nodes.len() / 2;
-    if elimination::too_short(work.len(), n + p) {
-        return Judgement::Refused(Refusal::WorkArea);
+    if short_answer(survey, p, areas) {
+        return Err(Refusal::AnswerArea);
     }
-    if short_answer(
-        n,
-        p,
-        m,
-        predicted.len(),
-        variance.len(),
-        verdicts.len(),
-        weights.len(),
-        multipliers.len(),
-        trend.len(),
-    ) {
-        return Judgement::Refused(Refusal::AnswerArea);
-    }
-    Judgement::Accepted
+    Ok(())
 }

@@ -1,25 +1,21 @@
--- `kriging::answer::krige_nodes` meets its contract: after q turns the areas are what q nodes leave.
-use Prim.Native.Nat.{◌≤◌, ◌/◌, ◌+◌}
-use mathlib.Core.Path.{◌≡◌}
-use mathlib.Core.List.{List}
-use lib.ListN.{length}
-use lib.Ieee.{Float}
-use Rattle.audit.specs.Audit.{drift_finite}
-use Rattle.audit.specs.Lists.{entry_in}
-use Rattle.survey.specs.Survey.{survey_of, external_count}
-use Rattle.kriging_theory.specs.Areas.{areas_of}
-use Rattle.kriging_theory.specs.Drift.{DriftIn}
+-- `kriging::answer::krige_nodes` meets its contract: after q turns the areas are what the trend and q nodes leave.
+use Rattle.std.proofs.Common.{◌≡◌, length}
+use Rattle.survey.specs.Lent.{survey_lent}
 use Rattle.kriging_theory.specs.Node.{node_of}
+use Rattle.kriging.specs.Lent.{areas_lent, StillLent}
 use Rattle.kriging.proofs.Progress.{Progress}
 use Rattle.kriging.proofs.answer.krige_nodes.Given as goal
 
 abbrev pub invariant-loop-q : goal.invariant-loop-q
 invariant-loop-q l =
-    (l.q ≤ l.q-end) × (l.q-end ≡ length l.nodes / 2) × (l.n ≡ length l.values) × (l.size ≡ l.n + l.p) × (l.k ≡ external_count l.bases)
-    × (l.finite_drift ≡ drift_finite l.n l.p (entry_in l.drift l.p))
-    × (length l.predicted ≡ length l.initial.predicted) × (length l.variance ≡ length l.initial.variance) × (length l.verdicts ≡ length l.initial.verdicts)
-    × (length l.weights ≡ length l.initial.weights) × (length l.multipliers ≡ length l.initial.multipliers)
-    × ((external trend : List Float) → let s = survey_of l.values l.coords l.bases external l.options l.nodes l.node_external l.tolerance in
-    DriftIn s l.drift
-    → Progress s (areas_of l.work l.initial.predicted l.initial.variance l.initial.verdicts l.initial.weights l.initial.multipliers trend) (node_of s l.work) l.q
-    (areas_of l.work l.predicted l.variance l.verdicts l.weights l.multipliers trend))
+    let s = survey_lent l.drift.taken.now.survey.now in
+    record {
+      lent : StillLent l.initial.areas l.areas;
+      work : length l.areas.work.now ≡ length l.initial.areas.work.now;
+      predicted : length l.areas.predicted.now ≡ length l.initial.areas.predicted.now;
+      variance : length l.areas.variance.now ≡ length l.initial.areas.variance.now;
+      verdicts : length l.areas.verdicts.now ≡ length l.initial.areas.verdicts.now;
+      weights : length l.areas.weights.now ≡ length l.initial.areas.weights.now;
+      multipliers : length l.areas.multipliers.now ≡ length l.initial.areas.multipliers.now;
+      progress : Progress s (areas_lent l.fn.areas) (node_of s l.fn.areas.work.now) l.q (areas_lent l.areas);
+    }

@@ -1,28 +1,23 @@
 -- `kriging::assembly::assemble` meets its contract: after i turns the area holds the first i rows from the diagonal on.
-use Prim.Native.Nat.{ℕ, ◌+◌}
-use native.Mathlib.Omega.{arith}
-use mathlib.Core.Path.{◌≡◌, ap, ◌∙◌}
+use Rattle.std.proofs.Common.{◌≡◌, ap, ap₂, ◌∙◌, arith, ℕ}
 use Rattle.elimination.specs.Rows.{completed}
 use Rattle.elimination.proofs.Rows.{row_inside}
 use Rattle.elimination.proofs.Upper.{upper, completed_upper}
-use Rattle.kriging.proofs.MatrixEntries.{matrix, matrix_back}
+use Rattle.survey.specs.Lent.{survey_lent}
+use Rattle.survey.specs.Survey.{size}
+use Rattle.kriging_theory.specs.Assembly.{entry}
+use Rattle.kriging.proofs.Entries.{entry_back}
 use Rattle.kriging.proofs.assembly.assemble.Goals as goal
 
--- fill_from_diagonal(coords, options, table, drift, n, p, i, work);
 pub fill_from_diagonal-requires : goal.fill_from_diagonal-requires
 fill_from_diagonal-requires c =
-    let l = c.loop-i in
-    let a = c.args in
-    let p = c.requires in
-    (omega arith, p.0, p.1, row_inside (a.n + a.p) l.i _ (omega arith) (omega (arith, p.2, l.invariant.2)), p.3)
+    let s = survey_lent c.args.drift.now.taken.now.survey.now in
+    (omega arith, row_inside (size s) c.loop-i.i _ (omega arith) (omega (arith, c.requires, c.loop-i.invariant.long)))
 
 pub returns : goal.returns
 returns c =
-    let l = c.loop-i in
-    let a = c.args in
-    let s = a.n + a.p in
-    let m = matrix a.coords.now a.options a.drift.now a.n a.p in
-    let all : l.i ≡ s = omega arith in
+    let s = survey_lent c.args.drift.now.taken.now.survey.now in
+    let all : c.loop-i.i ≡ size s = omega arith in
     c.complete.ensures
-    ∙ ap (completed s) (l.invariant.3 ∙ ap (λ (k : ℕ). upper s m k a.work.now) all)
-    ∙ completed_upper s m a.work.now c.requires.2 (matrix_back a.coords.now a.options a.drift.now a.n a.p)
+    ∙ ap₂ completed c.size-size.ensures (c.loop-i.invariant.filled ∙ ap (λ (k : ℕ). upper (size s) (entry s) k c.args.work.now) all)
+    ∙ completed_upper (size s) (entry s) c.args.work.now c.requires (λ i j. entry_back s i j)

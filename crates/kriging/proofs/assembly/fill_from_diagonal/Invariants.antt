@@ -1,15 +1,16 @@
 -- `kriging::assembly::fill_from_diagonal` meets its contract: at column j the area is what the stores from the diagonal on wrote.
-use Prim.Native.Nat.{◌+◌, ◌*◌, ◌-◌, ◌≤◌}
-use mathlib.Core.Path.{◌≡◌}
-use lib.ListN.{length}
+use Rattle.std.proofs.Common.{◌≡◌, ◌+◌, ◌-◌, ◌*◌, ◌≤◌, length}
 use Rattle.area.specs.Area.{written}
-use Rattle.kriging.proofs.MatrixEntries.{matrix}
+use Rattle.survey.specs.Lent.{survey_lent}
+use Rattle.survey.specs.Survey.{size}
+use Rattle.kriging_theory.specs.Assembly.{entry}
 use Rattle.kriging.proofs.assembly.fill_from_diagonal.Given as goal
 
 abbrev pub invariant-loop-j : goal.invariant-loop-j
 invariant-loop-j l =
-    (l.i ≤ l.j) × (l.j ≤ l.size) × (l.size ≡ l.n + l.p) × (l.row ≡ l.i * (2 * (l.n + l.p))) × (length l.work ≡ length l.initial.work)
-    × (l.work ≡ written (l.i * (2 * (l.n + l.p)) + l.i) (l.j - l.i) (λ c. matrix l.coords l.options l.drift l.n l.p l.i (l.i + c)) l.initial.work)
-
-abbrev pub decreases-loop-j : goal.decreases-loop-j
-decreases-loop-j l = l.size - l.j
+    let s = survey_lent l.drift.taken.now.survey.now in
+    record {
+      from : l.i ≤ l.j;
+      long : length l.work ≡ length l.initial.work;
+      filled : l.work ≡ written (l.i * (2 * size s) + l.i) (l.j - l.i) (λ c. entry s l.i (l.i + c)) l.initial.work;
+    }

@@ -1,28 +1,25 @@
 -- `kriging::assembly::matrix_entry` meets its contract: by the part of the matrix that the entry stands in.
-use Prim.Native.Nat.{ℕ, ◌+◌, ◌*◌}
-use native.Mathlib.Omega.{arith}
-use mathlib.Core.Path.{◌∙◌}
-use lib.Ieee.{Float, nan}
-use lib.ListN.{get_or}
-use Rattle.kriging_theory.specs.Assembly.{between}
-use Rattle.kriging.proofs.MatrixEntries.{upper_left, upper_right, lower_right}
+use Rattle.std.proofs.Common.{◌∙◌, sym, ap, ℕ, ◌+◌, ◌-◌, ◌*◌, arith, get_or}
+use lib.Ieee.{nan}
+use Rattle.survey.specs.Lent.{survey_lent}
+use Rattle.survey.specs.Survey.{wells}
+use Rattle.kriging.proofs.Entries.{between_wells, drift_entry, zero_entry}
 use Rattle.kriging.proofs.assembly.matrix_entry.Goals as goal
 
 pub returns-then-j-n : goal.returns-then-j-n
 returns-then-j-n c =
-    let gamma-of : ℕ → ℕ → Float = between c.args.options c.args.coords.now in
-    let drift-of : ℕ → ℕ → Float = λ i j. get_or c.args.drift.now (i * c.args.p + j) nan in
-    c.gamma.ensures ∙ upper_left c.args.n gamma-of drift-of c.args.i c.args.j (omega arith) c.if-j-n.true
+    c.gamma.ensures ∙ between_wells (survey_lent c.args.drift.now.taken.now.survey.now) c.args.i c.args.j (omega arith) (omega arith)
 
 pub returns-then-i-n : goal.returns-then-i-n
 returns-then-i-n c =
-    let gamma-of : ℕ → ℕ → Float = between c.args.options c.args.coords.now in
-    let drift-of : ℕ → ℕ → Float = λ i j. get_or c.args.drift.now (i * c.args.p + j) nan in
-    upper_right c.args.n gamma-of drift-of c.args.i c.args.j c.if-i-n.true c.if-j-n.false
+    let d = c.args.drift.now in
+    let s = survey_lent d.taken.now.survey.now in
+    let i = c.args.i in
+    let j = c.args.j in
+    ap (λ (n : ℕ). get_or d.entries.now (i * d.taken.now.p + (j - n)) nan) c.wells-n.ensures
+    ∙ ap (λ (p : ℕ). get_or d.entries.now (i * p + (j - wells s)) nan) (sym d.taken.now.columns)
+    ∙ d.laid i (j - wells s) (omega arith) (omega arith)
+    ∙ drift_entry s i j (omega arith) (omega arith)
 
--- 0.0
 pub returns : goal.returns
-returns c =
-    let gamma-of : ℕ → ℕ → Float = between c.args.options c.args.coords.now in
-    let drift-of : ℕ → ℕ → Float = λ i j. get_or c.args.drift.now (i * c.args.p + j) nan in
-    lower_right c.args.n gamma-of drift-of c.args.i c.args.j c.if-i-n.false c.if-j-n.false
+returns c = zero_entry (survey_lent c.args.drift.now.taken.now.survey.now) c.args.i c.args.j (omega arith) (omega arith)

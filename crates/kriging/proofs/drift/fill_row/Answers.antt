@@ -1,55 +1,40 @@
--- `kriging::drift::fill_row` meets its contract. The invariant: to store the columns of the codes from place i on, into the row in hand, makes what storing the
--- columns of all codes makes of the row that came. The measure is the codes left.
-use Prim.Native.Nat.{ℕ, ◌+◌, ◌<◌}
-use native.Mathlib.Nat.{add-zero}
-use native.Mathlib.Omega.{arith}
-use mathlib.Core.Path.{◌≡◌, refl, ap, ap₂, sym, ◌∙◌}
-use mathlib.Core.Bool.{cond}
-use borrow.Author.Tests.{eq-eqb, ne_eqb}
-use lib.Dec.{eqb}
-use lib.Ieee.{nan}
-use lib.ListN.{length, get_or, drop}
-use Rattle.kriging.proofs.DriftRows.{coded, length-coded, coded_any, coded_external}
+-- `kriging::drift::fill_row` meets its contract: one code's columns more are stored where the next ones of the row belong.
+use Rattle.std.proofs.Common.{arith, ◌≡◌, ℕ, ◌+◌, ◌-◌, length, get_or, drop, sym, ap, ap₂, ◌∙◌, List}
+use borrow.Rule.Slice.PartMut.{put_mid}
+use lib.Ieee.{Float, nan}
+use Rattle.survey.specs.Survey.{code_columns}
 use Rattle.survey.proofs.Codes.{externals_at_most}
-use Rattle.kriging.proofs.DriftRows.{rowed, columns_from, externals_from, rowed_from}
-use Rattle.kriging.proofs.drift.fill_row.Invariants.{values}
-use Rattle.kriging.proofs.drift.fill_row.Goals.{then-code-eq4, else-code-eq4}
+use Rattle.elimination.proofs.Sections.{part_written}
+use Rattle.kriging_theory.specs.Drift.{block}
+use Rattle.kriging.proofs.DriftRows.{values, rowed, coded, length-coded, columns_from, externals_from, rowed_from}
 use Rattle.kriging.proofs.drift.fill_row.Goals as goal
 
--- external_used += 1;
-pub overflow_add-external_used : goal.overflow_add-external_used
-overflow_add-external_used c =
-    omega (arith, externals_at_most c.args.bases.now)
+pub overflow_add-used : goal.overflow_add-used
+overflow_add-used c =
+    let bases = c.args.bases.now in
+    omega (arith, externals_at_most bases, c.fill_code-used.ensures.taken, externals_from bases c.loop-code.code-index c.loop-code-test.true)
 
-pub loop-i-preserved : goal.loop-i-preserved
-loop-i-preserved c =
-    let l = c.loop-i in
+pub loop-code-preserved : goal.loop-code-preserved
+loop-code-preserved c =
     let a = c.args in
-    let cs = a.bases.now in
-    let k : ℕ = get_or cs l.i 0 in
-    let e = values a.external.now a.first a.step in
-    let stored : c.if-code-eq4.row ≡ coded k a.x a.y (e l.external_used) l.col l.row =
-    elim c.if-code-eq4.branch [
-      | then-code-eq4 w ↦
-          w.row-is
-          ∙ coded_external a.x a.y (e l.external_used) l.col l.row
-          ∙ ap (λ (k : ℕ). coded k a.x a.y (e l.external_used) l.col l.row) (sym w.if-code-eq4.true)
-      | else-code-eq4 w ↦ w.row-is ∙ w.fill_powers.ensures ∙ coded_any k a.x a.y nan (e l.external_used) l.col l.row w.if-code-eq4.false
-    ] in
-    let counted : c.if-code-eq4.external_used ≡ l.external_used + cond (eqb k 4) 1 0 =
-    elim c.if-code-eq4.branch [
-      | then-code-eq4 w ↦ w.external_used-is ∙ rw (eq-eqb k 4 w.if-code-eq4.true)
-      | else-code-eq4 w ↦ w.external_used-is ∙ rw (ne_eqb k 4 w.if-code-eq4.false, add-zero)
-    ] in
-    let n = c.drift_basis_columns-col.ensures in
-    let t : l.i < length cs = omega arith in
-    let turned = rowed_from cs l.i t a.x a.y e l.external_used l.col l.row c.if-code-eq4.row stored in
-    let p = columns_from cs l.i t in
-    let x = externals_from cs l.i t in (
-      omega arith,
-      refl,
-      ap length stored ∙ length-coded k a.x a.y (e l.external_used) l.col l.row ∙ l.invariant.2,
-      omega arith,
-      omega arith,
-      ap₂ (λ (v w : ℕ). rowed (drop (l.i + 1) cs) a.x a.y e v (l.col + w) c.if-code-eq4.row) counted n ∙ sym turned ∙ l.invariant.5,
-    )
+    let l = c.loop-code in
+    let codes = a.bases.now in
+    let code : ℕ = get_or codes l.code-index 0 in
+    let e = values a.external.now.values.now a.external.now.first a.external.now.step in
+    let t = c.loop-code-test.true in
+    let width = columns_from codes l.code-index t in
+    let row : List Float = put_mid l.col (length l.row - l.col) l.row c.fill_code-used.new.row in
+    let stored : row ≡ coded code a.at.x a.at.y (e l.used) l.col l.row =
+    part_written l.col (length l.row - l.col) (code_columns code) (λ j. get_or (block code a.at.x a.at.y (e l.used)) j nan) l.row _ (omega arith) (omega arith)
+    c.fill_code-used.ensures.row in
+    let turned = rowed_from codes l.code-index t a.at.x a.at.y e l.used l.col l.row row stored in
+    record {
+      long = ap length stored ∙ length-coded code a.at.x a.at.y (e l.used) l.col l.row ∙ l.invariant.long;
+      room = omega (arith, c.drift_basis_columns-col.ensures);
+      taken = omega (arith, c.fill_code-used.ensures.taken, externals_from codes l.code-index t);
+      rowed =
+          ap₂ (λ (v w : ℕ). rowed (drop (l.code-index + 1) codes) a.at.x a.at.y e (l.used + v) (l.col + w) row) c.fill_code-used.ensures.taken
+          c.drift_basis_columns-col.ensures
+          ∙ sym turned
+          ∙ l.invariant.rowed;
+    }

@@ -8,7 +8,8 @@ use lib.ListN.{length}
 use Rattle.error.specs.Rules.{NoneApplies, Condition}
 use Rattle.error.proofs.Tells.{stable, equal}
 use Rattle.error.proofs.Rules.{none_exactly, no_condition}
-use Rattle.error.proofs.Short.{area_at, long_at}
+use Rattle.error.specs.Short.{LongEnough}
+use Rattle.error.proofs.Short.{long_enough}
 use Rattle.survey.specs.Limits.{library}
 use Rattle.survey.specs.Survey.{Survey, wells, node_count, columns, externals, size, columns_held}
 use Rattle.survey.proofs.Codes.{held_exact}
@@ -59,24 +60,5 @@ module _ (s : Survey) (a : Areas) (taken : refusal library s a ≡ 0) where
   pub work_long : 2 * size s * size s ≤ length a.work
   work_long = at_least (none 17)
 
-  -- those of the answer, by their place in the list
-  answer_long : (i : ℕ) → (area_at (answer_areas s a) i).taken ≤ (area_at (answer_areas s a) i).places
-  answer_long = long_at (answer_areas s a) (none 18)
-
-  pub predicted_long : node_count s ≤ length a.predicted
-  predicted_long = answer_long 0
-
-  pub variance_long : node_count s ≤ length a.variance
-  variance_long = answer_long 1
-
-  pub verdicts_long : node_count s ≤ length a.verdicts
-  verdicts_long = answer_long 2
-
-  pub weights_long : wells s * node_count s ≤ length a.weights
-  weights_long = answer_long 3
-
-  pub multipliers_long : columns s ≤ length a.multipliers
-  multipliers_long = answer_long 4
-
-  pub trend_long : columns s ≤ length a.trend
-  trend_long = answer_long 5
+  pub answer_long : LongEnough (answer_areas s a)
+  answer_long = long_enough (answer_areas s a) (none 18)
