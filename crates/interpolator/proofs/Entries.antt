@@ -12,9 +12,7 @@ use Rattle.variogram.specs.Model.{semivariance}
 use Rattle.variogram.specs.Distance.{axis_from, distance}
 use Rattle.interpolator_theory.specs.declared.KrigingType.{KrigingType}
 use Rattle.interpolator_theory.specs.declared.KrigingType.TheVariants.{Ordinary, Universal}
-use Rattle.interpolator.specs.declared.KrigingInterpolator.{KrigingInterpolator}
 use Rattle.interpolator_theory.specs.Call.{Query, wells, added}
-use Rattle.interpolator.specs.Outcome.{query_of, known}
 use Rattle.interpolator_theory.specs.Assembly.{covariance, trend, trend_at, column, entry}
 
 -- ---- a term of the trend
@@ -70,13 +68,3 @@ module _ (q : Query) (i j : ℕ) where
   pub lower_right : wells q ≤ j → wells q ≤ i → zero_float ≡ entry q i j
   unfolding entry
   lower_right h k = rw (le-ltb j (wells q) h, le-ltb i (wells q) k)
-
--- ---- neither reads the targets
-module _ (interpolator : KrigingInterpolator) (values points targets : List Float) (d : ℕ) where
-  pub column_unread : (ys : List Float) (j : ℕ) → column (known interpolator values points d) ys j ≡ column (query_of interpolator values points targets d) ys j
-  unfolding column covariance trend_at
-  column_unread ys j = refl
-
-  pub entry_unread : entry (known interpolator values points d) ≡ entry (query_of interpolator values points targets d)
-  unfolding entry column covariance trend_at
-  entry_unread = refl

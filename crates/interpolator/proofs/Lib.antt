@@ -2,3 +2,4 @@ pub mod Sizes
 pub mod Entries
 pub mod Estimates
 pub mod Called
+pub mod Parts

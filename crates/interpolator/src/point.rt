@@ -4,15 +4,12 @@ ghost use Rattle.std.specs.Float.{nan, binary64};
 ghost use Rattle.std.specs.Float.Ieee.{mul};
 ghost use Rattle.area.specs.Area.{written};
 ghost use Rattle.ieee.specs.Sums.{less_each};
-ghost use Rattle.exponential.specs.Exponential.{fraction_table};
-ghost use Rattle.interpolator_theory.specs.declared.KrigingType.TheVariants.{Universal};
-ghost use Rattle.interpolator_theory.specs.Call.{areas_of, added};
-ghost use Rattle.interpolator.specs.Outcome.{most_size, query_of, known};
 ghost use Rattle.interpolator_theory.specs.Assembly.{column};
 ghost use Rattle.interpolator_theory.specs.Interpolation.{figure, variance, answered};
+ghost use Rattle.interpolator.specs.Lent.{most_size, query_lent, areas_lent, StillLent};
 
-use crate::KrigingInterpolator;
-use crate::assembly::column_entry;
+use crate::Areas;
+use crate::known::Known;
 use crate::trend::MOST_TERMS;
 use survey::MOST_WELLS;
 
@@ -20,24 +17,13 @@ use survey::MOST_WELLS;
 const MOST_SIZE: usize = MOST_WELLS + MOST_TERMS;
 
 // b of the target t.
-fn fill_right_side(
-    interpolator: KrigingInterpolator,
-    table: &[u64; 512],
-    values: &[f64],
-    points: &[f64],
-    targets: &[f64],
-    d: usize,
-    t: usize,
-    size: usize,
-    b: &mut [f64],
-)
-    requires { (size ≡ length values.now + added interpolator.kriging_type) × (interpolator.kriging_type ≡ Universal → 2 ≤ d)
-        × (t * d + d ≤ length targets.now) × (size ≤ length b.old) × (table.now ≡ fraction_table) }
-    ensures { b.new ≡ written 0 size
-        (column (known interpolator values.now points.now d) targets.now t) b.old }
+fn fill_right_side(known: &Known<'_>, t: usize, b: &mut [f64])
+    requires { (t * known.now.query.d + known.now.query.d ≤ length known.now.query.targets.now) × (known.now.size ≤ length b.old) }
+    ensures { b.new ≡ written 0 known.now.size
+        (column (query_lent known.now.interpolator known.now.query) known.now.query.targets.now t) b.old }
 {
-    for i in 0..size {
-        b[i] = column_entry(interpolator, table, values, points, d, targets, t, i);
+    for i in 0..known.size {
+        b[i] = known.column_entry(known.query.targets, t, i);
     }
 }
 
@@ -61,81 +47,37 @@ pub struct Estimate {
 }
 
 // The target t, from the finished elimination.
-fn interpolate_point(
-    interpolator: KrigingInterpolator,
-    table: &[u64; 512],
-    values: &[f64],
-    points: &[f64],
-    targets: &[f64],
-    d: usize,
-    t: usize,
-    size: usize,
-    work: &[f64],
-) -> Estimate
-    requires { (size ≡ length values.now + added interpolator.kriging_type) × (interpolator.kriging_type ≡ Universal → 2 ≤ d)
-        × (t * d + d ≤ length targets.now) × (size ≤ most_size) × (2 * size * size ≤ length work.now)
-        × (table.now ≡ fraction_table) }
-    ensures value { result.value
-        ≡ figure (query_of interpolator values.now points.now targets.now d) work.now t }
-    ensures variance { result.variance
-        ≡ variance (query_of interpolator values.now points.now targets.now d) work.now t }
+fn interpolate_point(known: &Known<'_>, t: usize, areas: &Areas<'_>) -> Estimate
+    requires { (t * known.now.query.d + known.now.query.d ≤ length known.now.query.targets.now) × (known.now.size ≤ most_size)
+        × (2 * known.now.size * known.now.size ≤ length areas.now.work.now) }
+    ensures value { result.value ≡ figure (query_lent known.now.interpolator known.now.query) areas.now.work.now t }
+    ensures variance { result.variance ≡ variance (query_lent known.now.interpolator known.now.query) areas.now.work.now t }
 {
+    let values = known.query.values;
     let mut b = [0.0; MOST_SIZE];
-    fill_right_side(
-        interpolator,
-        table,
-        values,
-        points,
-        targets,
-        d,
-        t,
-        size,
-        &mut b,
-    );
+    fill_right_side(known, t, &mut b);
     let mut z = [0.0; MOST_SIZE];
-    solution::fill_z(work, size, &b, &mut z);
+    solution::fill_z(areas.work, known.size, &b, &mut z);
     let value = solution::weighted_sum(&z, values, values.len());
-    let variance = ieee::max(sill_less(interpolator.variogram.sill, &z, &b, size), 0.0);
-    Estimate {
-        value: value,
-        variance: variance,
-    }
+    let variance = ieee::max(
+        sill_less(known.interpolator.variogram.sill, &z, &b, known.size),
+        0.0,
+    );
+    Estimate { value, variance }
 }
 
 // Every target.
-pub(crate) fn interpolate_points(
-    interpolator: KrigingInterpolator,
-    table: &[u64; 512],
-    values: &[f64],
-    points: &[f64],
-    targets: &[f64],
-    d: usize,
-    size: usize,
-    work: &[f64],
-    figures: &mut [f64],
-    variances: &mut [f64],
-)
-    requires { (size ≡ length values.now + added interpolator.kriging_type) × (interpolator.kriging_type ≡ Universal → 2 ≤ d)
-        × (1 ≤ d) × (size ≤ most_size) × (2 * size * size ≤ length work.now)
-        × (length targets.now / d ≤ length figures.old) × (length targets.now / d ≤ length variances.old)
-        × (table.now ≡ fraction_table) }
-    ensures { areas_of work.now figures.new variances.new
-        ≡ answered (query_of interpolator values.now points.now targets.now d)
-        (areas_of work.now figures.old variances.old) work.now }
+pub(crate) fn interpolate_points(known: &Known<'_>, areas: &mut Areas<'_>)
+    requires { (known.now.size ≤ most_size) × (2 * known.now.size * known.now.size ≤ length areas.old.work.now)
+        × (length known.now.query.targets.now / known.now.query.d ≤ length areas.old.figures.now)
+        × (length known.now.query.targets.now / known.now.query.d ≤ length areas.old.variances.now) }
+    ensures answered { areas_lent areas.new
+        ≡ answered (query_lent known.now.interpolator known.now.query) (areas_lent areas.old) areas.old.work.now }
+    ensures lent { StillLent areas.old areas.new }
 {
-    for t in 0..targets.len() / d {
-        let estimate = interpolate_point(
-            interpolator,
-            table,
-            values,
-            points,
-            targets,
-            d,
-            t,
-            size,
-            work,
-        );
-        figures[t] = estimate.value;
-        variances[t] = estimate.variance;
+    for t in 0..known.query.targets.len() / known.query.d {
+        let estimate = interpolate_point(known, t, areas);
+        areas.figures[t] = estimate.value;
+        areas.variances[t] = estimate.variance;
     }
 }

@@ -1,3 +1,4 @@
+pub mod Types
 pub mod Call
 pub mod Rules
 pub mod Refusals

@@ -1,132 +1,101 @@
 -- `interpolator::KrigingInterpolator::interpolate` meets its contract: what the calls behind it leave is what the paper's call leaves.
 use Prim.Native.Nat.{ℕ, ◌+◌, ◌*◌, ◌≤◌}
 use native.Mathlib.Omega.{arith}
-use mathlib.Core.Path.{◌≡◌, ap, sym, ◌∙◌, subst}
-use mathlib.Core.Bool.{false}
-use mathlib.Core.List.{List}
+use mathlib.Core.Path.{◌≡◌, refl, ap, sym, ◌∙◌, subst}
 use lib.ListN.{length}
-use lib.Ieee.{Float}
-use Rattle.error.specs.Numbers.{judged}
-use Rattle.error.specs.Outcome.{Outcome}
-use Rattle.elimination.specs.declared.Elimination.{Elimination}
-use Rattle.elimination.specs.Elimination.{eliminated, outcome_of}
-use Rattle.survey.specs.declared.Limits.{Limits}
+use Rattle.std.proofs.lemmas.Result.{err_from_is_err_and}
+use Rattle.error.specs.Numbers.{number_of}
+use Rattle.error.specs.Outcome.{outcome, ended}
 use Rattle.survey.specs.Limits.{library}
-use Rattle.interpolator_theory.specs.Call.{Query, Areas, areas_of, size}
-use Rattle.interpolator.specs.Outcome.{query_of}
-use Rattle.interpolator_theory.specs.Refusals.{refusal}
-use Rattle.interpolator_theory.specs.Interpolation.{interpolated}
-use Rattle.interpolator_theory.specs.Exit.{Promise}
-use Rattle.interpolator_theory.proofs.Accepted.{accepted, few_wells}
+use Rattle.interpolator_theory.specs.Call.{size, with_work}
+use Rattle.interpolator.specs.Lent.{query_lent, areas_lent}
 use Rattle.interpolator.proofs.Sizes.{added_few}
-use Rattle.interpolator.proofs.Entries.{entry_unread}
-use Rattle.interpolator.proofs.Called.{turned_away, not_turned_away, gone_through, stopped_at, never_short}
-use Rattle.interpolator_theory.proofs.Promise.{promise}
+use Rattle.interpolator.proofs.Called.{by_library, fits, few, promised, turned_away, stopped_by, gone_through}
 use Rattle.interpolator.proofs.KrigingInterpolator.interpolate.Goals as goal
 
--- the promise, from the equation
-promised : (q : Query) (a : Areas) (o : Outcome Areas) → o ≡ interpolated library q a → Promise library q a o
-promised q a o e = subst (Promise library q a) (sym e) (promise library q a)
-
--- the judgement by these limits is the call's
-number_is : (limits : Limits) (q : Query) (a : Areas) (k : ℕ) → k ≡ refusal limits q a → limits ≡ library → k ≡ refusal library q a
-number_is limits q a k e f = e ∙ ap (λ (l : Limits). refusal l q a) f
-
--- the elimination by how it ended
-ended : (s : ℕ) (xs work : List Float) (r o : Elimination) → r ≡ o → outcome_of r work ≡ eliminated false s xs → outcome_of o work ≡ eliminated false s xs
-ended s xs work r o e f = ap (λ (b : Elimination). outcome_of b work) (sym e) ∙ f
-
--- if let Judgement::Refused(refusal) = judgement
-pub returns-in-Refused : goal.returns-in-Refused
-returns-in-Refused c =
+-- Known { .. }
+pub invariant_of-known : goal.invariant_of-known
+invariant_of-known c =
     let a = c.args in
-    let q = query_of a.self a.values.now a.points.now a.targets.now a.d in
-    let s = areas_of a.work.now a.figures.now a.variances.now in
-    let number = number_is c.library.result q s _ c.interpolation_refusal-judgement.ensures c.library.ensures in
-    let e = turned_away library q s c.in-Refused.refusal (sym (ap judged c.in-Refused.is) ∙ number) in
-    record { equation = e; promise = promised q s _ e }
+    let q = query_lent a.self a.query.now in
+    let s = areas_lent a.areas.now in
+    let zero = by_library c.library.result q s c.in_ok-interpolation_refusal.ensures c.library.ensures in
+    let fit = fits q s zero in
+    record {
+      sized = ap (λ (k : ℕ). length a.query.now.values.now + k) c.trend_terms.ensures;
+      surface = fit.surface;
+      axes = fit.axes;
+      placed = omega (arith, fit.points);
+    }
 
--- assembly::build_covariance_matrix(self, &table, values, points, d, size, work);
 pub build_covariance_matrix-requires : goal.build_covariance_matrix-requires
 build_covariance_matrix-requires c =
     let a = c.args in
-    let q = query_of a.self a.values.now a.points.now a.targets.now a.d in
-    let s = areas_of a.work.now a.figures.now a.variances.now in
-    let number = number_is c.library.result q s _ c.interpolation_refusal-judgement.ensures c.library.ensures in
-    let none_given : refusal library q s ≡ 0 = sym number ∙ ap judged c.in_default.is in
-    let none_apply = not_turned_away library q s none_given in
-    let fit = accepted library q s none_apply in
-    let sized : length a.values.now + c.trend_terms.result ≡ size q = ap (λ (k : ℕ). length a.values.now + k) c.trend_terms.ensures in
-    let work_long : 2 * (length a.values.now + c.trend_terms.result) * (length a.values.now + c.trend_terms.result) ≤ length a.work.now =
-    subst (λ (n : ℕ). 2 * n * n ≤ length a.work.now) (sym sized) fit.work in
-    (sized, fit.surface, omega (arith, fit.points), work_long, c.fraction_table-table.ensures)
+    let q = query_lent a.self a.query.now in
+    let s = areas_lent a.areas.now in
+    let zero = by_library c.library.result q s c.in_ok-interpolation_refusal.ensures c.library.ensures in
+    let sized : length a.query.now.values.now + c.trend_terms.result ≡ size q = ap (λ (k : ℕ). length a.query.now.values.now + k) c.trend_terms.ensures in
+    subst (λ (n : ℕ). 2 * n * n ≤ length s.work) (sym sized) (fits q s zero).work
 
--- point::interpolate_points(..);
 pub interpolate_points-requires : goal.interpolate_points-requires
 interpolate_points-requires c =
     let a = c.args in
-    let q = query_of a.self a.values.now a.points.now a.targets.now a.d in
-    let s = areas_of a.work.now a.figures.now a.variances.now in
-    let number = number_is c.library.result q s _ c.interpolation_refusal-judgement.ensures c.library.ensures in
-    let none_given : refusal library q s ≡ 0 = sym number ∙ ap judged c.in_default.is in
-    let none_apply = not_turned_away library q s none_given in
-    let fit = accepted library q s none_apply in
-    let sized : length a.values.now + c.trend_terms.result ≡ size q = ap (λ (k : ℕ). length a.values.now + k) c.trend_terms.ensures in
-    let work_long : 2 * (length a.values.now + c.trend_terms.result) * (length a.values.now + c.trend_terms.result) ≤ length a.work.now =
-    subst (λ (n : ℕ). 2 * n * n ≤ length a.work.now) (sym sized) fit.work in
-    let kept : length c.solve_kriging_system-elimination.new.work ≡ length a.work.now =
-    c.solve_kriging_system-elimination.auto.work ∙ c.build_covariance_matrix.auto.work in
-    let few = few_wells library q s none_apply in
-    let terms = added_few a.self.kriging_type in (
-      sized,
-      fit.surface,
-      fit.axes,
-      omega (arith, few, terms, c.trend_terms.ensures),
-      omega (arith, work_long, kept),
-      fit.figures,
-      fit.variances,
-      c.fraction_table-table.ensures,
-    )
+    let q = query_lent a.self a.query.now in
+    let s = areas_lent a.areas.now in
+    let zero = by_library c.library.result q s c.in_ok-interpolation_refusal.ensures c.library.ensures in
+    let fit = fits q s zero in
+    let sized : length a.query.now.values.now + c.trend_terms.result ≡ size q = ap (λ (k : ℕ). length a.query.now.values.now + k) c.trend_terms.ensures in
+    let long : 2 * (length a.query.now.values.now + c.trend_terms.result) * (length a.query.now.values.now + c.trend_terms.result) ≤ length s.work =
+    subst (λ (n : ℕ). 2 * n * n ≤ length s.work) (sym sized) fit.work in
+    let kept : length c.solve_kriging_system.new.work ≡ length s.work = c.solve_kriging_system.auto.work ∙ c.build_covariance_matrix.auto.work in
+    let terms = added_few a.self.kriging_type in
+    (omega (arith, few q s zero, terms, c.trend_terms.ensures), omega (arith, long, kept), fit.figures, fit.variances)
 
-pub returns-in-Done : goal.returns-in-Done
-returns-in-Done c =
+-- interpolation_refusal(..)?
+pub returns-in_err-interpolation_refusal-clause-equation : goal.returns-in_err-interpolation_refusal-clause-equation
+returns-in_err-interpolation_refusal-clause-equation c =
     let a = c.args in
-    let q = query_of a.self a.values.now a.points.now a.targets.now a.d in
-    let s = areas_of a.work.now a.figures.now a.variances.now in
-    let number = number_is c.library.result q s _ c.interpolation_refusal-judgement.ensures c.library.ensures in
-    let none_given : refusal library q s ≡ 0 = sym number ∙ ap judged c.in_default.is in
-    let sized : length a.values.now + c.trend_terms.result ≡ size q = ap (λ (k : ℕ). length a.values.now + k) c.trend_terms.ensures in
-    let entries = entry_unread a.self a.values.now a.points.now a.targets.now a.d in
-    let end = c.solve_kriging_system-elimination in
-    let assembled = c.build_covariance_matrix.ensures in
-    let e = gone_through library q s none_given _ sized _ entries _ _ assembled _ _ (ended _ _ _ _ _ c.in-Done.is end.ensures) c.interpolate_points.ensures in
-    record { equation = e; promise = promised q s _ e }
+    let q = query_lent a.self a.query.now in
+    let s = areas_lent a.areas.now in
+    let number = by_library c.library.result q s c.in_err-interpolation_refusal.ensures c.library.ensures in
+    let handed = err_from_is_err_and c.from_residual.result c.from_residual.ensures.1 in
+    ap (λ r. ended r s) handed.1 ∙ ap (λ r. outcome (number_of r) s) handed.2 ∙ turned_away library q s _ number
 
--- Elimination::Stopped(_)
-pub returns-in-Stopped : goal.returns-in-Stopped
-returns-in-Stopped c =
+pub returns-in_err-interpolation_refusal-clause-promise : goal.returns-in_err-interpolation_refusal-clause-promise
+returns-in_err-interpolation_refusal-clause-promise c =
     let a = c.args in
-    let q = query_of a.self a.values.now a.points.now a.targets.now a.d in
-    let s = areas_of a.work.now a.figures.now a.variances.now in
-    let number = number_is c.library.result q s _ c.interpolation_refusal-judgement.ensures c.library.ensures in
-    let none_given : refusal library q s ≡ 0 = sym number ∙ ap judged c.in_default.is in
-    let sized : length a.values.now + c.trend_terms.result ≡ size q = ap (λ (k : ℕ). length a.values.now + k) c.trend_terms.ensures in
-    let entries = entry_unread a.self a.values.now a.points.now a.targets.now a.d in
-    let end = c.solve_kriging_system-elimination in
-    let assembled = c.build_covariance_matrix.ensures in
-    let e = stopped_at library q s none_given _ sized _ entries _ _ assembled _ (ended _ _ _ _ _ c.in-Stopped.is end.ensures) in
-    record { equation = e; promise = promised q s _ e }
+    promised (query_lent a.self a.query.now) (areas_lent a.areas.now) _ (returns-in_err-interpolation_refusal-clause-equation c)
 
--- Elimination::TooShort
-pub returns-in-TooShort : goal.returns-in-TooShort
-returns-in-TooShort c =
+-- solve_kriging_system(..)?
+pub returns-in_err-solve_kriging_system-clause-equation : goal.returns-in_err-solve_kriging_system-clause-equation
+returns-in_err-solve_kriging_system-clause-equation c =
     let a = c.args in
-    let q = query_of a.self a.values.now a.points.now a.targets.now a.d in
-    let s = areas_of a.work.now a.figures.now a.variances.now in
-    let number = number_is c.library.result q s _ c.interpolation_refusal-judgement.ensures c.library.ensures in
-    let none_given : refusal library q s ≡ 0 = sym number ∙ ap judged c.in_default.is in
-    let sized : length a.values.now + c.trend_terms.result ≡ size q = ap (λ (k : ℕ). length a.values.now + k) c.trend_terms.ensures in
-    let entries = entry_unread a.self a.values.now a.points.now a.targets.now a.d in
-    let end = c.solve_kriging_system-elimination in
-    let assembled = c.build_covariance_matrix.ensures in
-    absurd (never_short library q s none_given _ sized _ entries _ _ assembled (ended _ _ _ _ _ c.in-TooShort.is end.ensures))
+    let q = query_lent a.self a.query.now in
+    let s = areas_lent a.areas.now in
+    let zero = by_library c.library.result q s c.in_ok-interpolation_refusal.ensures c.library.ensures in
+    let sized : length a.query.now.values.now + c.trend_terms.result ≡ size q = ap (λ (k : ℕ). length a.query.now.values.now + k) c.trend_terms.ensures in
+    let handed = err_from_is_err_and c.from_residual-in_err-solve_kriging_system.result c.from_residual-in_err-solve_kriging_system.ensures.1 in
+    let stopped = stopped_by library q s (sym zero) _ sized _ refl _ _ c.build_covariance_matrix.ensures _ c.in_err-solve_kriging_system.ensures in
+    let left = with_work s c.solve_kriging_system.new.work in
+    ap (λ r. ended r left) handed.1 ∙ ap (λ r. outcome (number_of r) left) handed.2 ∙ stopped
+
+pub returns-in_err-solve_kriging_system-clause-promise : goal.returns-in_err-solve_kriging_system-clause-promise
+returns-in_err-solve_kriging_system-clause-promise c =
+    let a = c.args in
+    promised (query_lent a.self a.query.now) (areas_lent a.areas.now) _ (returns-in_err-solve_kriging_system-clause-equation c)
+
+-- Ok(())
+pub returns-clause-equation : goal.returns-clause-equation
+returns-clause-equation c =
+    let a = c.args in
+    let q = query_lent a.self a.query.now in
+    let s = areas_lent a.areas.now in
+    let zero = by_library c.library.result q s c.in_ok-interpolation_refusal.ensures c.library.ensures in
+    let sized : length a.query.now.values.now + c.trend_terms.result ≡ size q = ap (λ (k : ℕ). length a.query.now.values.now + k) c.trend_terms.ensures in
+    gone_through library q s (sym zero) _ sized _ refl _ _ c.build_covariance_matrix.ensures
+    _ c.in_ok-solve_kriging_system.ensures c.interpolate_points.ensures.answered
+
+pub returns-clause-promise : goal.returns-clause-promise
+returns-clause-promise c =
+    let a = c.args in
+    promised (query_lent a.self a.query.now) (areas_lent a.areas.now) _ (returns-clause-equation c)
