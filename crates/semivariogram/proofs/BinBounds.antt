@@ -1,13 +1,18 @@
 -- The bounds of the bins: what makes a squared distance one, and what they tell of a pair's.
-use Rattle.std.proofs.Common.{◌≡◌, ℕ, ◌+◌, ◌-◌, ◌<◌, ◌≤◌, true, false, T, List, length, get_or, set, sym, subst, true≢false, arith, get_or-set_other, get_or-set_same}
+use Rattle.std.proofs.Common.{◌≡◌, ℕ, ◌+◌, ◌-◌, ◌<◌, ◌≤◌, Bool, true, false, T, List, length, get_or, set, sym, refl, subst, true≢false, arith, get_or-set_other, get_or-set_same}
 use native.Mathlib.Decide.{dec_lt}
+use Rattle.std.proofs.Math.Logic.{∥∥₁_elim}
+use Rattle.std.proofs.Math.Bool.{beq}
+use Rattle.std.proofs.Math.Dec.{leb}
+use Rattle.std.proofs.lemmas.Bool.{leb-true, leb-false}
+use Rattle.std.specs.Coded.{le_prop}
 use lib.Ieee.{Float, nan, inf, fin, binary64, fits, of_bits, lt, eq, le}
 use Rattle.ieee.specs.Floats.{zero_float}
 use Rattle.ieee.specs.Root.{sqrt_of}
 use Rattle.ieee.specs.Values.{Signed, infinite, number}
 use Rattle.ieee.proofs.RootOrder.{not_below}
 use Rattle.ieee.proofs.CastOrder.{part_rises}
-use Rattle.semivariogram.specs.Parts.{bin_at, IsLow, IsHigh, Bounds}
+use Rattle.semivariogram.specs.Parts.{bin_at, IsLow, IsHigh, Beside, Bounds}
 
 -- what is above zero has a clear sign
 pub above_clear : (x : Float) → lt zero_float x ≡ true → Signed false x
@@ -20,14 +25,15 @@ above_clear (fin false m e) h = number m e
 
 module _ (w : Float) (n : ℕ) where
   -- a bin rises with the squared distance
-  bin_rises : (x y : Float) → Signed false x → Signed false y → Signed false w → T (fits binary64 y) → T (le x y) → bin_at w n (sqrt_of x) ≤ bin_at w n (sqrt_of y)
-  bin_rises x y cx cy cw f h = omega (arith, part_rises x y w cx cy cw f (not_below x y cx cy h))
+  bin_rises : (x y : Float) → Signed false x → Signed false y → ∥ Signed false w ∥₁ → T (fits binary64 y) → T (le x y)
+      → bin_at w n (sqrt_of x) ≤ bin_at w n (sqrt_of y)
+  bin_rises x y cx cy cw f h = ∥∥₁_elim cw le_prop (λ (k : Signed false w). omega (arith, part_rises x y w cx cy k f (not_below x y cx cy h)))
 
   -- so a squared distance bounds the bins by its own
-  pub low_by_bin : (v : Float) (b : ℕ) → Signed false w → Signed false v → b ≤ bin_at w n (sqrt_of v) → IsLow w n b v
+  pub low_by_bin : (v : Float) (b : ℕ) → ∥ Signed false w ∥₁ → Signed false v → b ≤ bin_at w n (sqrt_of v) → IsLow w n b v
   low_by_bin v b cw cv l s cs f t = omega (arith, bin_rises v s cv cs cw f t)
 
-  pub high_by_bin : (v : Float) (b : ℕ) → Signed false w → Signed false v → T (fits binary64 v) → bin_at w n (sqrt_of v) ≤ b → IsHigh w n b v
+  pub high_by_bin : (v : Float) (b : ℕ) → ∥ Signed false w ∥₁ → Signed false v → T (fits binary64 v) → bin_at w n (sqrt_of v) ≤ b → IsHigh w n b v
   high_by_bin v b cw cv g l s cs f t = omega (arith, bin_rises s v cs cv cw g t)
 
   -- a NaN bounds nothing
@@ -42,6 +48,21 @@ module _ (w : Float) (n : ℕ) where
 
   pub high_nan : (b : ℕ) → IsHigh w n b nan
   high_nan b s cs f t = absurd (nothing_below_nan s cs t)
+
+  -- beside an edge a squared distance bounds the bin on the other side, where its own bin, k, is on its own
+  pub beside_told : (above : Bool) (b k : ℕ) (v : Float) → ∥ Signed false w ∥₁ → lt zero_float v ≡ true → T (fits binary64 v) → k ≡ bin_at w n (sqrt_of v)
+      → beq (leb b k) above ≡ true → Beside above w n b v
+  beside_told above b k v cw l f is h = go above (leb b k) refl h
+    where
+      go : (above told : Bool) → leb b k ≡ told → beq told above ≡ true → Beside above w n b v
+      go true true e h = low_by_bin v b cw (above_clear v l) (omega (arith, leb-true b k e, is))
+      go false false e h = high_by_bin v (b - 1) cw (above_clear v l) f (omega (arith, leb-false b k e, is))
+      go true false e h = absurd (true≢false (sym h))
+      go false true e h = absurd (true≢false (sym h))
+
+  pub beside_nan : (above : Bool) (b : ℕ) → Beside above w n b nan
+  beside_nan true b = low_nan b
+  beside_nan false b = high_nan (b - 1)
 
   -- and no bin is before the first or after the last
   pub low_first : (v : Float) → IsLow w n 0 v

@@ -36,6 +36,10 @@ module _ (all : List Pair) where
       let e : get_or all at (pair 0 0) ∷ drop (suc at) all ≡ p ∷ ps = sym (drop-cons all at (pair 0 0) l) ∙ h.rest in
       (l, (cc), (cc))
 
+  -- a place by another name
+  pub moved : {at k : ℕ} (ps : List Pair) → at ≡ k → Reached all ps at → Reached all ps k
+  moved ps e h = subst (λ (j : ℕ). Reached all ps j) e h
+
   -- one pair further
   pub one_further : (p : Pair) (ps : List Pair) (at : ℕ) → Reached all (p ∷ ps) at → Reached all ps (at + 1)
   one_further p ps at h = let n = is_next p ps at h in record { rest = rw add-one n.2; inside = omega (arith, n.0) }
@@ -67,6 +71,9 @@ module _ (n : ℕ) where
 
   pub at_last : (i at : ℕ) → n ≤ i → Reached (pairs n) (pairs_from i (n - i)) at → Reached (pairs n) [] at
   at_last i at l h = subst (λ (ps : List Pair). Reached (pairs n) ps at) (no_sample i n l) h
+
+  pub next_start : (i at k : ℕ) → at ≡ k → Reached (pairs n) (pairs_from (suc i) (n - suc i)) at → Reached (pairs n) (pairs_from (i + 1) (n - (i + 1))) k
+  next_start i at k e h = rw add-one (moved (pairs n) (pairs_from (suc i) (n - suc i)) e h)
 
   pub first_of : (i at : ℕ) → i < n → Reached (pairs n) (pairs_from i (n - i)) at
       → Reached (pairs n) (later_from i (i + 1) n ++ pairs_from (suc i) (n - suc i)) at

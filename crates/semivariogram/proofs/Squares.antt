@@ -46,7 +46,7 @@ module _ (q : Samples) (t : Taken q) where
   pub root_is : (i j : ℕ) → distance q.points i q.points j q.dimension ≡ sqrt_of (square_in q.points q.dimension (pair i j))
   root_is i j = distance_offered q.points i q.points j q.dimension (is_offered q.dimension t.dimension.0 t.dimension.1)
 
-  lag_is : (p : Pair) → lag q p ≡ sqrt_of (square_in q.points q.dimension p)
+  pub lag_is : (p : Pair) → lag q p ≡ sqrt_of (square_in q.points q.dimension p)
   unfolding lag
   lag_is p = root_is p.one p.other
 

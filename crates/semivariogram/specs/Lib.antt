@@ -1,2 +1,4 @@
 pub mod Parts
+pub mod Called
+pub mod Layout
 pub mod Outcome

@@ -1,137 +1,85 @@
 // The bins: each pair is added to its own, in one pass over the pairs, and the kept ones are written.
 ghost use Rattle.std.specs.Prelude.{◌≡◌, suc, ◌+◌, ◌-◌, ◌<◌, ◌≤◌, [], length};
-ghost use Rattle.std.specs.Float.Ieee.{to_unsigned};
 ghost use Rattle.semivariogram_theory.specs.Pairs.{pairs_from, pairs};
-ghost use Rattle.semivariogram_theory.specs.Call.{Samples, samples_of, areas_of};
-ghost use Rattle.semivariogram_theory.specs.Bins.{width, kept_bins, filled};
-ghost use Rattle.semivariogram.specs.Parts.{Taken, square_in, Reached, Stored, bin_at, Bounds, Left};
+ghost use Rattle.error.specs.Short.{LongEnough};
+ghost use Rattle.semivariogram.specs.Parts.{Squared, Reached, LeftIn, Written};
+ghost use Rattle.semivariogram.specs.Called.{sampled, held, areas_for, StillLent};
+ghost use Rattle.semivariogram.specs.Layout.{BinsOf};
 
-use crate::bounds::pair_bin;
+use crate::bounds::BoundedBins;
+use crate::call::{Areas, Samples};
 
-// x as a whole number, as the Rust's cast has it at every x: without its fraction, 0 for a NaN and below zero, and the greatest there is where x is above that.
-fn as_usize(x: f64) -> usize
-    ensures { result ≡ to_unsigned 64 x }
-{
-    if x > -1.0 {
-        if x < 18446744073709551616.0 {
-            return std::num::truncating_f64_to_u64(x) as usize;
-        }
-        return 0xffff_ffff_ffff_ffff;
-    }
-    0
-}
-
-// The bin of a distance: of what is above the last one, the last. The cast takes the whole part, as it would of the floor.
-pub(crate) fn bin_of(dist: f64, bin_width: f64, n_bins: usize) -> usize
-    requires { 1 ≤ n_bins }
-    ensures { result ≡ bin_at bin_width n_bins dist }
-{
-    let last = n_bins - 1;
-    let bin = as_usize(dist / bin_width);
-    if bin < last {
-        return bin;
-    }
-    last
+// What the pairs of a bin come to: half the squares of their values' differences, and how many they are.
+#[derive(Clone, Copy)]
+pub(crate) struct Bin {
+    pub sum: f64,
+    pub count: usize,
 }
 
 // The pairs of the sample i with each later one, each added to its bin: their squared distances stand from the place `at` on.
 fn add_later(
-    points: &[f64],
-    values: &[f64],
-    d: usize,
-    n_bins: usize,
-    bin_width: f64,
+    samples: &Samples<'_>,
+    bounded: &BoundedBins<'_>,
+    squares: &[f64],
     i: usize,
     at: usize,
-    squares: &[f64],
-    bounded: usize,
-    lows: &[f64],
-    highs: &[f64],
-    bin_sums: &mut [f64],
-    bin_counts: &mut [usize],
+    bins: &mut [Bin],
 )
-    requires { (n_bins ≤ length bin_sums.old) × (n_bins ≤ length bin_counts.old)
-        × (bounded ≤ length lows.now) × (bounded ≤ length highs.now) × (length (pairs (length values.now)) ≤ length squares.now)
-        × (i < length values.now) × Taken (samples_of points.now values.now d n_bins)
-        × (bin_width ≡ width (samples_of points.now values.now d n_bins)) × Bounds bin_width n_bins bounded lows.now highs.now
-        × Stored (square_in points.now d) (pairs (length values.now)) (length (pairs (length values.now))) squares.now
-        × Reached (pairs (length values.now)) (pairs_from i (length values.now - i)) at
-        × Left (samples_of points.now values.now d n_bins) (pairs_from i (length values.now - i)) bin_sums.old bin_counts.old }
-    ensures { Reached (pairs (length values.now)) (pairs_from (suc i) (length values.now - suc i))
-        (at + (length values.now - suc i))
-        × Left (samples_of points.now values.now d n_bins)
-        (pairs_from (suc i) (length values.now - suc i)) bin_sums.new bin_counts.new }
+    requires room { (i < length samples.now.values.now) × (samples.now.n_bins ≤ length bins.old) }
+    requires squared { Squared (sampled samples.now) squares.now }
+    requires bins { BinsOf (sampled samples.now) bounded.now.bins }
+    requires place { let n = length samples.now.values.now in Reached (pairs n) (pairs_from i (n - i)) at }
+    requires left { LeftIn (sampled samples.now) (pairs_from i (length samples.now.values.now - i)) bins.old }
+    ensures place { let n = length samples.now.values.now in Reached (pairs n) (pairs_from (suc i) (n - suc i)) (at + (n - suc i)) }
+    ensures left { LeftIn (sampled samples.now) (pairs_from (suc i) (length samples.now.values.now - suc i)) bins.new }
 {
-    let mut place = at;
+    let values = samples.values;
     for j in i + 1..values.len() {
-        let dist_sq = squares[place];
-        let bin = pair_bin(
-            points, i, j, d, dist_sq, bin_width, n_bins, bounded, lows, highs,
-        );
+        let dist_sq = squares[at + (j - (i + 1))];
+        let k = bounded.bin_of_pair(samples, i, j, dist_sq);
         let diff = values[i] - values[j];
         let semivar = 0.5 * (diff * diff);
-        bin_sums[bin] = bin_sums[bin] + semivar;
-        bin_counts[bin] = bin_counts[bin] + 1;
-        place += 1;
+        let bin = bins[k];
+        bins[k] = Bin {
+            sum: bin.sum + semivar,
+            count: bin.count + 1,
+        };
     }
 }
 
 // All pairs, each added to its bin.
 pub(crate) fn add_pairs(
-    points: &[f64],
-    values: &[f64],
-    d: usize,
-    n_bins: usize,
-    bin_width: f64,
+    samples: &Samples<'_>,
+    bounded: &BoundedBins<'_>,
     squares: &[f64],
-    bounded: usize,
-    lows: &[f64],
-    highs: &[f64],
-    bin_sums: &mut [f64],
-    bin_counts: &mut [usize],
+    bins: &mut [Bin],
 )
-    requires { (n_bins ≤ length bin_sums.old) × (n_bins ≤ length bin_counts.old)
-        × (bounded ≤ length lows.now) × (bounded ≤ length highs.now) × (length (pairs (length values.now)) ≤ length squares.now)
-        × Taken (samples_of points.now values.now d n_bins)
-        × (bin_width ≡ width (samples_of points.now values.now d n_bins)) × Bounds bin_width n_bins bounded lows.now highs.now
-        × Stored (square_in points.now d) (pairs (length values.now)) (length (pairs (length values.now))) squares.now
-        × Left (samples_of points.now values.now d n_bins) (pairs (length values.now)) bin_sums.old bin_counts.old }
-    ensures { Left (samples_of points.now values.now d n_bins) [] bin_sums.new bin_counts.new }
+    requires room { samples.now.n_bins ≤ length bins.old }
+    requires squared { Squared (sampled samples.now) squares.now }
+    requires bins { BinsOf (sampled samples.now) bounded.now.bins }
+    requires left { LeftIn (sampled samples.now) (pairs (length samples.now.values.now)) bins.old }
+    ensures { LeftIn (sampled samples.now) [] bins.new }
 {
-    let n = values.len();
+    let n = samples.values.len();
     let mut at = 0;
     for i in 0..n {
-        add_later(
-            points, values, d, n_bins, bin_width, i, at, squares, bounded, lows, highs, bin_sums,
-            bin_counts,
-        );
+        add_later(samples, bounded, squares, i, at, bins);
         at += n - 1 - i;
     }
 }
 
 // The kept bins, rising, to the first places of the areas: centre, average and count. How many they are.
-pub(crate) fn write_kept(
-    bin_width: f64,
-    n_bins: usize,
-    bin_sums: &[f64],
-    bin_counts: &[usize],
-    distances: &mut [f64],
-    semivariances: &mut [f64],
-    counts: &mut [usize],
-) -> usize
-    requires { (n_bins ≤ length bin_sums.now) × (n_bins ≤ length bin_counts.now)
-        × (n_bins ≤ length distances.old) × (n_bins ≤ length semivariances.old) × (n_bins ≤ length counts.old) }
-    ensures { (q : Samples) → q.bins ≡ n_bins → bin_width ≡ width q → Left q [] bin_sums.now bin_counts.now
-        → (result ≡ length (kept_bins q)) × (areas_of distances.new semivariances.new counts.new
-        ≡ filled q (areas_of distances.old semivariances.old counts.old)) }
+pub(crate) fn write_kept(bin_width: f64, bins: &[Bin], areas: &mut Areas<'_>) -> usize
+    requires { LongEnough (areas_for (length bins.now) (held areas.old)) }
+    ensures lent { StillLent areas.old areas.new }
+    ensures written { Written bin_width bins.now result (held areas.old) (held areas.new) }
 {
     let mut kept = 0;
-    for i in 0..n_bins {
-        let count = bin_counts[i];
-        if count > 0 {
-            distances[kept] = (std::num::nearest_u64_to_f64(i as u64) + 0.5) * bin_width;
-            semivariances[kept] = bin_sums[i] / std::num::nearest_u64_to_f64(count as u64);
-            counts[kept] = count;
+    for (i, bin) in bins.iter().enumerate() {
+        if bin.count > 0 {
+            areas.distances[kept] = (std::num::nearest_usize_to_f64(i) + 0.5) * bin_width;
+            areas.semivariances[kept] = bin.sum / std::num::nearest_usize_to_f64(bin.count);
+            areas.counts[kept] = bin.count;
             kept += 1;
         }
     }

@@ -9,9 +9,12 @@ use Rattle.semivariogram.proofs.distances.all_squares.Given as goal
 
 abbrev pub invariant-loop-i : goal.invariant-loop-i
 invariant-loop-i l =
-    (l.i ≤ l.n) × (length l.squares ≡ length l.initial.squares)
-    × (greatest l.max_sq (map (square_in l.points l.d) (pairs_from l.i (l.n - l.i))) ≡ greatest zero_float (map (square_in l.points l.d) (pairs l.n)))
-    × Reached (pairs l.n) (pairs_from l.i (l.n - l.i)) l.at × Stored (square_in l.points l.d) (pairs l.n) l.at l.squares
-
-abbrev pub decreases-loop-i : goal.decreases-loop-i
-decreases-loop-i l = l.n - l.i
+    let n = length l.samples.values.now in
+    let far = square_in l.samples.points.now l.samples.d in
+    record {
+      inside : l.i ≤ n;
+      room : length l.squares ≡ length l.initial.squares;
+      greatest : greatest l.max_sq (map far (pairs_from l.i (n - l.i))) ≡ greatest zero_float (map far (pairs n));
+      reached : Reached (pairs n) (pairs_from l.i (n - l.i)) l.at;
+      stored : Stored far (pairs n) l.at l.squares;
+    }

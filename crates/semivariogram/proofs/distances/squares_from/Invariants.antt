@@ -9,10 +9,14 @@ use Rattle.semivariogram.proofs.distances.squares_from.Given as goal
 
 abbrev pub invariant-loop-j : goal.invariant-loop-j
 invariant-loop-j l =
-    (l.j ≤ l.n) × (suc l.i ≤ l.j) × (length l.squares ≡ length l.initial.squares) × (l.place ≡ l.at + (l.j - suc l.i))
-    × (greatest l.max_sq (map (square_in l.points l.d) (later_from l.i l.j l.n)) ≡ greatest l.most (map (square_in l.points l.d) (later l.i l.n)))
-    × Reached (pairs l.n) (later_from l.i l.j l.n ++ pairs_from (suc l.i) (l.n - suc l.i)) l.place
-    × Stored (square_in l.points l.d) (pairs l.n) l.place l.squares
-
-abbrev pub decreases-loop-j : goal.decreases-loop-j
-decreases-loop-j l = l.n - l.j
+    let n = length l.samples.values.now in
+    let far = square_in l.samples.points.now l.samples.d in
+    let place = l.at + (l.j - (l.i + 1)) in
+    record {
+      begun : suc l.i ≤ l.j;
+      inside : l.j ≤ n;
+      room : length l.squares ≡ length l.initial.squares;
+      greatest : greatest l.max_sq (map far (later_from l.i l.j n)) ≡ greatest l.most (map far (later l.i n));
+      reached : Reached (pairs n) (later_from l.i l.j n ++ pairs_from (suc l.i) (n - suc l.i)) place;
+      stored : Stored far (pairs n) place l.squares;
+    }
