@@ -15,7 +15,7 @@ use Rattle.patterns.specs.Words.{word_at}
 past_one : (bytes : List ℕ) (j : ℕ) → drop (8 * j) (drop 8 bytes) ≡ drop (8 * suc j) bytes
 past_one bytes j = let e : 8 + 8 * j ≡ 8 * suc j = omega arith in drop-drop (8 * j) 8 bytes ∙ ap (λ (k : ℕ). drop k bytes) e
 
-number_first : (count : ℕ) (bytes : List ℕ) (j : ℕ) → j < count → get_or (f64s_in count bytes) j nan ≡ of_bits binary64 (number_in (take 8 (drop (8 * j) bytes)))
+pub number_first : (count : ℕ) (bytes : List ℕ) (j : ℕ) → j < count → get_or (f64s_in count bytes) j nan ≡ of_bits binary64 (number_in (take 8 (drop (8 * j) bytes)))
 unfolding f64s_in
 number_first zero bytes j h = absurd (not-suc-le-zero h)
 number_first (suc count) bytes zero h = refl

@@ -7,9 +7,8 @@ use mathlib.Core.List.{List}
 use mathlib.Core.Option.{none, some}
 use lib.Dec.{T}
 use lib.ListN.{length}
-use Rattle.error.specs.Numbers.{number_of, judged}
-use Rattle.error.specs.declared.Judgement.{Judgement}
-use Rattle.error.specs.declared.Judgement.TheVariants.{Refused}
+use Rattle.std.specs.Prelude.{Result, Err}
+use Rattle.error.specs.Numbers.{number_of}
 use Rattle.error.specs.declared.Refusal.{Refusal}
 use Rattle.error.proofs.First.{numbers}
 use Rattle.survey_file_theory.specs.declared.Header.{Header}
@@ -18,7 +17,7 @@ use Rattle.survey_file_theory.specs.Areas.{Areas, filled_with}
 use Rattle.survey_file_theory.specs.Trailer.{wells_in, nodes_in, bases_in}
 use Rattle.survey_file_theory.specs.Rules.{WellFormed, ListsFit}
 use Rattle.survey_file_theory.specs.Refusals.{malformed, reader_refusal}
-use Rattle.survey_file_theory.specs.Reader.{survey_in, header_of, Outcome, call_where, reader, Ends}
+use Rattle.survey_file_theory.specs.Reader.{survey_in, header_of, Outcome, outcome_of, call_where, reader, Ends}
 use Rattle.survey_file_theory.proofs.Told.{malformed_told}
 use Rattle.survey_file_theory.proofs.WellFormed.{well_formed_exactly, codes_before}
 use Rattle.survey_file_theory.proofs.Reader.{read_exactly, reader_ends}
@@ -36,12 +35,12 @@ module _ (newest : ℕ) (bytes : List ℕ) where
   accepted areas e = (read_exactly newest bytes areas).0 (ap (λ (k : ℕ). (call_where k bytes areas).number) e)
 
   -- "A refusal carries only its number and writes nothing"
-  pub refused_is : (areas : Areas) (j : Judgement) (r : Refusal) → j ≡ Refused r → judged j ≡ reader_refusal newest bytes areas
-      → (record { number = number_of r; header = none; areas = areas }) ≡ reader newest bytes areas
+  pub refused_is : (areas : Areas) {h : Result Header Refusal} (r : Refusal) → h ≡ Err r → number_of r ≡ reader_refusal newest bytes areas
+      → outcome_of h areas ≡ reader newest bytes areas
   unfolding reader call_where
-  refused_is areas j r is e = go (reader_refusal newest bytes areas) (sym (ap judged is) ∙ e)
+  refused_is areas r is e = ap (λ (h : Result Header Refusal). outcome_of h areas) is ∙ go (reader_refusal newest bytes areas) e
     where
-      go : (n : ℕ) → number_of r ≡ n → (record { number = number_of r; header = none; areas = areas }) ≡ call_where n bytes areas
+      go : (n : ℕ) → number_of r ≡ n → outcome_of (Err r) areas ≡ call_where n bytes areas
       go zero f = absurd (numbers r f)
       go (suc k) f = ap (λ (n : ℕ). record { number = n; header = none; areas = areas }) f
 
@@ -54,5 +53,5 @@ module _ (newest : ℕ) (bytes : List ℕ) where
       ∙ sym (ap (λ (k : ℕ). call_where k bytes areas) e)
 
   -- what equals the definition has all that holds of it
-  pub has_ends : (areas : Areas) {o : Outcome} → o ≡ reader newest bytes areas → (o ≡ reader newest bytes areas) × Ends newest bytes areas o
-  has_ends areas e = (e, subst (Ends newest bytes areas) (sym e) (reader_ends newest bytes areas))
+  pub has_ends : (areas : Areas) {o : Outcome} → o ≡ reader newest bytes areas → Ends newest bytes areas o
+  has_ends areas e = subst (Ends newest bytes areas) (sym e) (reader_ends newest bytes areas)

@@ -3,35 +3,24 @@ ghost use Rattle.std.specs.Prelude.{◌≡◌};
 ghost use Rattle.survey_file_theory.specs.File.{newest_version};
 ghost use Rattle.survey_file_theory.specs.Trailer.{wells_in, nodes_in, bases_in};
 ghost use Rattle.survey_file_theory.specs.Rules.{WellFormed};
-ghost use Rattle.survey_file_theory.specs.Reader.{model_of, survey_in, header_of};
+ghost use Rattle.survey_file_theory.specs.Reader.{survey_in, header_of};
 
 use crate::lists::number_at;
-use crate::trailer::{LENGTH, read_counts};
+use crate::trailer::{LENGTH, Trailer};
 use survey::UniversalKrigingOptions;
 use survey_file_theory::Header;
 use variogram::{Variogram, VariogramModel};
 
-// The model of a number, in the enum's order.
-fn model_of(number: u8) -> VariogramModel
-    ensures { result ≡ model_of number }
-{
-    match number {
-        1 => VariogramModel::Spherical,
-        2 => VariogramModel::Exponential,
-        3 => VariogramModel::Gaussian,
-        _ => VariogramModel::Linear,
-    }
-}
-
-// The header of a well-formed file.
+// The header of a well-formed file: its model's number is one of the four.
 pub(crate) fn read_header(bytes: &[u8]) -> Header
     requires { WellFormed newest_version bytes.now }
     ensures { result ≡ header_of (wells_in bytes.now) (nodes_in bytes.now) (bases_in bytes.now)
         (survey_in bytes.now) }
 {
-    let counts = read_counts(bytes);
+    let trailer = Trailer { bytes };
+    let counts = trailer.counts();
     let end = bytes.len() - LENGTH;
-    let model = model_of(bytes[end + 10]);
+    let model = VariogramModel::try_from(bytes[end + 10]).unwrap_or(VariogramModel::Linear);
     let at = counts.start;
     let nugget = number_at(bytes, at);
     let sill = number_at(bytes, at + 8);

@@ -1,8 +1,8 @@
 // The lists of a survey file, each to the first places of its area.
-ghost use Rattle.std.specs.Prelude.{◌≡◌, ◌+◌, ◌*◌, ◌≤◌, length, drop};
+ghost use Rattle.std.specs.Prelude.{◌≡◌, ◌*◌, ◌≤◌, length, take, drop};
 ghost use Rattle.std.specs.Float.{nan, binary64};
 ghost use Rattle.std.specs.Float.Ieee.{of_bits};
-ghost use Rattle.area.specs.Area.{part, copied};
+ghost use Rattle.area.specs.Area.{copied};
 ghost use Rattle.ieee.specs.Bytes.{f64s_in};
 ghost use Rattle.patterns.specs.Words.{word_at};
 
@@ -15,23 +15,24 @@ pub(crate) fn number_at(bytes: &[u8], at: usize) -> f64
     float(word(bytes, at))
 }
 
-// So many numbers, 8 bytes each, from the byte `at` on. The answer is the byte after them.
-pub(crate) fn read_numbers(bytes: &[u8], at: usize, count: usize, list: &mut [f64]) -> usize
-    requires { (at + 8 * count ≤ length bytes.now) × (count ≤ length list.old) }
-    ensures { (result ≡ at + 8 * count) × (list.new ≡ copied nan (f64s_in count (drop at bytes.now)) list.old) }
+// So many numbers, 8 bytes each, from the first byte on. The answer is the bytes after them.
+// kept: the area and how much of it is filled, since of a part of an area in a struct that is lent a proof knows the length alone after a call: with
+// `&mut areas.values[..n]` the goal `c.areas-1.given.0 ≡ copied nan (part 5 n ..) area` of read_lists stayed open.
+pub(crate) fn read_numbers<'a>(bytes: &'a [u8], count: usize, list: &mut [f64]) -> &'a [u8]
+    requires { (8 * count ≤ length bytes.now) × (count ≤ length list.old) }
+    ensures list { list.new ≡ copied nan (f64s_in count bytes.now) list.old }
+    ensures rest { result.now ≡ drop (8 * count) bytes.now }
 {
     for i in 0..count {
-        list[i] = number_at(bytes, at + 8 * i);
+        list[i] = number_at(bytes, 8 * i);
     }
-    at + 8 * count
+    &bytes[8 * count..]
 }
 
-// So many codes, a byte each, from the byte `at` on.
-pub(crate) fn read_codes(bytes: &[u8], at: usize, count: usize, list: &mut [u8])
-    requires { (at + count ≤ length bytes.now) × (count ≤ length list.old) }
-    ensures { list.new ≡ copied 0 (part at count bytes.now) list.old }
+// So many codes, a byte each, from the first byte on.
+pub(crate) fn read_codes(bytes: &[u8], count: usize, list: &mut [u8])
+    requires { (count ≤ length bytes.now) × (count ≤ length list.old) }
+    ensures { list.new ≡ copied 0 (take count bytes.now) list.old }
 {
-    for i in 0..count {
-        list[i] = bytes[at + i];
-    }
+    list[..count].copy_from_slice(&bytes[..count]);
 }

@@ -12,3 +12,4 @@ pub mod BothVersions
 pub mod Changes
 pub mod Sounding
 pub mod Cases
+pub mod Models

@@ -2,6 +2,7 @@ pub mod Contents
 pub mod File
 pub mod Trailer
 pub mod Areas
+pub mod Lent
 pub mod Rules
 pub mod Refusals
 pub mod Reader

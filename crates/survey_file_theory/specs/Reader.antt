@@ -1,8 +1,9 @@
 -- The reader of the survey file: what it takes out of bytes, and its areas at exit. It judges nothing but the layout.
-use Rattle.std.specs.Prelude.{ℕ, zero, suc, ◌+◌, ◌*◌, ◌≡◌, ◌≢◌, ◌↔◌, Bool, true, false, List, ◌++◌, length, get_or, drop, Float}
+use Rattle.std.specs.Prelude.{ℕ, zero, suc, ◌+◌, ◌*◌, ◌≡◌, ◌≢◌, ◌↔◌, Bool, true, false, List, ◌++◌, length, get_or, drop, Float, Result, Ok, Err}
 use Rattle.std.proofs.Math.Option.{Option, none, some}
 use Rattle.std.specs.Float.{nan}
 use Rattle.area.specs.Area.{part}
+use Rattle.error.specs.declared.Refusal.{Refusal}
 use Rattle.error.specs.Numbers.{number_of}
 use Rattle.error.specs.Rules.{Ruled}
 use Rattle.ieee.specs.Bytes.{number_in, f64s_in}
@@ -11,7 +12,6 @@ use Rattle.variogram.specs.declared.VariogramModel.{VariogramModel}
 use Rattle.variogram.specs.declared.VariogramModel.TheVariants.{Spherical, Exponential, Gaussian, Linear}
 use Rattle.survey.specs.Survey.{Survey, wells, node_count}
 use Rattle.survey_file_theory.specs.declared.Header.{Header}
-use Rattle.survey_file_theory.specs.declared.Read.{Read}
 use Rattle.survey_file_theory.specs.Contents.{number_count, without_ignored}
 use Rattle.survey_file_theory.specs.Areas.{Areas, filled_with}
 use Rattle.survey_file_theory.specs.Trailer.{start_in, wells_in, nodes_in, bases_in, externals_in, model_in, codes_in}
@@ -72,9 +72,9 @@ pub record Outcome : Type 0 where
   pub areas : Areas
 
 -- the number and the values of each answer: "A refusal carries only its number"
-abbrev pub outcome_of : Read → Areas → Outcome
-outcome_of (Read.Done header) areas = record { number = 0; header = some header; areas = areas }
-outcome_of (Read.Refused refusal) areas = record { number = number_of refusal; header = none; areas = areas }
+abbrev pub outcome_of : Result Header Refusal → Areas → Outcome
+outcome_of (Ok header) areas = record { number = 0; header = some header; areas = areas }
+outcome_of (Err refusal) areas = record { number = number_of refusal; header = none; areas = areas }
 
 -- the call by its refusal: "A refusal carries only its number and writes nothing"; else each area has its list
 unfoldable pub call_where : ℕ → List ℕ → Areas → Outcome

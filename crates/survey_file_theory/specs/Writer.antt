@@ -1,11 +1,11 @@
 -- The writer of the survey file: its answer, and its area at exit.
-use Rattle.std.specs.Prelude.{ℕ, zero, suc, ◌≡◌, ◌≢◌, ◌↔◌, List, ◌++◌, length, drop}
+use Rattle.std.specs.Prelude.{ℕ, zero, suc, ◌≡◌, ◌≢◌, ◌↔◌, List, ◌++◌, length, drop, Result, Ok, Err}
 use Rattle.std.proofs.Math.Option.{Option, none, some}
 use Rattle.area.specs.Area.{copied}
+use Rattle.error.specs.declared.Refusal.{Refusal}
 use Rattle.error.specs.Numbers.{number_of}
 use Rattle.error.specs.Rules.{Ruled}
 use Rattle.survey.specs.Survey.{Survey}
-use Rattle.survey_file_theory.specs.declared.Written.{Written}
 use Rattle.survey_file_theory.specs.File.{writer_file}
 use Rattle.survey_file_theory.specs.Rules.{Writable, writer_rules}
 use Rattle.survey_file_theory.specs.Refusals.{writer_refusal}
@@ -17,9 +17,9 @@ pub record Outcome : Type 0 where
   pub area : List ℕ
 
 -- the number and the value of each answer: "A refusal carries only its number"
-abbrev pub outcome_of : Written → List ℕ → Outcome
-outcome_of (Written.Done count) area = record { number = 0; count = some count; area = area }
-outcome_of (Written.Refused refusal) area = record { number = number_of refusal; count = none; area = area }
+abbrev pub outcome_of : Result ℕ Refusal → List ℕ → Outcome
+outcome_of (Ok count) area = record { number = 0; count = some count; area = area }
+outcome_of (Err refusal) area = record { number = number_of refusal; count = none; area = area }
 
 -- the call by its refusal: "A refusal carries only its number and writes nothing"; else the area has the file
 unfoldable pub call_where : ℕ → ℕ → Survey → List ℕ → Outcome

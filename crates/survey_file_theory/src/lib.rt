@@ -1,7 +1,6 @@
 // The survey file: what its reader and its writer answer. The reader fills lent areas with the lists.
 #![tactic(auto)]
 
-use error::Refusal;
 use survey::UniversalKrigingOptions;
 
 // The versions that a file can have.
@@ -22,16 +21,13 @@ pub struct Header {
     pub tolerance: f64,
 }
 
-// The reader's answer.
-#[derive(Clone, Copy)]
-pub enum Read {
-    Done(Header),
-    Refused(Refusal),
-}
-
-// The writer's answer: how many bytes it wrote.
-#[derive(Clone, Copy)]
-pub enum Written {
-    Done(usize),
-    Refused(Refusal),
+// The areas that the reader's caller lends, one for each list.
+#[derive(Drop)]
+pub struct Areas<'a> {
+    pub values: &'a mut [f64],
+    pub coords: &'a mut [f64],
+    pub bases: &'a mut [u8],
+    pub external: &'a mut [f64],
+    pub nodes: &'a mut [f64],
+    pub node_external: &'a mut [f64],
 }

@@ -1,39 +1,25 @@
 -- How long a file is, in numbers and in bytes.
-use Prim.Native.Nat.{ℕ, ◌+◌, ◌≤◌}
+use Prim.Native.Nat.{ℕ, ◌+◌}
 use native.Mathlib.Decide.{dec_lt}
 use native.Mathlib.Omega.{arith}
-use mathlib.Core.Path.{◌≡◌, refl, sym}
-use mathlib.Core.Bool.{Bool, true, false, cond, ◌||◌}
-use mathlib.Core.List.{List, [], ◌++◌}
+use mathlib.Core.Path.{◌≡◌, ap, sym, ◌∙◌}
+use mathlib.Core.Bool.{Bool, ◌||◌}
+use mathlib.Core.List.{List, ◌++◌, []}
 use borrow.Author.Tests.{lt-ltb, le-ltb}
-use lib.Dec.{eqb, ltb}
+use lib.Dec.{ltb}
 use lib.ListN.{length, length-append}
 use Rattle.error.proofs.First.{last_one}
 use Rattle.survey.specs.Limits.{library}
-use Rattle.survey.specs.Survey.{Survey, wells, node_count, externals, external_count}
+use Rattle.survey.specs.Survey.{Survey, wells, node_count}
 use Rattle.survey_file_theory.specs.Contents.{numbers, node_externals}
 use Rattle.survey_file_theory.specs.File.{longest_file, greatest_count, newest_version, writer_file}
-use Rattle.survey_file_theory.specs.Refusals.{too_long}
+use Rattle.survey_file_theory.specs.Refusals.{too_long, short_file}
 use Rattle.survey_file_theory.proofs.ReadBack.{length-file}
-use Rattle.survey_file_writer.specs.Parts.{taken, bytes_for}
+use Rattle.survey_file_writer.specs.Parts.{bytes_for}
 
 -- ---- numbers
-pub length_taken : (s : Survey) → length (node_externals s) ≡ taken s.bases (length s.node_external)
-length_taken s = go (eqb (externals s) 0)
-  where
-    go : (b : Bool) → length (cond b [] s.node_external) ≡ cond b 0 (length s.node_external)
-    go true = refl
-    go false = refl
-
-pub taken_most : (bases : List ℕ) (len : ℕ) → taken bases len ≤ len
-taken_most bases len = go (eqb (external_count bases) 0)
-  where
-    go : (b : Bool) → cond b 0 len ≤ len
-    go true = omega arith
-    go false = omega arith
-
 pub length-numbers : (s : Survey) → length (numbers s)
-    ≡ 5 + length s.values + length s.coords + length s.external + length s.nodes + taken s.bases (length s.node_external)
+    ≡ 5 + length s.values + length s.coords + length s.external + length s.nodes + length (node_externals s)
 unfolding numbers
 length-numbers s =
     let v = s.values in
@@ -41,7 +27,6 @@ length-numbers s =
     let e = s.external in
     let n = s.nodes in
     let x = node_externals s in
-    let last = length_taken s in
     let all : length (v ++ (c ++ (e ++ (n ++ x)))) ≡ length v + (length c + (length e + (length n + length x))) = simp length-append in
     omega arith
 
@@ -66,3 +51,17 @@ too_long_is s =
             le-ltb greatest_count (length s.bases) (omega arith),
           ) (sym (last_one (ltb library.wells (wells s))))
     ]
+
+-- as the code finds them, by the count of the numbers
+pub long_is : (s : Survey) {count n : ℕ} {long : Bool} → count ≡ length (numbers s) → n ≡ wells s
+    → long ≡ (ltb longest_file (bytes_for count (length s.bases)) || ltb library.wells n) → long ≡ too_long newest_version s
+long_is s c e h =
+    h
+    ∙ (λ i. ltb longest_file (bytes_for (c i) (length s.bases)) || ltb library.wells (e i))
+    ∙ ap (λ (k : ℕ). ltb longest_file k || ltb library.wells (wells s)) (sym (length-written newest_version s))
+    ∙ too_long_is s
+
+pub short_is : (s : Survey) (area : List ℕ) {count : ℕ} {short : Bool} → count ≡ length (numbers s)
+    → short ≡ ltb (length area) (bytes_for count (length s.bases)) → short ≡ short_file newest_version s area
+short_is s area c h =
+    h ∙ (λ i. ltb (length area) (bytes_for (c i) (length s.bases))) ∙ ap (ltb (length area)) (sym (length-written newest_version s))

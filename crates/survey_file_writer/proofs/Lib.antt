@@ -1,4 +1,6 @@
 pub mod Placed
 pub mod Lengths
 pub mod Body
+pub mod Fit
+pub mod Refused
 pub mod Promised

@@ -1,7 +1,7 @@
 -- The parts of the writer's work, in the order of its code.
-use Rattle.std.specs.Prelude.{ℕ, ◌+◌, ◌*◌, cond, List, [], ◌∷◌, eqb}
+use Rattle.std.specs.Prelude.{ℕ, ◌+◌, ◌*◌, List, [], ◌∷◌}
 use Rattle.error.specs.Tests.{Test, test}
-use Rattle.survey.specs.Survey.{Survey, node_count, external_count}
+use Rattle.survey.specs.Survey.{Survey, node_count}
 use Rattle.survey.specs.Refusals.{wrong_coords, odd_nodes, wrong_external, wrong_node_external}
 use Rattle.survey_file_theory.specs.File.{trailer_length}
 
@@ -13,10 +13,6 @@ length_tests s =
     ∷ test 6 (wrong_external s)
     ∷ test 8 (wrong_node_external s (node_count s) s.node_external)
     ∷ []
-
--- "node externals .. ignored if k = 0": how many of so many go into the file, by the codes
-abbrev pub taken : List ℕ → ℕ → ℕ
-taken bases len = cond (eqb (external_count bases) 0) 0 len
 
 -- how many bytes a file without a note has for so many numbers and codes: "little-endian f64, then the codes, one byte each. The 14-byte trailer"
 abbrev pub bytes_for : ℕ → ℕ → ℕ

@@ -1,29 +1,17 @@
-// Numbers and lists as bytes of a file, from a place on. Each function returns the place after what it put.
-ghost use Rattle.std.specs.Prelude.{◌+◌, ◌*◌, ◌≤◌, length};
-ghost use Rattle.ieee.specs.Bytes.{little_endian, f64_bytes};
-ghost use Rattle.area.specs.Placed.{Put};
+// Numbers as bytes of a file, at the place that is next in it.
+ghost use Rattle.std.specs.Prelude.{T};
+ghost use Rattle.ieee.specs.Bytes.{all_fit, f64_bytes};
+ghost use Rattle.area.specs.Cursor.{HasRoom, Puts};
 
-// A word, its 8 bytes the lowest first.
-fn put_word(word: u64, file: &mut [u8], at: usize) -> usize
-    requires { at + 8 ≤ length file.old }
-    ensures { Put at (little_endian 8 word) file.old result file.new }
-{
-    let mut rest = word;
-    for j in 0..8 {
-        file[at + j] = (rest % 256) as u8;
-        rest = rest / 256;
-    }
-    at + 8
-}
+use area::Cursor;
 
-// Numbers by their patterns, 8 bytes each.
-pub(crate) fn put_numbers(numbers: &[f64], file: &mut [u8], at: usize) -> usize
-    requires { at + 8 * length numbers.now ≤ length file.old }
-    ensures { Put at (f64_bytes numbers.now) file.old result file.new }
+// Numbers by their patterns, 8 bytes each, the lowest first. Every number that is handed over is an f64.
+pub(crate) fn put_numbers(numbers: &[f64], place: &mut Cursor<'_>)
+    requires { HasRoom (f64_bytes numbers.now) place.old }
+    ensures put { Puts (f64_bytes numbers.now) place.old place.new }
+    ensures fit { T (all_fit numbers.now) }
 {
-    let mut next = at;
-    for j in 0..numbers.len() {
-        next = put_word(patterns::pattern(numbers[j]), file, next);
+    for number in numbers {
+        place.put_bytes(&patterns::pattern(*number).to_le_bytes());
     }
-    next
 }

@@ -1,17 +1,20 @@
 // What turns the writer away: 1, 2, 6, 8, 11, 22, 16, 18, in that order.
-ghost use Rattle.std.specs.Prelude.{◌≡◌, ◌||◌, ltb, Float, length};
+#![tactic(auto, unfolding(error::specs::Tests::first_of, survey_file_theory::specs::Refusals::some_number_not_finite))]
+
+ghost use Rattle.std.specs.Prelude.{◌≡◌, false, not, ◌||◌, ltb, length};
+ghost use Rattle.std.specs.Float.Ieee.{eq};
+ghost use Rattle.ieee.specs.Floats.{epsilon};
 ghost use Rattle.error.specs.Numbers.{judged};
 ghost use Rattle.error.specs.Tests.{first_of};
-ghost use Rattle.survey.specs.declared.UniversalKrigingOptions.{UniversalKrigingOptions};
 ghost use Rattle.survey.specs.Limits.{library};
-ghost use Rattle.survey.specs.Survey.{survey_of};
-ghost use Rattle.survey_file_theory.specs.Contents.{numbers};
+ghost use Rattle.survey.specs.Lent.{survey_lent};
+ghost use Rattle.survey_file_theory.specs.Contents.{numbers, node_externals};
 ghost use Rattle.survey_file_theory.specs.File.{longest_file, newest_version};
 ghost use Rattle.survey_file_theory.specs.Refusals.{some_number_not_finite, writer_refusal};
-ghost use Rattle.survey_file_writer.specs.Parts.{length_tests, taken, bytes_for};
+ghost use Rattle.survey_file_writer.specs.Parts.{length_tests, bytes_for};
 
-use error::{Judgement, Refusal};
-use survey::{MOST_WELLS, UniversalKrigingOptions};
+use error::Refusal;
+use survey::{MOST_WELLS, Survey};
 use survey_checks::counts::{external_columns, is_product};
 use survey_checks::refusals::number_not_finite;
 use variogram::Variogram;
@@ -22,92 +25,63 @@ const LONGEST_FILE: usize = 65_536;
 const TRAILER_LENGTH: usize = 14;
 
 // 1, 2, 6 and 8: the lengths of the lists.
-fn length_refusal(
-    values: &[f64],
-    coords: &[f64],
-    bases: &[u8],
-    external: &[f64],
-    nodes: &[f64],
-    node_external: &[f64],
-) -> Judgement
-    ensures { (o : UniversalKrigingOptions) (t : Float) → judged result ≡ first_of (length_tests
-        (survey_of values.now coords.now bases.now external.now
-        o nodes.now node_external.now t)) }
+fn length_refusal(survey: &Survey<'_>) -> Result<(), Refusal>
+    ensures { judged result ≡ first_of (length_tests (survey_lent survey.now)) }
 {
-    let n = values.len();
-    if coords.len() != 2 * n {
-        return Judgement::Refused(Refusal::CoordinatesLength);
+    let n = survey.wells();
+    if survey.coords.len() != 2 * n {
+        return Err(Refusal::CoordinatesLength);
     }
-    if nodes.len() % 2 != 0 {
-        return Judgement::Refused(Refusal::NodesLength);
+    if survey.nodes.len() % 2 != 0 {
+        return Err(Refusal::NodesLength);
     }
-    let k = external_columns(bases);
-    if !is_product(external.len(), k, n) {
-        return Judgement::Refused(Refusal::ExternalLength);
+    let k = external_columns(survey.bases);
+    if !is_product(survey.external.len(), k, n) {
+        return Err(Refusal::ExternalLength);
     }
-    if k > 0 && !is_product(node_external.len(), k, nodes.len() / 2) {
-        return Judgement::Refused(Refusal::NodeExternalLength);
+    if k > 0 && !is_product(survey.node_external.len(), k, survey.node_count()) {
+        return Err(Refusal::NodeExternalLength);
     }
-    Judgement::Accepted
+    Ok(())
 }
 
 // 11: whether a number of the file is not finite, r and t included.
-fn some_number_not_finite(
-    values: &[f64],
-    coords: &[f64],
-    bases: &[u8],
-    external: &[f64],
-    options: UniversalKrigingOptions,
-    nodes: &[f64],
-    node_external: &[f64],
-    tolerance: f64,
-) -> bool
-    ensures { result ≡ some_number_not_finite
-        (survey_of values.now coords.now bases.now external.now
-        options nodes.now node_external.now tolerance) }
+fn some_number_not_finite(survey: &Survey<'_>) -> bool
+    ensures { result ≡ some_number_not_finite (survey_lent survey.now) }
 {
-    if number_not_finite(
-        values,
-        coords,
-        bases,
-        external,
-        options,
-        nodes,
-        node_external,
-    ) {
-        return true;
-    }
-    if !ieee::is_finite(options.regularization) {
-        return true;
-    }
-    !ieee::is_finite(tolerance)
+    number_not_finite(survey)
+        || !ieee::is_finite(survey.options.regularization)
+        || !ieee::is_finite(survey.tolerance)
 }
 
-// How many node externals go into the file: none where no code takes them.
-pub(crate) fn taken_externals(bases: &[u8], len: usize) -> usize
-    ensures { result ≡ taken bases.now len }
+// 22: whether the same-spot distance is another than 2^-52. A file has no place for it, and is read with 2^-52.
+fn is_other_spot(same_spot: f64) -> bool
+    ensures test { result ≡ not (eq same_spot epsilon) }
+    ensures only { result ≡ false → same_spot ≡ epsilon }
 {
-    if external_columns(bases) == 0 {
-        return 0;
+    same_spot != Variogram::EPSILON
+}
+
+// The node externals that go into the file: none where no code takes them.
+pub(crate) fn taken_externals<'a>(survey: &Survey<'a>) -> &'a [f64]
+    ensures { result.now ≡ node_externals (survey_lent survey.now) }
+{
+    if external_columns(survey.bases) == 0 {
+        return &survey.node_external[..0];
     }
-    len
+    survey.node_external
 }
 
 // How many numbers the file has. No list of f64 in memory has 2^60 of them, so that the sum fits a word.
-fn number_count(
-    values: &[f64],
-    coords: &[f64],
-    bases: &[u8],
-    external: &[f64],
-    nodes: &[f64],
-    node_external: &[f64],
-) -> usize
-    ensures { (o : UniversalKrigingOptions) (t : Float) → result ≡ length (numbers
-        (survey_of values.now coords.now bases.now external.now
-        o nodes.now node_external.now t)) }
+fn number_count(survey: &Survey<'_>) -> usize
+    ensures { result ≡ length (numbers (survey_lent survey.now)) }
 {
-    let taken = taken_externals(bases, node_external.len());
-    5 + values.len() + coords.len() + external.len() + nodes.len() + taken
+    let taken = taken_externals(survey);
+    5 + survey.values.len()
+        + survey.coords.len()
+        + survey.external.len()
+        + survey.nodes.len()
+        + taken.len()
 }
 
 // Whether a file of so many numbers and codes is longer than `most` bytes. What is left of them is counted down: the file's length need not fit a word.
@@ -129,57 +103,29 @@ fn longer(count: usize, codes: usize, most: usize) -> bool
 fn is_too_long(n: usize, count: usize, codes: usize) -> bool
     ensures { result ≡ (ltb longest_file (bytes_for count codes) || ltb library.wells n) }
 {
-    if longer(count, codes, LONGEST_FILE) {
-        return true;
-    }
-    n > MOST_WELLS
+    longer(count, codes, LONGEST_FILE) || n > MOST_WELLS
 }
 
 // The first of them that applies.
-pub(crate) fn writer_refusal(
-    values: &[f64],
-    coords: &[f64],
-    bases: &[u8],
-    external: &[f64],
-    options: UniversalKrigingOptions,
-    nodes: &[f64],
-    node_external: &[f64],
-    tolerance: f64,
-    file: &[u8],
-) -> Judgement
-    ensures { judged result ≡ writer_refusal newest_version
-        (survey_of values.now coords.now bases.now external.now
-        options nodes.now node_external.now tolerance)
-        file.now }
+#[tactic(auto, unfolding(survey_file_theory::specs::Refusals::writer_refusal))]
+pub(crate) fn writer_refusal(survey: &Survey<'_>, file: &[u8]) -> Result<(), Refusal>
+    ensures judged { judged result ≡ writer_refusal newest_version (survey_lent survey.now) file.now }
+    ensures spot { judged result ≡ 0 → survey.now.options.variogram.same_spot ≡ epsilon }
 {
-    let lengths = length_refusal(values, coords, bases, external, nodes, node_external);
-    if let Judgement::Refused(_) = lengths {
-        return lengths;
+    length_refusal(survey)?;
+    if some_number_not_finite(survey) {
+        return Err(Refusal::NotFinite);
     }
-    if some_number_not_finite(
-        values,
-        coords,
-        bases,
-        external,
-        options,
-        nodes,
-        node_external,
-        tolerance,
-    ) {
-        return Judgement::Refused(Refusal::NotFinite);
+    if is_other_spot(survey.options.variogram.same_spot) {
+        return Err(Refusal::SameSpot);
     }
-    // a file has no place for the same-spot distance, and is read with 2^-52
-    let variogram = options.variogram;
-    if variogram.same_spot != Variogram::EPSILON {
-        return Judgement::Refused(Refusal::SameSpot);
-    }
-    let count = number_count(values, coords, bases, external, nodes, node_external);
-    let codes = bases.len();
-    if is_too_long(values.len(), count, codes) {
-        return Judgement::Refused(Refusal::SurveyFile);
+    let count = number_count(survey);
+    let codes = survey.bases.len();
+    if is_too_long(survey.wells(), count, codes) {
+        return Err(Refusal::SurveyFile);
     }
     if longer(count, codes, file.len()) {
-        return Judgement::Refused(Refusal::AnswerArea);
+        return Err(Refusal::AnswerArea);
     }
-    Judgement::Accepted
+    Ok(())
 }

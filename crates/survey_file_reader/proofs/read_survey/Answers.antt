@@ -1,44 +1,31 @@
 -- `survey_file_reader::read_survey` meets its contract: its parts are those of the definition, one after the other.
-use mathlib.Core.Path.{◌≡◌, ap, sym, ◌∙◌}
-use Rattle.error.specs.Numbers.{judged}
+use mathlib.Core.Path.{ap, sym, ◌∙◌}
+use Rattle.std.proofs.lemmas.Result.{err_from_is_err_and}
+use Rattle.error.specs.Numbers.{number_of}
 use Rattle.survey_file_theory.specs.File.{newest_version}
-use Rattle.survey_file_theory.specs.Areas.{Areas}
-use Rattle.survey_file_theory.specs.Rules.{WellFormed, ListsFit}
-use Rattle.survey_file_theory.specs.Refusals.{reader_refusal}
-use Rattle.survey_file_reader.specs.Counts.{areas_of}
+use Rattle.survey_file_theory.specs.Lent.{areas_lent}
 use Rattle.survey_file_reader.proofs.Whole.{accepted, refused_is, done_is, has_ends}
 use Rattle.survey_file_reader.proofs.read_survey.Goals as goal
 
-pub returns-in-Refused : goal.returns-in-Refused
-returns-in-Refused c =
-    let lent : Areas = let a = c.args in areas_of a.values.now a.coords.now a.bases.now a.external.now a.nodes.now a.node_external.now in
-    let xs = c.args.bytes.now in
-    let both = has_ends newest_version xs lent (refused_is newest_version xs lent c.reader_refusal-judgement.result c.in-Refused.refusal c.in-Refused.is c.reader_refusal-judgement.ensures) in
-    record { equation = both.0; ends = both.1 }
+pub returns-in_err-reader_refusal-clause-equation : goal.returns-in_err-reader_refusal-clause-equation
+returns-in_err-reader_refusal-clause-equation c =
+    let p = err_from_is_err_and c.from_residual.result c.from_residual.ensures.1 in
+    refused_is newest_version _ (areas_lent c.args.areas.now) p.0 p.1 (ap number_of p.2 ∙ c.in_err-reader_refusal.ensures)
+
+pub returns-in_err-reader_refusal-clause-ends : goal.returns-in_err-reader_refusal-clause-ends
+returns-in_err-reader_refusal-clause-ends c = has_ends newest_version _ _ (returns-in_err-reader_refusal-clause-equation c)
 
 -- read_lists(
 pub read_lists-requires : goal.read_lists-requires
-read_lists-requires c =
-    let lent : Areas = let a = c.args in areas_of a.values.now a.coords.now a.bases.now a.external.now a.nodes.now a.node_external.now in
-    let no_refusal : (reader_refusal newest_version c.args.bytes.now lent ≡ 0) = sym c.reader_refusal-judgement.ensures ∙ ap judged c.in_default.is in
-    let is-accepted : (WellFormed newest_version c.args.bytes.now × ListsFit c.args.bytes.now lent) = accepted newest_version c.args.bytes.now lent no_refusal in
-    is-accepted
+read_lists-requires c = accepted newest_version _ _ (sym c.in_ok-reader_refusal.ensures)
 
--- Read::Done(read_header(bytes))
+-- Ok(read_header(bytes))
 pub read_header-requires : goal.read_header-requires
-read_header-requires c =
-    let lent : Areas = let a = c.args in areas_of a.values.now a.coords.now a.bases.now a.external.now a.nodes.now a.node_external.now in
-    let no_refusal : (reader_refusal newest_version c.args.bytes.now lent ≡ 0) = sym c.reader_refusal-judgement.ensures ∙ ap judged c.in_default.is in
-    let is-accepted : (WellFormed newest_version c.args.bytes.now × ListsFit c.args.bytes.now lent) = accepted newest_version c.args.bytes.now lent no_refusal in
-    is-accepted.0
+read_header-requires c = (accepted newest_version _ _ (sym c.in_ok-reader_refusal.ensures)).0
 
-pub returns : goal.returns
-returns c =
-    let lent : Areas = let a = c.args in areas_of a.values.now a.coords.now a.bases.now a.external.now a.nodes.now a.node_external.now in
-    let left : Areas =
-    let r = c.read_lists.new in
-    areas_of r.values r.coords r.bases r.external r.nodes r.node_external in
-    let no_refusal : (reader_refusal newest_version c.args.bytes.now lent ≡ 0) = sym c.reader_refusal-judgement.ensures ∙ ap judged c.in_default.is in
-    let xs = c.args.bytes.now in
-    let both = has_ends newest_version xs lent (done_is newest_version xs lent {after = left} no_refusal c.read_header.ensures c.read_lists.ensures) in
-    record { equation = both.0; ends = both.1 }
+pub returns-clause-equation : goal.returns-clause-equation
+returns-clause-equation c =
+    done_is newest_version c.args.bytes.now (areas_lent c.args.areas.now) (sym c.in_ok-reader_refusal.ensures) c.read_header.ensures c.read_lists.ensures.filled
+
+pub returns-clause-ends : goal.returns-clause-ends
+returns-clause-ends c = has_ends newest_version _ _ (returns-clause-equation c)

@@ -7,13 +7,18 @@ use mathlib.Core.List.{List}
 use lib.Dec.{lit<}
 use lib.ListN.{get_or, drop}
 use lib.Ieee.{Float, nan, binary64, of_bits}
+use Rattle.std.specs.Prelude.{Result}
+use Rattle.std.specs.Result.{result_unwrap_or}
 use Rattle.ieee.specs.Bytes.{f64s_in}
+use Rattle.variogram.specs.declared.VariogramModel.{VariogramModel}
+use Rattle.variogram.specs.declared.VariogramModel.TheVariants.{Linear}
+use Rattle.variogram.specs.declared.UnknownModel.{UnknownModel}
+use Rattle.survey_file_theory.proofs.Models.{same_model}
 use Rattle.patterns.specs.Words.{word_at}
 use Rattle.variogram.specs.Model.{variogram}
 use Rattle.survey_file_theory.specs.Contents.{number_count}
 use Rattle.survey_file_theory.specs.Trailer.{start_in, wells_in, nodes_in, externals_in}
 use Rattle.survey_file_theory.specs.Reader.{model_of, survey_in}
-use Rattle.survey_file_reader.specs.declared.trailer.Counts.{Counts}
 use Rattle.survey_file_reader.proofs.Places.{byte_in}
 use Rattle.survey_file_reader.proofs.Numbers.{number_at}
 use Rattle.survey_file_reader.proofs.header.read_header.Goals as goal
@@ -37,16 +42,17 @@ unfolding survey_in
 returns c =
     let v = c.new in
     let xs = c.args.bytes.now in
-    let e = c.read_counts-counts.ensures.0 in
-    let at = ap (λ (k : Counts). k.start) e in
-    let m = c.model_of-model.ensures ∙ ap model_of (byte_in xs 10) in
+    let e = c.counts-counts.ensures in
+    let at = e.start in
+    let model = c.unwrap_or-model.ensures ∙ ap (λ (r : Result VariogramModel UnknownModel). result_unwrap_or r Linear) c.try_from.ensures in
+    let m = model ∙ same_model _ ∙ ap model_of (byte_in xs 10) in
     let nugget = first xs at c.number_at-nugget.ensures in
     let sill = later xs 1 (lit< tt) at c.number_at-sill.ensures in
     let made = v.ensures ∙ (λ i. variogram (m i) (nugget i) (sill i) (later xs 2 (lit< tt) at c.number_at-range.ensures i)) in
     λ i. record {
-      wells = (e i).wells;
-      nodes = (e i).nodes;
-      bases = (e i).bases;
+      wells = e.wells i;
+      nodes = e.nodes i;
+      bases = e.bases i;
       options = record { variogram = made i; regularization = later xs 3 (lit< tt) at c.number_at.ensures i };
       tolerance = later xs 4 (lit< tt) at c.number_at-2.ensures i;
     }

@@ -1,31 +1,23 @@
--- `survey_file_writer::bytes::put_numbers` meets its contract: after j turns the bytes of the first j numbers are put.
-use Prim.Native.Nat.{ℕ, ◌+◌}
-use native.Mathlib.Numerals.{add-one}
-use mathlib.Core.List.{◌++◌}
-use mathlib.Core.Path.{refl, ap, sym, ◌∙◌}
-use native.Mathlib.Omega.{arith}
-use lib.ListN.{take}
-use Rattle.ieee.specs.Bytes.{little_endian, f64_bytes}
-use Rattle.area.specs.Placed.{Put}
-use Rattle.area.proofs.Placed.{put_none, put_then, put_as}
-use Rattle.survey_file_writer.proofs.Placed.{length-little, f64_more}
+-- `survey_file_writer::bytes::put_numbers` meets its contract: number after number is put.
+use mathlib.Core.Path.{ap}
+use Rattle.std.proofs.lemmas.List.{take_all}
+use Rattle.ieee.specs.Bytes.{f64_bytes}
+use Rattle.area.proofs.Placed.{puts_none, puts_as}
+use Rattle.survey_file_writer.proofs.Fit.{each_fits}
+use Rattle.survey_file_writer.proofs.Placed.{put_one_more}
 use Rattle.survey_file_writer.proofs.bytes.put_numbers.Goals as goal
 
--- for j in 0..numbers.len() {
-pub loop-j-init : goal.loop-j-init
+pub loop-number-init : goal.loop-number-init
 unfolding f64_bytes
-loop-j-init c = let a = c.args in (omega arith, refl, refl, omega arith, put_none a.at a.file.now)
+loop-number-init c = puts_none c.args.place.now
 
-pub loop-j-preserved : goal.loop-j-preserved
-loop-j-preserved c =
-    let one_more : (let a = c.args in
-    Put a.at (f64_bytes (take (c.loop-j.j + 1) a.numbers.now)) a.file.now c.put_word-next.result c.put_word-next.new.file) =
-    let xs = c.args.numbers.now in
-    let j = c.loop-j.j in
-    put_as
-    (ap (λ (w : ℕ). f64_bytes (take j xs) ++ little_endian 8 w) c.pattern.ensures
-    ∙ f64_more xs j (omega arith)
-    ∙ ap (λ (k : ℕ). f64_bytes (take k xs)) (sym (add-one j)))
-    (put_then c.loop-j.invariant.4 c.put_word-next.ensures) in
-    let l = length-little 8 c.pattern.result in
-    (omega arith, refl, omega arith, omega (arith, c.put_word-next.ensures.past), one_more)
+pub loop-number-preserved : goal.loop-number-preserved
+loop-number-preserved c =
+    let l = c.loop-number in
+    put_one_more c.args.numbers.now l.number-index c.loop-number-test.true c.pattern.ensures c.to_le_bytes.ensures c.requires l.invariant c.put_bytes.ensures
+
+pub returns-clause-put : goal.returns-clause-put
+returns-clause-put c = puts_as (ap f64_bytes (take_all _ c.args.numbers.now c.loop-number-test.false)) c.loop-number.invariant
+
+pub returns-clause-fit : goal.returns-clause-fit
+returns-clause-fit c = each_fits c.args.numbers.now c.type_inv.numbers

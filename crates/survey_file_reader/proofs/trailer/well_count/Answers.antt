@@ -1,7 +1,0 @@
--- `survey_file_reader::trailer::well_count` meets its contract.
-use mathlib.Core.Path.{◌∙◌}
-use Rattle.survey_file_reader.proofs.Places.{number_in_lem}
-use Rattle.survey_file_reader.proofs.trailer.well_count.Goals as goal
-
-pub returns : goal.returns
-returns c = let e = c.number.ensures in (e.0 ∙ number_in_lem c.args.bytes.now 4 2, e.1)
