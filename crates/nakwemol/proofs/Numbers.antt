@@ -1,6 +1,4 @@
--- The numbers of the refusals, beside 0 and beside the number of a code that is none.
-use Prim.Native.Nat.{ℕ, zero, suc}
-use mathlib.Core.Path.{◌≡◌, refl}
+-- The numbers of the refusals, beside the number of a code that is none.
 use mathlib.Core.Logic.{◌≢◌}
 use native.Mathlib.Omega.{arith}
 use Rattle.error.specs.declared.Refusal.{Refusal}
@@ -8,19 +6,9 @@ use Rattle.error.specs.declared.Refusal.TheVariants.{CoordinatesLength, NodesLen
 use Rattle.error.specs.declared.Refusal.TheVariants.{TooFewWells, NodeExternalLength, TooMany, Tolerance, NotFinite, Model}
 use Rattle.error.specs.declared.Refusal.TheVariants.{Dimension, TooFewSamples, Bins, SurveyFile, WorkArea, AnswerArea, Singular, SameSpot}
 use Rattle.error.specs.Numbers.{number_of}
-use Rattle.error.proofs.First as First
 use Rattle.nakwemol.specs.Codes.{unknown_code}
-use Rattle.nakwemol.specs.Told.{kept_where}
 
--- no refusal has the number 0, so where a call is refused nothing is told
-pub place_kept : (r : Refusal) (kept place : ℕ) → place ≡ kept_where (number_of r) kept place
-place_kept r kept place = go (number_of r) (First.numbers r)
-  where
-    go : (k : ℕ) → (k ≡ 0 → ⊥) → place ≡ kept_where k kept place
-    go zero h = absurd (h refl)
-    go (suc k) h = refl
-
--- and none has that of a code that is none: the two are never taken for one another
+-- no refusal has that of a code that is none: the two are never taken for one another
 pub no_refusal : (r : Refusal) → number_of r ≢ unknown_code
 no_refusal CoordinatesLength h = omega arith
 no_refusal NodesLength h = omega arith

@@ -36,6 +36,11 @@ abbrev pub length_told : Writer.Outcome → ℕ → Ending ℕ (List ℕ)
 length_told e place = ending e.number (length_where e.count place) e.area
 
 -- ---- the file's reader
+-- the areas of a call, list by list
+abbrev pub lists_of : List Float → List Float → List ℕ → List Float → List Float → List Float → File.Areas
+lists_of values coords bases external nodes node_external =
+    record { values = values; coords = coords; bases = bases; external = external; nodes = nodes; node_external = node_external }
+
 -- what a file says besides its lists: "n, m, code count", "nugget, sill, range, r, t" and "model 1 to 4"
 pub record Heading : Type 0 where
   pub counts : List ℕ

@@ -3,27 +3,19 @@ ghost use Rattle.std.specs.Prelude.{◌≡◌};
 ghost use Rattle.error.specs.Outcome.{outcome};
 ghost use Rattle.survey.specs.Limits.{library};
 ghost use Rattle.survey.specs.Survey.{survey_of};
-ghost use Rattle.kriging_theory.specs.Areas.{Areas, areas_of};
+ghost use Rattle.variogram.specs.Numbers.{model_of};
+ghost use Rattle.kriging_theory.specs.Areas.{areas_of};
 ghost use Rattle.kriging_theory.specs.Fit.{fitted};
-ghost use Rattle.kriging.specs.Outcome.{outcome_of};
-ghost use Rattle.nakwemol.specs.Codes.{model_of, by_model, unknown_code, options_of};
+ghost use Rattle.nakwemol.specs.Codes.{by_code, unknown_code, options_of};
 
-use crate::codes::{CodedModel, UNKNOWN_CODE, model_of, variogram_of};
-use kriging::{Fit, universal_kriging_fit};
-use survey::UniversalKrigingOptions;
-
-// The number of a fit's answer.
-fn fit_number(fit: Fit) -> u8
-    ensures { (a : Areas) → outcome result a ≡ outcome_of fit a }
-{
-    match fit {
-        Fit::Done => 0,
-        Fit::Refused(refusal) => error::number(refusal),
-    }
-}
+use crate::codes::{UNKNOWN_CODE, variogram_of};
+use kriging::{Areas, universal_kriging_fit};
+use survey::{Survey, UniversalKrigingOptions};
+use variogram::VariogramModel;
 
 // `universal_kriging_fit`: 0 where the areas hold the answer, else what turned the call away. Below the distance `same_spot` the variogram is 0. 100 where the
 // model's code is none, before all others.
+// kept: every list, number and area is a parameter of its own, and the answer a number: the C interface
 #[unsafe(no_mangle)]
 pub extern "C" fn nakwemol_fit(
     values: &[f64],
@@ -51,27 +43,27 @@ pub extern "C" fn nakwemol_fit(
         weights.old multipliers.old trend.old in
         outcome result (areas_of work.new predicted.new variance.new verdicts.new
         weights.new multipliers.new trend.new)
-        ≡ by_model (model_of model) (outcome unknown_code a)
+        ≡ by_code (model_of model) (outcome unknown_code a)
         (λ m. fitted library (survey_of values.now coords.now bases.now external.now
         (options_of m nugget sill range same_spot regularization) nodes.now node_external.now tolerance) a) }
 {
-    let coded = model_of(model);
-    let CodedModel::Known(known) = coded else {
+    let Ok(known) = VariogramModel::try_from(model) else {
         return UNKNOWN_CODE;
     };
-    let options = UniversalKrigingOptions {
-        variogram: variogram_of(known, nugget, sill, range, same_spot),
-        regularization,
-    };
-    let fit = universal_kriging_fit(
+    let survey = Survey {
         values,
         coords,
         bases,
         external,
-        options,
+        options: UniversalKrigingOptions {
+            variogram: variogram_of(known, nugget, sill, range, same_spot),
+            regularization,
+        },
         nodes,
         node_external,
         tolerance,
+    };
+    let mut areas = Areas {
         work,
         predicted,
         variance,
@@ -79,6 +71,7 @@ pub extern "C" fn nakwemol_fit(
         weights,
         multipliers,
         trend,
-    );
-    fit_number(fit)
+    };
+    let fit = universal_kriging_fit(&survey, &mut areas);
+    error::ended_by(&fit)
 }

@@ -5,15 +5,16 @@ use mathlib.Core.Path.{◌≡◌, refl, ap, sym, subst, ◌∙◌}
 use mathlib.Core.List.{List, ◌++◌}
 use lib.ListN.{length, take, length-append}
 use lib.Seq.{take_at}
-use Rattle.survey.specs.Survey.{survey_of, external_count}
+use Rattle.std.specs.Prelude.{Ok}
+use Rattle.survey.specs.Survey.{Survey, survey_of, external_count}
 use Rattle.survey_file_theory.specs.declared.Header.{Header}
-use Rattle.survey_file_theory.specs.declared.Read.{Read}
 use Rattle.survey_file_theory.specs.File.{newest_version}
 use Rattle.survey_file_theory.specs.Areas.{Areas}
-use Rattle.survey_file_theory.specs.Rules.{WellFormed}
 use Rattle.survey_file_theory.specs.Trailer.{wells_in, nodes_in, bases_in, externals_in}
 use Rattle.survey_file_theory.specs.Reader.{survey_in, header_of, outcome_of, ListLengths, Filled, Ends}
 use Rattle.survey_map.specs.Areas.{externals_held, Holding, survey_held}
+use Rattle.survey_map.specs.Text.{survey_text, file_text}
+use Rattle.survey_map.proofs.Texts.{read_text}
 
 -- a list in the first places of an area
 first : {A : Type 0} (area xs rest : List A) (n : ℕ) → length xs ≡ n → area ≡ xs ++ rest → take n area ≡ xs
@@ -59,17 +60,18 @@ module _ (bytes : List ℕ) where
         λ i. survey_of (values i) (coords i) (codes i) (external i) (survey_in bytes).options (nodes i) (node_external i) (survey_in bytes).tolerance
 
 -- ---- after a call that read
-module _ (bytes : List ℕ) (before after : Areas) (h : Header) (e : Ends newest_version bytes before (outcome_of (Read.Done h) after)) where
-  pub read_well_formed : WellFormed newest_version bytes
-  read_well_formed = (e.accepted.0 refl).0
-
+module _ (bytes : List ℕ) (before after : Areas) (h : Header) (e : Ends newest_version bytes before (outcome_of (Ok h) after)) where
   told : header_of (wells_in bytes) (nodes_in bytes) (bases_in bytes) (survey_in bytes) ≡ h
   told = let x = (e.reads refl).header in cc
 
   pub read_holding : Holding h after
   read_holding = let r = e.reads refl in subst (λ (g : Header). Holding g after) told (holding bytes before after r.lengths r.filled)
 
-  pub read_held : survey_held h after ≡ survey_in bytes
+  read_held : survey_held h after ≡ survey_in bytes
   read_held =
       let r = e.reads refl in
       ap (λ (g : Header). survey_held g after) (sym told) ∙ held bytes before after r.lengths r.filled
+
+  -- what is printed of it
+  pub held_text : {s : Survey} → s ≡ survey_held h after → survey_text s ≡ file_text bytes
+  held_text same = ap survey_text (same ∙ read_held) ∙ read_text bytes (e.accepted.0 refl).0

@@ -6,3 +6,4 @@ pub mod Answer
 pub mod Texts
 pub mod Input
 pub mod Held
+pub mod Program

@@ -6,7 +6,6 @@ use Rattle.survey.specs.Survey.{Survey, survey_of, external_count}
 use Rattle.kriging_theory.specs.Areas as fit
 use Rattle.survey_file_theory.specs.Areas as file
 use Rattle.survey_file_theory.specs.declared.Header.{Header}
-use Rattle.survey_file_reader.specs.Counts as reader
 
 -- the most numbers of a file's list: 65,536 bytes have room for 8,190 before the trailer, five of them are in no list, and nodes are an even count
 abbrev pub most_numbers : ℕ
@@ -20,7 +19,14 @@ most_codes = 65482
 unfoldable pub own_lists : file.Areas
 own_lists =
     let numbers = replicate most_numbers zero_float in
-    reader.areas_of numbers numbers (replicate most_codes 0) numbers numbers numbers
+    record {
+      values = numbers;
+      coords = numbers;
+      bases = replicate most_codes 0;
+      external = numbers;
+      nodes = numbers;
+      node_external = numbers;
+    }
 
 -- the most that a fit of the program needs: "n > 48, p > 12 or m > 100" is refused
 abbrev pub most_nodes : ℕ

@@ -1,24 +1,26 @@
 // From the bytes of a survey file to the text that `wellmap` prints: the reader, the fit and the report, one after another.
 #![tactic(auto)]
 
-ghost use Rattle.std.specs.Prelude.{◌≡◌, ◌≤◌, length, take, replicate};
-ghost use Rattle.survey.specs.Survey.{survey_of, column_sum};
+ghost use Rattle.std.specs.Prelude.{◌≡◌, ◌≤◌, length, replicate};
+ghost use Rattle.error.specs.Outcome.{outcome, ended};
+ghost use Rattle.survey.specs.Lent.{survey_lent};
 ghost use Rattle.survey.specs.Limits.{program};
-ghost use Rattle.survey.specs.Refusals.{survey_refusal};
-ghost use Rattle.survey_file_reader.specs.Counts.{areas_of};
-ghost use Rattle.report.specs.Listing.{listing, longest};
+ghost use Rattle.kriging_theory.specs.Fit.{fitted};
+ghost use Rattle.kriging.specs.Lent.{areas_lent, StillLent};
+ghost use Rattle.survey_file_theory.specs.Lent as file;
+ghost use Rattle.report.specs.Listing.{longest};
 ghost use Rattle.report.specs.Printed.{outcome_of, printed};
-ghost use Rattle.survey_map.specs.Areas.{Holding, survey_held};
+ghost use Rattle.survey_map.specs.Areas.{own_areas, Holding, survey_held};
 ghost use Rattle.survey_map.specs.Text.{survey_text, file_text, bytes_read};
 
-use error::Judgement;
-use kriging::{Fit, universal_kriging_fit};
-use report::{Printed, write_listing, write_refusal};
-use survey::{Limits, UniversalKrigingOptions};
+use error::Refusal;
+use kriging::universal_kriging_fit;
+use report::{Answer, Unprinted, write_listing, write_refusal};
+use survey::{Limits, Survey};
 use survey_checks::counts::{drift_columns, external_columns};
 use survey_checks::refusals::survey_refusal;
 use survey_file_reader::read_survey;
-use survey_file_theory::{Header, Read};
+use survey_file_theory::Header;
 
 // The most nodes and columns of an accepted fit, the work area of its wells and columns, 2 * s * s, and the weights of its wells at its nodes.
 const NODES: usize = survey::MOST_NODES;
@@ -43,66 +45,51 @@ const INPUT: usize = 65537;
 pub fn input_area() -> [u8; INPUT]
     ensures { result ≡ replicate bytes_read 0 }
 {
-    [0; INPUT]
+    [0; INPUT] // kept: a fixed area, since there is no heap
 }
 
-// The listing of an accepted fit of m nodes, from the first places of the areas that hold its answer.
+// The fit of a survey by the limits of the program. More than 48 wells are refused by 9, in its own place, though the library would take them: only what the
+// program takes comes to the library's fit.
+#[tactic(auto, using(crate::proofs::Program::by_limits, crate::proofs::Program::by_library))]
+fn fit(survey: &Survey<'_>, areas: &mut kriging::Areas<'_>) -> Result<(), Refusal>
+    ensures fitted { ended result (areas_lent areas.new) ≡ fitted program (survey_lent survey.now) (areas_lent areas.old) }
+    ensures lent { StillLent areas.old areas.new }
+{
+    survey_refusal(Limits::program(), survey)?;
+    universal_kriging_fit(survey, areas)
+}
+
+// The listing of an accepted fit, from the first places of the areas that hold it.
+#[tactic(auto, using(crate::proofs::Answer::listable))]
 fn print_answer(
-    bases: &[u8],
-    m: usize,
-    predicted: &[f64],
-    variance: &[f64],
-    verdicts: &[u8],
-    multipliers: &[f64],
-    trend: &[f64],
+    survey: &Survey<'_>,
+    areas: &kriging::Areas<'_>,
     text: &mut [u8],
-) -> Printed
-    requires { (m ≤ 100) × (m ≤ length predicted.now) × (m ≤ length variance.now) × (m ≤ length verdicts.now)
-        × (column_sum bases.now ≤ 12) × (column_sum bases.now ≤ length multipliers.now) × (column_sum bases.now ≤ length trend.now) }
-    ensures equation { outcome_of result text.new ≡ printed
-        (listing (take m predicted.now) (take m variance.now) (take m verdicts.now)
-        (take (column_sum bases.now) multipliers.now) (take (column_sum bases.now) trend.now))
-        text.old }
-    ensures longest { length
-        (listing (take m predicted.now) (take m variance.now) (take m verdicts.now)
-        (take (column_sum bases.now) multipliers.now) (take (column_sum bases.now) trend.now))
-        ≤ longest }
+) -> Result<usize, Unprinted>
+    requires { outcome 0 (areas_lent areas.now) ≡ fitted program (survey_lent survey.now) own_areas }
+    ensures equation { outcome_of result text.new ≡ printed (survey_text (survey_lent survey.now)) text.old }
+    ensures longest { length (survey_text (survey_lent survey.now)) ≤ longest }
 {
-    let p = drift_columns(bases);
-    write_listing(
-        &predicted[..m],
-        &variance[..m],
-        &verdicts[..m],
-        &multipliers[..p],
-        &trend[..p],
-        text,
-    )
+    let m = survey.node_count();
+    let p = drift_columns(survey.bases);
+    let answer = Answer {
+        predicted: &areas.predicted[..m],
+        variance: &areas.variance[..m],
+        verdicts: &areas.verdicts[..m],
+        multipliers: &areas.multipliers[..p],
+        trend: &areas.trend[..p],
+    };
+    write_listing(&answer, text)
 }
 
-// The text of a survey that the program takes, which the library then takes too. The fit has areas of its own, as long as it can need, so that 17 and 18
-// never show.
-fn print_taken(
-    values: &[f64],
-    coords: &[f64],
-    bases: &[u8],
-    external: &[f64],
-    options: UniversalKrigingOptions,
-    nodes: &[f64],
-    node_external: &[f64],
-    tolerance: f64,
-    text: &mut [u8],
-) -> Printed
-    requires { survey_refusal program (survey_of values.now coords.now bases.now external.now options nodes.now node_external.now tolerance)
-        ≡ 0 }
-    ensures equation { outcome_of result text.new ≡ printed
-        (survey_text (survey_of values.now coords.now bases.now external.now
-        options nodes.now node_external.now tolerance))
-        text.old }
-    ensures longest { length
-        (survey_text (survey_of values.now coords.now bases.now external.now
-        options nodes.now node_external.now tolerance))
-        ≤ longest }
+// The fit of a survey, and its listing or its refusal as text. The options carry the same-spot distance, and 22 shows where it is wrong. The fit has areas of
+// its own, as long as it can need, so that 17 and 18 never show.
+#[tactic(auto, using(crate::proofs::Texts::endings), unfolding(crate::specs::Areas::own_areas))]
+pub fn print_fit(survey: &Survey<'_>, text: &mut [u8]) -> Result<usize, Unprinted>
+    ensures equation { outcome_of result text.new ≡ printed (survey_text (survey_lent survey.now)) text.old }
+    ensures longest { length (survey_text (survey_lent survey.now)) ≤ longest }
 {
+    // Kept: fixed areas, since there is no heap.
     let mut work = [0.0; WORK];
     let mut predicted = [0.0; NODES];
     let mut variance = [0.0; NODES];
@@ -110,158 +97,66 @@ fn print_taken(
     let mut weights = [0.0; WEIGHTS];
     let mut multipliers = [0.0; COLUMNS];
     let mut trend = [0.0; COLUMNS];
-    let fit = universal_kriging_fit(
-        values,
-        coords,
-        bases,
-        external,
-        options,
-        nodes,
-        node_external,
-        tolerance,
-        &mut work,
-        &mut predicted,
-        &mut variance,
-        &mut verdicts,
-        &mut weights,
-        &mut multipliers,
-        &mut trend,
-    );
-    match fit {
-        Fit::Done => print_answer(
-            bases,
-            nodes.len() / 2,
-            &predicted,
-            &variance,
-            &verdicts,
-            &multipliers,
-            &trend,
-            text,
-        ),
-        Fit::Refused(refusal) => write_refusal(refusal, text),
+    let mut areas = kriging::Areas {
+        work: &mut work,
+        predicted: &mut predicted,
+        variance: &mut variance,
+        verdicts: &mut verdicts,
+        weights: &mut weights,
+        multipliers: &mut multipliers,
+        trend: &mut trend,
+    };
+    match fit(survey, &mut areas) {
+        Ok(()) => print_answer(survey, &areas, text),
+        Err(refusal) => write_refusal(refusal, text),
     }
 }
 
-// The fit of a survey, and its listing or its refusal as text. More than 48 wells are refused by 9, in its own place, though the library would take them:
-// the program judges by its own limits, and only what it takes comes to the library's fit. The options carry the same-spot distance, and 22 shows where it is
-// wrong.
-pub fn print_fit(
-    values: &[f64],
-    coords: &[f64],
-    bases: &[u8],
-    external: &[f64],
-    options: UniversalKrigingOptions,
-    nodes: &[f64],
-    node_external: &[f64],
-    tolerance: f64,
-    text: &mut [u8],
-) -> Printed
-    ensures equation { outcome_of result text.new ≡ printed
-        (survey_text (survey_of values.now coords.now bases.now external.now
-        options nodes.now node_external.now tolerance))
-        text.old }
-    ensures longest { length
-        (survey_text (survey_of values.now coords.now bases.now external.now
-        options nodes.now node_external.now tolerance))
-        ≤ longest }
-{
-    let judgement = survey_refusal(
-        Limits::program(),
-        values,
-        coords,
-        bases,
-        external,
-        options,
-        nodes,
-        node_external,
-        tolerance,
-    );
-    match judgement {
-        Judgement::Accepted => print_taken(
-            values,
-            coords,
-            bases,
-            external,
-            options,
-            nodes,
-            node_external,
-            tolerance,
-            text,
-        ),
-        Judgement::Refused(refusal) => write_refusal(refusal, text),
-    }
-}
-
-// The text of a survey that was read: its lists are in the first places of these.
-fn print_read(
-    header: Header,
-    values: &[f64],
-    coords: &[f64],
-    bases: &[u8],
-    external: &[f64],
-    nodes: &[f64],
-    node_external: &[f64],
-    text: &mut [u8],
-) -> Printed
-    requires { Holding header (areas_of values.now coords.now bases.now external.now nodes.now node_external.now) }
-    ensures equation { outcome_of result text.new ≡ printed
-        (survey_text (survey_held header (areas_of values.now coords.now bases.now external.now
-        nodes.now node_external.now)))
-        text.old }
-    ensures longest { length
-        (survey_text (survey_held header (areas_of values.now coords.now bases.now external.now
-        nodes.now node_external.now)))
-        ≤ longest }
+// The survey that was read: its lists are in the first places of the areas, the rest is in the header.
+fn survey_read<'a>(header: Header, areas: &'a survey_file_theory::Areas<'_>) -> Survey<'a>
+    requires { Holding header (file.areas_lent areas.now) }
+    ensures { survey_lent result ≡ survey_held header (file.areas_lent areas.now) }
 {
     let n = header.wells;
     let m = header.nodes;
     let count = header.bases;
-    let codes = &bases[..count];
-    let k = external_columns(codes);
-    print_fit(
-        &values[..n],
-        &coords[..2 * n],
-        codes,
-        &external[..k * n],
-        header.options,
-        &nodes[..2 * m],
-        &node_external[..k * m],
-        header.tolerance,
-        text,
-    )
+    let bases = &areas.bases[..count];
+    let k = external_columns(bases);
+    Survey {
+        values: &areas.values[..n],
+        coords: &areas.coords[..2 * n],
+        bases,
+        external: &areas.external[..k * n],
+        options: header.options,
+        nodes: &areas.nodes[..2 * m],
+        node_external: &areas.node_external[..k * m],
+        tolerance: header.tolerance,
+    }
 }
 
-// A survey file's text: the listing of its fit, or why there is none. A file is read with a same-spot distance of 2^-52, so that 22 never shows.
-pub fn print_survey(bytes: &[u8], text: &mut [u8]) -> Printed
+// A survey file's text: the listing of its fit, or why there is none. A file is read with a same-spot distance of 2^-52, so that 22 never shows. The reader has
+// areas that are as long as the lists of any file, so that 18 never shows.
+pub fn print_survey(bytes: &[u8], text: &mut [u8]) -> Result<usize, Unprinted>
     ensures equation { outcome_of result text.new ≡ printed (file_text bytes.now) text.old }
     ensures longest { length (file_text bytes.now) ≤ longest }
 {
+    // Kept: fixed areas, since there is no heap.
     let mut values = [0.0; NUMBERS];
     let mut coords = [0.0; NUMBERS];
     let mut bases = [0u8; CODES];
     let mut external = [0.0; NUMBERS];
     let mut nodes = [0.0; NUMBERS];
     let mut node_external = [0.0; NUMBERS];
-    let read = read_survey(
-        bytes,
-        &mut values,
-        &mut coords,
-        &mut bases,
-        &mut external,
-        &mut nodes,
-        &mut node_external,
-    );
-    match read {
-        Read::Done(header) => print_read(
-            header,
-            &values,
-            &coords,
-            &bases,
-            &external,
-            &nodes,
-            &node_external,
-            text,
-        ),
-        Read::Refused(refusal) => write_refusal(refusal, text),
+    let mut areas = survey_file_theory::Areas {
+        values: &mut values,
+        coords: &mut coords,
+        bases: &mut bases,
+        external: &mut external,
+        nodes: &mut nodes,
+        node_external: &mut node_external,
+    };
+    match read_survey(bytes, &mut areas) {
+        Ok(header) => print_fit(&survey_read(header, &areas), text),
+        Err(unread) => write_refusal(unread, text),
     }
 }
