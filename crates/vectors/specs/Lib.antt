@@ -1,4 +1,5 @@
 pub mod Counted
 pub mod Lent
+pub mod Surveys
 pub mod Tallied
 pub mod Words

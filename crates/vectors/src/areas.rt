@@ -1,123 +1,96 @@
 // Lists that come in, and areas that are lent: what each place holds before a call, and what it is held to after.
-ghost use Rattle.std.specs.Prelude.{◌≡◌, min, length, take, from_bits, slice_index_or, to_bits};
-ghost use Rattle.std.specs.Float.{nan, binary64};
+ghost use Rattle.std.specs.Prelude.{◌≡◌, length, map, take, slice_index_or};
 ghost use Rattle.area.specs.Area.{table, Kept};
-ghost use Rattle.vectors.specs.Lent.{mark_at, between, compared_at, compared_to};
+ghost use Rattle.vectors.specs.Lent.{between, compared_at, compared_to};
 
-use crate::counts::{UNTOUCHED, compared};
-
-// What every place of a lent area holds before a call: a pattern for each place.
-const MARK: u64 = 0x4730_0000_0000_0000;
-
-// The pattern at a place of an area that no one wrote to.
-pub fn mark_at(at: usize) -> u64
-    ensures { result ≡ mark_at at }
-{
-    std::num::wrapping_add_u64(MARK, at as u64)
-}
+use crate::Tally;
+use crate::counts::Calls;
+use crate::places::Place;
 
 // The marks, at every place of an area.
-pub fn mark(area: &mut [f64])
-    ensures { area.new ≡ table (length area.old) (λ at. from_bits binary64 (mark_at at)) }
+pub fn mark<T: Place>(area: &mut [T])
+    ensures { area.new ≡ table (length area.old) (λ at. T.of_word (T.marked at)) }
 {
-    for at in 0..area.len() {
-        area[at] = patterns::float(mark_at(at));
+    for (at, place) in area.iter_mut().enumerate() {
+        *place = T::of(T::mark(at));
     }
 }
 
-// The lesser of what is asked for and what there is.
-pub fn least(n: usize, most: usize) -> usize
-    ensures { result ≡ min n most }
+// As much of an area as is lent, at most all of it: its places hold the marks.
+pub fn lent<T: Place>(area: &mut [T], n: usize) -> &mut [T]
+    ensures { result.now ≡ take n (table (length area.old) (λ at. T.of_word (T.marked at))) }
 {
-    if n < most { n } else { most }
+    mark(area);
+    let most = n.min(area.len());
+    &mut area[..most]
 }
 
 // The numbers from a place up to another one: none where the list has no such part.
 pub fn part(numbers: &[f64], from: usize, to: usize) -> &[f64]
     ensures { result.now ≡ between from to numbers.now }
 {
-    if to > numbers.len() {
-        return &numbers[..0];
-    }
-    if from > to {
-        return &numbers[..0];
-    }
-    &numbers[from..to]
-}
-
-// The next n numbers that come in, at the start of the list. What they are no contract can say.
-pub fn load(list: &mut [f64], n: usize)
-    ensures { Kept n list.old list.new }
-{
-    let mut at = 0;
-    while at < list.len() && at < n {
-        list[at] = patterns::float(crate::next_word().value);
-        at += 1;
-    }
+    numbers.get(from..to).unwrap_or(&[])
 }
 
 // The next n words that come in, at the start of the list. What they are no contract can say.
-pub fn load_words(words: &mut [u64], n: usize)
-    ensures { Kept n words.old words.new }
+pub fn load<T: Place>(list: &mut [T], n: usize)
+    ensures { Kept n list.old list.new }
 {
-    let mut at = 0;
-    while at < words.len() && at < n {
-        words[at] = crate::next_word().value;
-        at += 1;
+    let most = n.min(list.len());
+    for place in &mut list[..most] {
+        *place = crate::next();
     }
 }
 
 // One place of an area: of the first ones, as many as are told, what is told; past what is written, the mark.
-pub fn compare_at(
+fn compare_at<W: Place>(
     here: u64,
     mark: u64,
     at: usize,
-    told: &[u64],
+    told: &[W],
     written: usize,
-    part: usize,
-    counts: &mut [u64],
+    part: &mut Tally,
+    calls: &mut Calls,
 )
-    ensures { counts.new ≡ compared_at here mark at told.now written part counts.old }
+    ensures { (part.new, calls.new) ≡ compared_at here mark at (map W.pattern_of told.now) written (part.old, calls.old) }
 {
     if at < told.len() {
-        compared(counts, part, here == told[at]);
+        calls.compared(part, here == told[at].pattern());
     } else if at >= written {
-        compared(counts, UNTOUCHED, here == mark);
+        calls.compared_untouched(here == mark);
     }
 }
 
 // Compares an area, place after place.
-pub fn compare(area: &[f64], told: &[u64], written: usize, part: usize, counts: &mut [u64])
-    ensures { counts.new ≡ compared_to (λ at. to_bits binary64 (slice_index_or area.now at nan)) mark_at told.now
-        written part (length area.now) counts.old }
+pub fn compare<T: Place, W: Place>(
+    area: &[T],
+    told: &[W],
+    written: usize,
+    part: &mut Tally,
+    calls: &mut Calls,
+)
+    ensures { (part.new, calls.new) ≡ compared_to (λ at. T.pattern_of (slice_index_or area.now at T.none)) T.marked (map W.pattern_of told.now)
+        written (length area.now) (part.old, calls.old) }
 {
-    for at in 0..area.len() {
-        compare_at(
-            patterns::pattern(area[at]),
-            mark_at(at),
-            at,
-            told,
-            written,
-            part,
-            counts,
-        );
+    for (at, place) in area.iter().enumerate() {
+        compare_at(place.pattern(), T::mark(at), at, told, written, part, calls);
     }
 }
 
 // Compares an area with the next `told` words that come in: they stand in `words` then.
-pub fn compare_next(
-    area: &[f64],
+pub fn compare_next<T: Place>(
+    area: &[T],
     words: &mut [u64],
     told: usize,
     written: usize,
-    part: usize,
-    counts: &mut [u64],
+    part: &mut Tally,
+    calls: &mut Calls,
 )
     ensures kept { Kept told words.old words.new }
-    ensures counts_after { counts.new ≡ compared_to (λ at. to_bits binary64 (slice_index_or area.now at nan)) mark_at
-        (take told words.new) written part (length area.now) counts.old }
+    ensures counts_after { (part.new, calls.new) ≡ compared_to (λ at. T.pattern_of (slice_index_or area.now at T.none)) T.marked
+        (take told words.new) written (length area.now) (part.old, calls.old) }
 {
-    load_words(words, told);
-    let n = least(told, words.len());
-    compare(area, &words[..n], written, part, counts);
+    load(words, told);
+    let n = told.min(words.len());
+    compare(area, &words[..n], written, part, calls);
 }

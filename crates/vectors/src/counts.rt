@@ -1,119 +1,119 @@
 // What a replay of whole calls counts: how they ended, and of each part of an answer how many places were compared and how many of them differ.
-ghost use Rattle.std.specs.Prelude.{◌≡◌, slice_index};
-ghost use Rattle.vectors.specs.Tallied.{one_more};
-ghost use Rattle.vectors.specs.Counted.{counted_at, compared_in, ended_by, differences};
+ghost use Rattle.std.specs.Prelude.{◌≡◌};
+ghost use Rattle.vectors.specs.Counted.{none_yet, with_difference, compared_in, untouched_in, counted_at, ended_by};
 
 use crate::Tally;
 
 // the descriptors of standard input and output, by the names of the C library
 const STDOUT_FILENO: i32 = 1;
 
-// The counts: at 0 to 29 the calls that ended by that number, and then two places for each part, how many were compared and how many of them differ.
-// The first parts are the same for each program, the number that a call ended by and the places that are not to be written; then all that differ, in one
-// place, and from PARTS on the program's own.
-pub const NUMBER: usize = 30;
+// How many numbers there are that a call ends by: each is below.
+const NUMBERS: usize = 30;
 
-pub const UNTOUCHED: usize = 32;
+// The counts that are the same for each program: how many calls ended by each number, the numbers compared, the places compared that are not to be
+// written, and all that differ, in these and in the program's own parts.
+#[derive(Clone, Copy)]
+pub struct Calls {
+    pub endings: [u64; NUMBERS],
+    pub numbers: Tally,
+    pub untouched: Tally,
+    pub differences: u64,
+}
 
-const DIFFERENCES: usize = 34;
+// The counts before the first call: written out, since a derived one does not say how many numbers there are.
+impl Default for Calls {
+    ghost is_default = { λ calls. calls ≡ none_yet };
 
-pub const PARTS: usize = 35;
+    fn default() -> Calls {
+        Calls {
+            endings: [0; NUMBERS],
+            numbers: Tally::default(),
+            untouched: Tally::default(),
+            differences: 0,
+        }
+    }
+}
 
-// One more at a place of the counts.
-pub fn count(counts: &mut [u64], at: usize)
+// One more at a place of the counts: past their end there is none.
+#[tactic(auto, unfolding(crate::specs::Counted::counted_at))]
+fn count(counts: &mut [u64], at: usize)
     ensures { counts.new ≡ counted_at at counts.old }
 {
     if at < counts.len() {
-        counts[at] = std::num::wrapping_add_u64(counts[at], 1);
+        counts[at] = counts[at].wrapping_add(1);
     }
 }
 
-// What is counted at a place: past the end nothing is.
-fn counted_at(counts: &[u64], at: usize) -> u64
-    ensures { result ≡ slice_index counts.now at }
-{
-    if at < counts.len() {
-        return counts[at];
-    }
-    0
-}
-
-// One place of a part differs.
-fn differs(counts: &mut [u64], part: usize)
-    ensures { counts.new ≡ counted_at differences (counted_at (one_more part) counts.old) }
-{
-    count(counts, std::num::wrapping_add_usize(part, 1));
-    count(counts, DIFFERENCES);
-}
-
-// One place of a part was compared.
-pub fn compared(counts: &mut [u64], part: usize, same: bool)
-    ensures { counts.new ≡ compared_in part same counts.old }
-{
-    count(counts, part);
-    if !same {
-        differs(counts, part);
-    }
-}
-
-// A call ended by a number; the other one is what it has to be.
-pub fn ended_by(counts: &mut [u64], number: u64, wanted: u64)
-    ensures { counts.new ≡ ended_by number wanted counts.old }
-{
-    count(counts, number as usize);
-    compared(counts, NUMBER, number == wanted);
-}
-
-// All that differ.
-pub fn all_differences(counts: &[u64]) -> u64
-    ensures { result ≡ slice_index counts.now differences }
-{
-    counted_at(counts, DIFFERENCES)
-}
-
-// Writes a line for each number that calls ended by. It answers nothing, and the counts are as they were; of standard output no contract speaks.
-pub fn write_endings(counts: &[u64])
-    ensures { counts.now ≡ counts.now }
-{
-    let mut number = 0;
-    while number < counts.len() && number < NUMBER {
-        let times = counts[number];
-        if times > 0 {
-            io::write_all(STDOUT_FILENO, b"ended by ");
-            io::print_decimal(STDOUT_FILENO, number as u64);
-            io::write_all(STDOUT_FILENO, b": ");
-            io::print_decimal(STDOUT_FILENO, times);
-            io::write_all(STDOUT_FILENO, b"\n");
+impl Calls {
+    // One more of all that differ, unless it is the same.
+    fn note(&mut self, same: bool)
+        ensures { self.new ≡ with_difference self.old same }
+    {
+        if !same {
+            self.differences = self.differences.wrapping_add(1);
         }
-        number += 1;
     }
-}
 
-// Writes how the calls ended, the first lines of each replay: by number, and how many of the numbers differ.
-pub fn write_first(counts: &[u64])
-    ensures { counts.now ≡ counts.now }
-{
-    write_endings(counts);
-    write_part(b"numbers of the endings: ", counts, NUMBER);
-}
+    // One place of a part was compared.
+    pub fn compared(&mut self, part: &mut Tally, same: bool)
+        ensures { (part.new, self.new) ≡ compared_in same (part.old, self.old) }
+    {
+        part.count(same);
+        self.note(same);
+    }
 
-// Writes its last lines: the places that are not to be written, and how many records were compared and differ.
-pub fn write_last(counts: &[u64], t: Tally) -> u64
-    ensures { result ≡ t.differ }
-{
-    write_part(b"places not to be written: ", counts, UNTOUCHED);
-    crate::totals(t)
+    // One place was compared that is not to be written.
+    pub fn compared_untouched(&mut self, same: bool)
+        ensures { self.new ≡ untouched_in same self.old }
+    {
+        self.untouched.count(same);
+        self.note(same);
+    }
+
+    // A call ended by a number; the other one is what it has to be.
+    pub fn ended_by(&mut self, number: u64, wanted: u64)
+        ensures { self.new ≡ ended_by number wanted self.old }
+    {
+        count(&mut self.endings, number as usize);
+        let same = number == wanted;
+        self.numbers.count(same);
+        self.note(same);
+    }
+
+    // Writes a line for each number that calls ended by. It answers nothing; of standard output no contract speaks.
+    pub fn write_endings(&self) {
+        for (number, times) in self.endings.iter().enumerate() {
+            if *times > 0 {
+                io::write_all(STDOUT_FILENO, b"ended by ");
+                io::print_decimal(STDOUT_FILENO, number as u64);
+                io::write_all(STDOUT_FILENO, b": ");
+                io::print_decimal(STDOUT_FILENO, *times);
+                io::write_all(STDOUT_FILENO, b"\n");
+            }
+        }
+    }
+
+    // Writes how the calls ended, the first lines of each replay: by number, and how many of the numbers differ, which it answers.
+    pub fn write_first(&self) -> u64
+        ensures { result ≡ self.now.numbers.differ }
+    {
+        self.write_endings();
+        write_part(b"numbers of the endings: ", self.numbers)
+    }
+
+    // Writes its last lines: the places that are not to be written, and how many records were compared and differ.
+    pub fn write_last(&self, records: Tally) -> u64
+        ensures { result ≡ records.differ }
+    {
+        write_part(b"places not to be written: ", self.untouched);
+        records.write()
+    }
 }
 
 // Writes the line of a part, and answers how many of it differ.
-pub fn write_part(name: &[u8], counts: &[u64], part: usize) -> u64
-    ensures { result ≡ slice_index counts.now (one_more part) }
+pub fn write_part(name: &[u8], part: Tally) -> u64
+    ensures { result ≡ part.differ }
 {
     io::write_all(STDOUT_FILENO, name);
-    let differ = counted_at(counts, std::num::wrapping_add_usize(part, 1));
-    crate::totals(Tally {
-        compared: counted_at(counts, part),
-        differ,
-        more: false,
-    })
+    part.write()
 }

@@ -1,145 +1,118 @@
 // What the programs that replay stored answers share: the words of standard input and the tally; and, of those that replay whole calls, the counts,
-// the lent areas and the variogram.
+// the lent areas, the variogram and the survey.
 #![tactic(auto)]
 
 pub mod areas; // areas.rt: lists that come in, and areas that are lent
 pub mod counts; // counts.rt: what is counted, and written
 pub mod models; // models.rt: a variogram that comes in
+pub mod places; // places.rt: what a place of a list or an area has
+pub mod surveys; // surveys.rt: a survey that comes in
 
-ghost use Rattle.std.specs.Prelude.{◌≡◌, true, false, from_bits};
-ghost use Rattle.std.specs.Float.{binary64};
-ghost use Rattle.vectors.specs.Tallied.{tally_of, with_record};
-ghost use Rattle.vectors.specs.Words.{CameIn, SizeIn, FloatIn, EndIn};
+ghost use Rattle.std.specs.Prelude.{◌≡◌, unwrap_or};
+ghost use Rattle.vectors.specs.Tallied.{tally_of, with_record, Replayed};
+ghost use Rattle.vectors.specs.Words.{BytesIn, CameIn, In, EndIn};
+
+use crate::places::Place;
 
 // the descriptors of standard input and output, by the names of the C library
 const STDIN_FILENO: i32 = 0;
 
 const STDOUT_FILENO: i32 = 1;
 
-// A word that came in, and whether one did: past the input's end it is 0.
-#[derive(Clone, Copy)]
-pub struct Input {
-    pub value: u64,
-    pub more: bool,
-}
-
-impl Input {
-    // The word as a count.
-    pub fn size(self) -> usize
-        ensures { result ≡ self.value }
-    {
-        self.value as usize
+// The next N bytes of standard input, and none where it ends before them. What they are no contract can say.
+pub fn next_bytes<const N: usize>() -> Option<[u8; N]>
+    ensures { BytesIn N result }
+{
+    let mut bytes = [0u8; N];
+    if io::read_full(STDIN_FILENO, &mut bytes) < N {
+        return None;
     }
-
-    // The f64 whose pattern the word is.
-    pub fn float(self) -> f64
-        ensures { result ≡ from_bits binary64 self.value }
-    {
-        patterns::float(self.value)
-    }
+    Some(bytes)
 }
 
-// How many records were compared, how many of them differ, and whether there are more.
-#[derive(Clone, Copy)]
-pub struct Tally {
-    pub compared: u64,
-    pub differ: u64,
-    pub more: bool,
-}
-
-// The next 8 bytes of standard input. What they are no contract can say.
-pub fn next_word() -> Input
+// The next word of standard input.
+pub fn next_word() -> Option<u64>
     ensures { CameIn result }
 {
-    let mut bytes = [0u8; 8];
-    if io::read_full(STDIN_FILENO, &mut bytes) < 8 {
-        return Input {
-            value: 0,
-            more: false,
-        };
-    }
-    Input {
-        value: patterns::word(&bytes, 0),
-        more: true,
-    }
+    let bytes = next_bytes::<8>()?;
+    Some(patterns::word(&bytes, 0))
 }
 
-// The next word as a count, and as the f64 whose pattern it is.
-pub fn next_size() -> usize
-    ensures { SizeIn result }
+// The number that a word is: past the input's end it is 0.
+pub fn number(word: Option<u64>) -> u64
+    ensures { result ≡ unwrap_or word 0 }
 {
-    next_word().size()
+    word.unwrap_or(0)
 }
 
-pub fn next_float() -> f64
-    ensures { FloatIn result }
+// What the next word gives: a number, a count, or the f64 whose pattern it is.
+pub fn next<T: Place>() -> T
+    ensures { In T.of_word result }
 {
-    next_word().float()
+    T::of(number(next_word()))
 }
 
 // Where a list ends that begins at a place: its length comes in.
 pub fn next_end(start: usize) -> usize
     ensures { EndIn start result }
 {
-    std::num::wrapping_add_usize(start, next_size())
+    start.wrapping_add(next())
 }
 
-// The tally before the first record.
-pub fn begun() -> Tally
-    ensures { result ≡ tally_of 0 0 true }
-{
-    Tally {
-        compared: 0,
-        differ: 0,
-        more: true,
+// How many were compared, records or places, and how many of them differ.
+#[derive(Clone, Copy, Default)]
+pub struct Tally {
+    pub compared: u64,
+    pub differ: u64,
+}
+
+impl Tally {
+    // One more was compared.
+    pub fn count(&mut self, agrees: bool)
+        ensures { self.new ≡ with_record self.old agrees }
+    {
+        self.compared = self.compared.wrapping_add(1);
+        if !agrees {
+            self.differ = self.differ.wrapping_add(1);
+        }
+    }
+
+    // One record more. Writes a line where it differs, by its number.
+    pub fn record(&mut self, agrees: bool)
+        ensures { self.new ≡ with_record self.old agrees }
+    {
+        self.count(agrees);
+        if !agrees {
+            io::write_all(STDOUT_FILENO, b"differs: record ");
+            io::print_decimal(STDOUT_FILENO, self.compared);
+            io::write_all(STDOUT_FILENO, b"\n");
+        }
+    }
+
+    // Writes how many were compared and differ, a replay's last line, and answers how many differ.
+    pub fn write(self) -> u64
+        ensures { result ≡ self.differ }
+    {
+        io::print_decimal(STDOUT_FILENO, self.compared);
+        io::write_all(STDOUT_FILENO, b" compared, ");
+        io::print_decimal(STDOUT_FILENO, self.differ);
+        io::write_all(STDOUT_FILENO, b" differ\n");
+        self.differ
     }
 }
 
-// The tally at the input's end.
-pub fn ended(t: Tally) -> Tally
-    ensures { result ≡ tally_of t.compared t.differ false }
+// A record for each turn, which says whether it agrees, until one finds the input's end. A proved loop has to end, and nothing says that the input does:
+// there are as many turns at most as a u64 counts.
+pub fn replay<F: FnMut() -> Option<bool>>(mut turn: F) -> Tally
+    requires { F.IsAlwaysCallable turn }
+    ensures { Replayed F.step turn result }
 {
-    Tally {
-        compared: t.compared,
-        differ: t.differ,
-        more: false,
-    }
-}
-
-// The line for a record that differs, by its number.
-fn report(record: u64) {
-    io::write_all(STDOUT_FILENO, b"differs: record ");
-    io::print_decimal(STDOUT_FILENO, record);
-    io::write_all(STDOUT_FILENO, b"\n");
-}
-
-// The tally after one record more. Writes a line where the record differs.
-pub fn counted(t: Tally, agrees: bool) -> Tally
-    ensures { result ≡ with_record t agrees }
-{
-    let compared = std::num::wrapping_add_u64(t.compared, 1);
-    if agrees {
-        return Tally {
-            compared,
-            differ: t.differ,
-            more: true,
+    let mut tally = Tally::default();
+    for _ in 0..u64::MAX {
+        let Some(agrees) = turn() else {
+            return tally;
         };
+        tally.record(agrees);
     }
-    report(compared);
-    Tally {
-        compared,
-        differ: std::num::wrapping_add_u64(t.differ, 1),
-        more: true,
-    }
-}
-
-// Writes a replay's last line, and answers how many differ.
-pub fn totals(t: Tally) -> u64
-    ensures { result ≡ t.differ }
-{
-    io::print_decimal(STDOUT_FILENO, t.compared);
-    io::write_all(STDOUT_FILENO, b" compared, ");
-    io::print_decimal(STDOUT_FILENO, t.differ);
-    io::write_all(STDOUT_FILENO, b" differ\n");
-    t.differ
+    tally
 }

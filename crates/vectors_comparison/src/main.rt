@@ -5,29 +5,27 @@
 
 ghost use Rattle.std.specs.Prelude.{◌≡◌, set};
 
-use words::Order;
+use std::cmp::Ordering;
 
-// The sum with a word put at a place, where it has that place.
-fn with_word(sum: [u64; 67], place: usize, word: u64) -> [u64; 67]
-    ensures { result ≡ set sum place word }
+// A word put at a place of a sum, where it has that place.
+fn put(word: u64, sum: &mut [u64; 67], place: usize)
+    ensures { sum.new ≡ set sum.old place word }
 {
-    let mut changed = sum;
     if place < 67 {
-        changed[place] = word;
+        sum[place] = word;
     }
-    changed
 }
 
 // How the first stands to the second, as a sign.
-fn show_order(order: Order) {
+fn show_order(order: Ordering) {
     match order {
-        Order::Below => {
+        Ordering::Less => {
             io::write_all(1, b"< ");
         }
-        Order::Same => {
+        Ordering::Equal => {
             io::write_all(1, b"= ");
         }
-        Order::Above => {
+        Ordering::Greater => {
             io::write_all(1, b"> ");
         }
     }
@@ -36,8 +34,7 @@ fn show_order(order: Order) {
 // The sign, and how many words it took.
 fn show(a: [u64; 67], b: [u64; 67]) {
     let compared = words::compare(a, b);
-    let order = compared.order;
-    show_order(order);
+    show_order(compared.order);
     io::print_decimal(1, compared.words as u64);
 }
 
@@ -49,33 +46,48 @@ fn show_both(a: [u64; 67], b: [u64; 67]) {
     io::write_all(1, b"\n");
 }
 
-fn replay(s: &[u8]) {
+// What a record says.
+#[derive(Clone, Copy)]
+enum Step {
+    One { place: usize, word: u64 },
+    Other { place: usize, word: u64 },
+    AllOfOne(u64),
+    AllOfOther(u64),
+    Compare,
+}
+
+impl Step {
+    // The step of a record, by its kind. No record has another kind than these.
+    fn of(record: &[u8; 17]) -> Step {
+        let place = patterns::word(record, 1) as usize;
+        let word = patterns::word(record, 9);
+        match record[0] {
+            0 => Step::One { place, word },
+            1 => Step::Other { place, word },
+            2 => Step::AllOfOne(word),
+            3 => Step::AllOfOther(word),
+            _ => Step::Compare,
+        }
+    }
+}
+
+fn replay(records: &[[u8; 17]]) {
     let mut one = [0; 67];
     let mut other = [0; 67];
-    let mut at = 0;
-    while 17 <= s.len() - at {
-        let kind = s[at];
-        let place = patterns::word(s, at + 1);
-        let word = patterns::word(s, at + 9);
-        if kind == 0 {
-            let changed = with_word(one, place as usize, word);
-            one = changed;
-        } else if kind == 1 {
-            let changed = with_word(other, place as usize, word);
-            other = changed;
-        } else if kind == 2 {
-            one = [word; 67];
-        } else if kind == 3 {
-            other = [word; 67];
-        } else {
-            show_both(one, other);
+    for record in records {
+        match Step::of(record) {
+            Step::One { place, word } => put(word, &mut one, place),
+            Step::Other { place, word } => put(word, &mut other, place),
+            Step::AllOfOne(word) => one = [word; 67],
+            Step::AllOfOther(word) => other = [word; 67],
+            Step::Compare => show_both(one, other),
         }
-        at += 17;
     }
 }
 
 fn main() {
     let mut buf = io::large_buffer();
     let n = io::read_full(0, &mut buf);
-    replay(&buf[..n]);
+    let (records, _) = buf[..n].as_chunks::<17>();
+    replay(records);
 }

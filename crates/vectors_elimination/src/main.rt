@@ -6,8 +6,8 @@
 ghost use Rattle.std.specs.Prelude.{◌*◌, ◌≤◌};
 ghost use Rattle.survey.specs.Limits.{most_size};
 
-use elimination::Elimination;
-use vectors::Tally;
+use elimination::Stop;
+use vectors::areas::{load, part};
 
 // The most rows that a record's matrix has, and the work area that they need.
 const LARGEST: usize = survey::MOST_SIZE;
@@ -31,79 +31,64 @@ struct Head {
     asked: u64,
     answered: u64,
     size: usize,
-    more: bool,
 }
 
-// A place in the area: "s rows of 2s".
-#[derive(Clone, Copy)]
-struct Place {
-    row: usize,
-    column: usize,
-}
-
-fn after(p: Place, size: usize) -> Place {
-    let column = std::num::wrapping_add_usize(p.column, 1);
-    if column / 2 == size {
-        return Place {
-            row: std::num::wrapping_add_usize(p.row, 1),
-            column: 0,
+// A row before the call: the matrix's, whose numbers come in, beside the identity's.
+fn load_row(row: &mut [f64], number: usize, size: usize) {
+    for (column, place) in row.iter_mut().enumerate() {
+        *place = if column < size {
+            vectors::next()
+        } else if column - size == number {
+            1.0
+        } else {
+            0.0
         };
     }
-    Place { row: p.row, column }
 }
 
-// What stands there before the call: the matrix, whose next number comes in, beside the identity.
-fn entry(p: Place, size: usize) -> f64 {
-    if p.column < size {
-        return vectors::next_word().float();
+// The area before the call: "s rows of 2s".
+fn load_beside(work: &mut [f64], size: usize)
+    requires { size ≤ most_size }
+{
+    if size == 0 {
+        return;
     }
-    if p.column - size == p.row { 1.0 } else { 0.0 }
-}
-
-fn load(work: &mut [f64], size: usize) {
-    let mut p = Place { row: 0, column: 0 };
-    let mut at = 0;
-    while at < work.len() && p.row < size {
-        work[at] = entry(p, size);
-        p = after(p, size);
-        at += 1;
+    for (number, row) in work.chunks_exact_mut(2 * size).take(size).enumerate() {
+        load_row(row, number, size);
     }
 }
 
-// 1 where x, which stands there after the call, is another number than the inverse's, whose next number comes in. What the left half holds is not asked.
-fn difference(x: f64, p: Place, size: usize) -> u64 {
-    if p.column < size || patterns::pattern(x) == vectors::next_word().value {
-        return 0;
-    }
-    1
+// Whether all numbers are those that come in, of which each is read.
+fn agree(numbers: &[f64]) -> bool {
+    let others = numbers
+        .iter()
+        .filter(|x| patterns::pattern(**x) != vectors::next());
+    others.count() == 0
 }
 
-fn differences(work: &[f64], size: usize) -> u64 {
-    let mut differ = 0;
-    let mut p = Place { row: 0, column: 0 };
-    let mut at = 0;
-    while at < work.len() && p.row < size {
-        differ = std::num::wrapping_add_u64(differ, difference(work[at], p, size));
-        p = after(p, size);
-        at += 1;
+// Whether the right half is the inverse that comes in. What the left half holds is not asked.
+fn inverse_agrees(work: &[f64], size: usize) -> bool
+    requires { size ≤ most_size }
+{
+    if size == 0 {
+        return true;
     }
-    differ
+    let mut all = true;
+    for row in work.chunks_exact(2 * size).take(size) {
+        let same = agree(part(row, size, 2 * size));
+        all = all && same;
+    }
+    all
 }
 
-fn is_done(answer: Elimination) -> bool {
-    match answer {
-        Elimination::Done => true,
-        Elimination::Stopped(_) => false,
-        Elimination::TooShort => false,
+// The call: 4 and 6 are the fit's elimination, and 5 and 7 the interpolator's. No call has another number.
+// kept: the numbers stand once, beside what each calls; an enum would have them and the calls twice.
+fn answer(call: u64, work: &mut [f64], size: usize) -> Option<Result<(), Stop>> {
+    match call {
+        4 | 6 => Some(elimination::gauss_jordan_invert_uked(work, size)),
+        5 | 7 => Some(elimination::matrix_inverse(work, size)),
+        _ => None,
     }
-}
-
-// What came of the call: 4 is the fit's elimination, and 5 the interpolator's. No call has another number.
-fn goes_through(call: u64, work: &mut [f64], size: usize) -> bool {
-    if call == 4 {
-        return is_done(elimination::gauss_jordan_invert_uked(work, size));
-    }
-    call == 5 && is_done(elimination::matrix_inverse(work, size))
 }
 
 // The numbers of a matrix.
@@ -121,52 +106,26 @@ fn agrees(head: Head, work: &mut [f64]) -> bool {
         return false;
     }
     let n = entries(size);
-    load(work, size);
-    let done = goes_through(head.call, work, size);
-    let outcome = vectors::next_word().value;
-    if outcome == OK {
-        let again = vectors::next_word().value;
-        let differ = differences(work, size);
-        return done
-            && differ == 0
-            && again == size as u64
-            && head.asked == n + 1
-            && head.answered == n + 2;
-    }
-    !done && outcome == NONE && head.asked == n + 1 && head.answered == 1
-}
-
-// How many of the first n numbers are others than those that come in.
-fn all_differences(work: &[f64], n: usize) -> u64 {
-    let mut differ = 0;
-    let mut at = 0;
-    while at < work.len() && at < n {
-        if patterns::pattern(work[at]) != vectors::next_word().value {
-            differ = std::num::wrapping_add_u64(differ, 1);
+    load_beside(work, size);
+    let done = matches!(answer(head.call, work, size), Some(Ok(())));
+    match vectors::next() {
+        OK => {
+            let again: usize = vectors::next();
+            let same = inverse_agrees(work, size);
+            done && same && again == size && head.asked == n + 1 && head.answered == n + 2
         }
-        at += 1;
+        NONE => !done && head.asked == n + 1 && head.answered == 1,
+        _ => false,
     }
-    differ
 }
 
 // 0, or the step at which it stopped, from 1. No record has the last line's number.
-fn outcome_of(answer: Elimination) -> u64 {
+fn outcome(answer: Option<Result<(), Stop>>) -> u64 {
     match answer {
-        Elimination::Done => 0,
-        Elimination::Stopped(step) => std::num::wrapping_add_u64(step as u64, 1),
-        Elimination::TooShort => u64::MAX,
+        Some(Ok(())) => 0,
+        Some(Err(Stop::Pivot(step))) => (step as u64).wrapping_add(1),
+        Some(Err(Stop::TooShort)) | None => u64::MAX,
     }
-}
-
-// What came of the call: 6 is the fit's elimination, and 7 the interpolator's. No call has another number.
-fn outcome(call: u64, work: &mut [f64], size: usize) -> u64 {
-    if call == 6 {
-        return outcome_of(elimination::gauss_jordan_invert_uked(work, size));
-    }
-    if call == 7 {
-        return outcome_of(elimination::matrix_inverse(work, size));
-    }
-    u64::MAX
 }
 
 // The numbers of an area.
@@ -184,51 +143,32 @@ fn agrees_whole(head: Head, work: &mut [f64]) -> bool {
         return false;
     }
     let n = area_numbers(size);
-    vectors::areas::load(work, n);
-    let came = outcome(head.call, work, size);
-    let wanted = vectors::next_word().value;
-    let differ = all_differences(work, n);
-    came == wanted && differ == 0 && head.asked == n as u64 + 1 && head.answered == n as u64 + 1
+    load(work, n);
+    let came = outcome(answer(head.call, work, size));
+    let wanted = vectors::next();
+    let same = agree(part(work, 0, n));
+    came == wanted && same && head.asked == n as u64 + 1 && head.answered == n as u64 + 1
 }
 
-fn next_head() -> Head {
-    let call = vectors::next_word();
-    let asked = vectors::next_word().value;
-    let answered = vectors::next_word().value;
-    let size = vectors::next_word().size();
-    Head {
-        call: call.value,
-        asked,
-        answered,
-        size,
-        more: call.more,
-    }
+fn next_head() -> Option<Head> {
+    Some(Head {
+        call: vectors::next_word()?,
+        asked: vectors::next(),
+        answered: vectors::next(),
+        size: vectors::next(),
+    })
 }
 
-// One record more: what came of it, and at the input's end that there are no more.
-fn replayed(t: Tally, work: &mut [f64]) -> Tally {
-    let head = next_head();
-    if !head.more {
-        return vectors::ended(t);
-    }
+// One record more: whether it agrees, and none at the input's end.
+fn replayed(work: &mut [f64]) -> Option<bool> {
+    let head = next_head()?;
     if head.call > 5 {
-        return vectors::counted(t, agrees_whole(head, work));
+        return Some(agrees_whole(head, work));
     }
-    vectors::counted(t, agrees(head, work))
-}
-
-// A proved loop has to end, and nothing says that the input does: the loop counts its turns down.
-fn replay() -> Tally {
-    let mut work = [0.0; AREA];
-    let mut t = vectors::begun();
-    let mut turns = u64::MAX;
-    while turns > 0 && t.more {
-        t = replayed(t, &mut work);
-        turns -= 1;
-    }
-    t
+    Some(agrees(head, work))
 }
 
 fn main() {
-    vectors::totals(replay());
+    let mut work = [0.0; AREA];
+    vectors::replay(|| replayed(&mut work)).write();
 }

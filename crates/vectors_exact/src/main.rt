@@ -23,22 +23,18 @@ fn show_word(place: usize, word: u64) {
 // The words from the highest down, each that differs from the one above it (the highest: from 0).
 fn show_words(words: [u64; 67]) {
     let mut above = 0;
-    let mut i = 67;
-    while 0 < i {
-        i -= 1;
-        let word = words[i];
-        if word != above {
-            show_word(i, word);
+    for (place, word) in words.iter().enumerate().rev() {
+        if *word != above {
+            show_word(place, *word);
         }
-        above = word;
+        above = *word;
     }
 }
 
 // A line: whether the sum before is at most this one, whether this one is negative, its words, and those of its magnitude.
 fn show(before: [u64; 67], sum: [u64; 67]) {
     let compared = words::compare(before, sum);
-    let order = compared.order;
-    show_flag(order.is_at_most());
+    show_flag(compared.is_at_most());
     show_flag(words::is_negative(sum));
     show_words(sum);
     io::write_all(1, b"| ");
@@ -46,84 +42,87 @@ fn show(before: [u64; 67], sum: [u64; 67]) {
     io::write_all(1, b"\n");
 }
 
-// The sum after one record.
-fn step(sum: [u64; 67], kind: u8, x: f64, y: f64) -> [u64; 67] {
-    if kind == 0 {
-        return exact::add_product(sum, x, y);
+// What a record says.
+#[derive(Clone, Copy)]
+enum Step {
+    Add(f64, f64),
+    Subtract(f64, f64),
+    Show,
+    Pair,
+    Dot { column: usize, width: usize },
+}
+
+impl Step {
+    // The step of a record, by its kind. No record has another kind than these.
+    fn of(record: &[u8; 17]) -> Step {
+        let a = patterns::word(record, 1);
+        let b = patterns::word(record, 9);
+        match record[0] {
+            0 => Step::Add(patterns::float(a), patterns::float(b)),
+            1 => Step::Subtract(patterns::float(a), patterns::float(b)),
+            2 => Step::Show,
+            3 => Step::Pair,
+            _ => Step::Dot {
+                column: a as usize,
+                width: b as usize,
+            },
+        }
     }
-    exact::sub_product(sum, x, y)
 }
 
-// One pair more, up to 64.
-fn next_count(count: usize) -> usize {
-    if count < 64 { count + 1 } else { count }
-}
-
-// `count` numbers, at most 64, one from each record from a place on.
-fn numbers(s: &[u8], from: usize, count: usize) -> [f64; 64] {
+// A number from each of these records, at most 64, which stands there at a place.
+fn numbers(records: &[[u8; 17]], place: usize) -> [f64; 64] {
     let mut list = [0.0; 64];
-    let mut at = from;
-    let mut i = 0;
-    while i < 64 {
-        if count <= i {
-            return list;
-        }
-        if s.len() <= at {
-            return list;
-        }
-        list[i] = patterns::float(patterns::word(s, at));
-        at += 17;
-        i += 1;
+    for (number, record) in list.iter_mut().zip(records) {
+        *number = patterns::float(patterns::word(record, place));
     }
     list
 }
 
-// The dot product of the pairs in the `count` records that end at a place: the first numbers with a column of the second ones.
-fn column_sum(s: &[u8], end: usize, count: usize, column: usize, width: usize) -> [u64; 67] {
-    if 64 < count {
+// The dot product of the pairs in the last `count` of these records: the first numbers with a column of the second ones.
+fn column_sum(records: &[[u8; 17]], count: usize, column: usize, width: usize) -> [u64; 67] {
+    if 64 < count || records.len() < count {
         return [0; 67];
     }
-    if s.len() < end {
-        return [0; 67];
-    }
-    if end < 17 * count {
-        return [0; 67];
-    }
-    let z = numbers(s, end - 17 * count + 1, count);
-    let f = numbers(s, end - 17 * count + 9, count);
+    let pairs = &records[records.len() - count..];
+    let z = numbers(pairs, 1);
+    let f = numbers(pairs, 9);
     exact::dot_product(&z[..count], &f[..count], column, width)
 }
 
-fn replay(s: &[u8]) {
+fn replay(records: &[[u8; 17]]) {
     let mut before = [0; 67];
     let mut sum = [0; 67];
-    let mut count = 0;
-    let mut at = 0;
-    while 17 <= s.len() - at {
-        let kind = s[at];
-        let a = patterns::word(s, at + 1);
-        let b = patterns::word(s, at + 9);
-        if kind < 2 {
-            let next = step(sum, kind, patterns::float(a), patterns::float(b));
-            sum = next;
-        } else if kind == 2 {
-            show(before, sum);
-            before = sum;
-            sum = [0; 67];
-        } else if kind == 3 {
-            count = next_count(count);
-        } else {
-            let next = column_sum(s, at, count, a as usize, b as usize);
-            show(before, next);
-            before = next;
-            count = 0;
+    let mut count: usize = 0;
+    for (at, record) in records.iter().enumerate() {
+        match Step::of(record) {
+            Step::Add(x, y) => {
+                let next = exact::add_product(sum, x, y);
+                sum = next;
+            }
+            Step::Subtract(x, y) => {
+                let next = exact::sub_product(sum, x, y);
+                sum = next;
+            }
+            Step::Show => {
+                show(before, sum);
+                before = sum;
+                sum = [0; 67];
+            }
+            Step::Pair => count = count.saturating_add(1).min(64),
+            Step::Dot { column, width } => {
+                let next = column_sum(&records[..at], count, column, width);
+                show(before, next);
+                before = next;
+                count = 0;
+            }
         }
-        at += 17;
     }
 }
 
 fn main() {
     let mut buf = io::large_buffer();
     let n = io::read_full(0, &mut buf);
-    replay(&buf[..n]);
+    let (records, _) = buf[..n].as_chunks::<17>();
+    replay(records);
 }

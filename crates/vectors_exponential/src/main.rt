@@ -2,11 +2,7 @@
 // that lie within 2^-50 of the exact value. Writes a line for each record that comes out otherwise, and then how many were compared and how many differ.
 #![tactic(auto)]
 
-use vectors::Tally;
-
 // the descriptors of standard input and output, by the names of the C library
-const STDIN_FILENO: i32 = 0;
-
 const STDOUT_FILENO: i32 = 1;
 
 // u, what came out, and between what it has to lie.
@@ -22,34 +18,20 @@ fn report(u: u64, got: u64, least: u64, greatest: u64) {
     io::write_all(STDOUT_FILENO, b"\n");
 }
 
-// One record more: what came of it, and at the input's end that there are no more. No answer has a sign, so patterns rise as the numbers do.
-fn replayed(t: Tally) -> Tally {
-    let mut bytes = [0u8; 24];
-    if io::read_full(STDIN_FILENO, &mut bytes) < 24 {
-        return vectors::ended(t);
-    }
+// One record more: whether it agrees, and none at the input's end. No answer has a sign, so patterns rise as the numbers do.
+fn replayed() -> Option<bool> {
+    let bytes = vectors::next_bytes::<24>()?;
     let u = patterns::word(&bytes, 0);
     let least = patterns::word(&bytes, 8);
     let greatest = patterns::word(&bytes, 16);
     let got = patterns::pattern(exponential::exp_neg(patterns::float(u)));
-    let within = least <= got && got <= greatest;
+    let within = (least..=greatest).contains(&got);
     if !within {
         report(u, got, least, greatest);
     }
-    vectors::counted(t, within)
-}
-
-// A proved loop has to end, and nothing says that the input does: the loop counts its turns down.
-fn replay() -> Tally {
-    let mut t = vectors::begun();
-    let mut turns = u64::MAX;
-    while turns > 0 && t.more {
-        t = replayed(t);
-        turns -= 1;
-    }
-    t
+    Some(within)
 }
 
 fn main() {
-    vectors::totals(replay());
+    vectors::replay(replayed).write();
 }

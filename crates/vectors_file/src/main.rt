@@ -9,47 +9,25 @@ mod reading; // reading.rt: a record of the reader
 mod runs; // runs.rt: the lists of a record
 mod writing; // writing.rt: a record of the writer
 
-use compare::{COUNTS, write_parts};
+use compare::Counts;
 use reading::replay_read;
-use vectors::Tally;
-use vectors::counts::{all_differences, write_endings};
 use writing::replay_write;
 
-// The call of a number: 1 the reader's, 2 the writer's, and no record has another.
-fn replay_call(call: u64, counts: &mut [u64]) {
-    if call == 1 {
-        replay_read(counts);
-    } else {
-        replay_write(counts);
+// One record more: whether all is as it says, and none at the input's end. Its first word is 1 for the reader's call and 2 for the writer's, and no record
+// has another one.
+// kept: the numbers stand once, beside what each calls; an enum would have them and the calls twice.
+fn replayed(counts: &mut Counts) -> Option<bool> {
+    let call = vectors::next_word()?;
+    let before = counts.calls.differences;
+    match call {
+        1 => replay_read(counts),
+        _ => replay_write(counts),
     }
-}
-
-// One record more: whether all is as it says, and at the input's end that there are no more.
-fn replayed(t: Tally, counts: &mut [u64]) -> Tally {
-    let call = vectors::next_word();
-    if !call.more {
-        return vectors::ended(t);
-    }
-    let before = all_differences(counts);
-    replay_call(call.value, counts);
-    vectors::counted(t, all_differences(counts) == before)
-}
-
-// A proved loop has to end, and nothing says that the input does: the loop counts its turns down.
-fn replay(counts: &mut [u64]) -> Tally {
-    let mut t = vectors::begun();
-    let mut turns = u64::MAX;
-    while turns > 0 && t.more {
-        t = replayed(t, counts);
-        turns -= 1;
-    }
-    t
+    Some(counts.calls.differences == before)
 }
 
 fn main() {
-    let mut counts = [0; COUNTS];
-    let t = replay(&mut counts);
-    write_endings(&counts);
-    write_parts(&counts);
-    vectors::totals(t);
+    let mut counts = Counts::default();
+    let records = vectors::replay(|| replayed(&mut counts));
+    counts.write(records);
 }

@@ -1,10 +1,7 @@
 // Lists that come in as runs of bytes, so that the longest file takes little room: of a run the first bytes are told, and each later one is as that so many
 // places before it.
-use vectors::areas::least;
-use vectors::next_size;
-
-// the descriptors of standard input and output, by the names of the C library
-const STDIN_FILENO: i32 = 0;
+use vectors::next;
+use vectors::places::Place;
 
 // The most numbers of a list, and the most bytes.
 pub const NUMBERS: usize = 8256;
@@ -13,72 +10,54 @@ pub const BYTES: usize = 66_048;
 
 // The next byte of standard input: past its end, 0.
 fn next_byte() -> u8 {
-    let mut one = [0u8; 1];
-    io::read_full(STDIN_FILENO, &mut one);
-    one[0]
+    let [byte] = vectors::next_bytes::<1>().unwrap_or([0]);
+    byte
 }
 
 // The next bytes that come in, from a place up to another one.
 fn load_told(bytes: &mut [u8], from: usize, to: usize) {
-    let mut at = from;
-    while at < bytes.len() && at < to {
-        bytes[at] = next_byte();
-        at += 1;
+    let end = to.min(bytes.len());
+    if let Some(told) = bytes.get_mut(from..end) {
+        told.fill_with(next_byte);
     }
 }
 
 // Each byte from a place up to another one as that so many places before it.
 fn repeat(bytes: &mut [u8], from: usize, to: usize, back: usize) {
-    let mut at = from;
-    while at < bytes.len() && at < to && at >= back {
+    if from < back {
+        return;
+    }
+    for at in from..to.min(bytes.len()) {
         bytes[at] = bytes[at - back];
-        at += 1;
     }
 }
 
 // The next run, from a place on: how many places it has, how many of them are told, and those. Answers where it ends.
 fn load_run(bytes: &mut [u8], from: usize) -> usize {
-    let end = std::num::wrapping_add_usize(from, next_size());
-    let told = next_size();
-    let copied = std::num::wrapping_add_usize(from, told);
+    let end = from.wrapping_add(next());
+    let told = next();
+    let copied = from.wrapping_add(told);
     load_told(bytes, from, copied);
     repeat(bytes, copied, end, told);
     end
 }
 
-// The next list of bytes: how many runs there are, and those. Answers the list's length.
-pub(crate) fn load_bytes(bytes: &mut [u8]) -> usize {
+// The next list of bytes: how many runs there are, and those. Answers those of its bytes that have room.
+pub(crate) fn load_bytes(bytes: &mut [u8]) -> &[u8] {
     let mut at = 0;
-    for _ in 0..next_size() {
+    for _ in 0..next::<usize>() {
         at = load_run(bytes, at);
     }
-    at
+    &bytes[..at.min(bytes.len())]
 }
 
-// The words that the bytes of a list are, eight each. Answers how many there are.
-fn words_of(bytes: &[u8], words: &mut [u64]) -> usize {
-    let mut at = 0;
-    let mut place = 0;
-    while at < words.len() && place < bytes.len() {
-        words[at] = patterns::word(bytes, place);
-        place = std::num::wrapping_add_usize(place, 8);
-        at += 1;
+// The next list of numbers or words, which comes as its bytes, eight for each. Answers those that have room.
+pub(crate) fn load_list<T: Place>(list: &mut [T]) -> &[T] {
+    let mut room = [0; BYTES];
+    let bytes = load_bytes(&mut room);
+    for (place, eight) in list.iter_mut().zip(bytes.chunks(8)) {
+        *place = T::of(patterns::word(eight, 0));
     }
-    at
-}
-
-// The next list of words, which comes as its bytes. Answers its length.
-pub(crate) fn load_words(words: &mut [u64]) -> usize {
-    let mut bytes = [0u8; BYTES];
-    let n = least(load_bytes(&mut bytes), BYTES);
-    words_of(&bytes[..n], words)
-}
-
-// The numbers whose patterns the words are, as far as both lists go.
-pub(crate) fn floats(words: &[u64], numbers: &mut [f64]) {
-    let mut at = 0;
-    while at < words.len() && at < numbers.len() {
-        numbers[at] = patterns::float(words[at]);
-        at += 1;
-    }
+    let n = bytes.len().div_ceil(8).min(list.len());
+    &list[..n]
 }

@@ -1,28 +1,29 @@
-// The parts of a fit's answer, among what is counted, and their lines.
-use vectors::counts::{PARTS, write_part};
+// What is counted of fits: the calls, and each part of an answer.
+use vectors::Tally;
+use vectors::counts::{Calls, write_part};
 
-pub const FIGURES: usize = PARTS;
+#[derive(Clone, Copy, Default)]
+pub struct Counts {
+    pub calls: Calls,
+    pub figures: Tally,
+    pub variances: Tally,
+    pub multipliers: Tally,
+    pub trends: Tally,
+    pub weights: Tally,
+    pub verdicts: Tally,
+    pub work: Tally,
+}
 
-pub const VARIANCES: usize = PARTS + 2;
-
-pub const MULTIPLIERS: usize = PARTS + 4;
-
-pub const TRENDS: usize = PARTS + 6;
-
-pub const WEIGHT: usize = PARTS + 8;
-
-pub const VERDICTS: usize = PARTS + 10;
-
-pub const WORK_AREA: usize = PARTS + 12;
-
-pub const COUNTS: usize = PARTS + 14;
-
-pub(crate) fn write_parts(counts: &[u64]) {
-    write_part(b"figures: ", counts, FIGURES);
-    write_part(b"variances: ", counts, VARIANCES);
-    write_part(b"multipliers: ", counts, MULTIPLIERS);
-    write_part(b"trends: ", counts, TRENDS);
-    write_part(b"weights: ", counts, WEIGHT);
-    write_part(b"verdicts: ", counts, VERDICTS);
-    write_part(b"work areas: ", counts, WORK_AREA);
+impl Counts {
+    pub(crate) fn write(&self, records: Tally) {
+        self.calls.write_first();
+        write_part(b"figures: ", self.figures);
+        write_part(b"variances: ", self.variances);
+        write_part(b"multipliers: ", self.multipliers);
+        write_part(b"trends: ", self.trends);
+        write_part(b"weights: ", self.weights);
+        write_part(b"verdicts: ", self.verdicts);
+        write_part(b"work areas: ", self.work);
+        self.calls.write_last(records);
+    }
 }

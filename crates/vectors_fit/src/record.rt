@@ -1,22 +1,11 @@
 // A record: what a fit is called with, and how much of each area it lends.
 use survey::UniversalKrigingOptions;
-use vectors::models::next_variogram;
-use vectors::{next_end, next_float, next_size};
-
-// Where each list ends among a record's numbers, one after another, and how many codes there are.
-#[derive(Clone, Copy)]
-pub struct Lists {
-    pub values: usize,
-    pub coords: usize,
-    pub external: usize,
-    pub nodes: usize,
-    pub node_external: usize,
-    pub codes: usize,
-}
+use vectors::surveys::{Lists, next_options};
+use vectors::{next, next_word};
 
 // A number for each area: how much of it is lent, or written.
 #[derive(Clone, Copy)]
-pub struct Areas {
+pub struct Lengths {
     pub work: usize,
     pub predicted: usize,
     pub variance: usize,
@@ -30,76 +19,32 @@ pub struct Areas {
 #[derive(Clone, Copy)]
 pub struct Head {
     pub lists: Lists,
+    pub codes: usize,
     pub options: UniversalKrigingOptions,
     pub tolerance: f64,
-    pub lent: Areas,
-    pub more: bool,
+    pub lent: Lengths,
 }
 
-fn next_lists(values: usize) -> Lists {
-    let coords = next_end(values);
-    let external = next_end(coords);
-    let nodes = next_end(external);
-    let node_external = next_end(nodes);
-    Lists {
-        values,
-        coords,
-        external,
-        nodes,
-        node_external,
-        codes: next_size(),
+pub(crate) fn next_lengths() -> Lengths {
+    Lengths {
+        work: next(),
+        predicted: next(),
+        variance: next(),
+        verdicts: next(),
+        weights: next(),
+        multipliers: next(),
+        trend: next(),
     }
 }
 
-fn next_options() -> UniversalKrigingOptions {
-    let variogram = next_variogram();
-    UniversalKrigingOptions {
-        variogram,
-        regularization: next_float(),
-    }
-}
-
-pub(crate) fn next_areas() -> Areas {
-    let work = next_size();
-    let predicted = next_size();
-    let variance = next_size();
-    let verdicts = next_size();
-    let weights = next_size();
-    let multipliers = next_size();
-    Areas {
-        work,
-        predicted,
-        variance,
-        verdicts,
-        weights,
-        multipliers,
-        trend: next_size(),
-    }
-}
-
-pub(crate) fn next_head() -> Head {
-    let first = vectors::next_word();
-    let lists = next_lists(first.size());
-    let options = next_options();
-    let tolerance = next_float();
-    Head {
-        lists,
-        options,
-        tolerance,
-        lent: next_areas(),
-        more: first.more,
-    }
-}
-
-fn byte_of(word: u64) -> u8 {
-    (word % 256) as u8
-}
-
-// The next n codes that come in, a word each.
-pub(crate) fn load_codes(codes: &mut [u8], n: usize) {
-    let mut at = 0;
-    while at < codes.len() && at < n {
-        codes[at] = byte_of(vectors::next_word().value);
-        at += 1;
-    }
+// The next record's, and none at the input's end.
+pub(crate) fn next_head() -> Option<Head> {
+    let values = next_word()? as usize;
+    Some(Head {
+        lists: Lists::after(values),
+        codes: next(),
+        options: next_options(),
+        tolerance: next(),
+        lent: next_lengths(),
+    })
 }

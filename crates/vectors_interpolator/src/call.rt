@@ -1,43 +1,26 @@
 // The call of a record, and the number that it ends by.
 use crate::record::Head;
-use interpolator::{Interpolation, KrigingInterpolator};
+use interpolator::{Areas, KrigingInterpolator, Query};
 use interpolator_theory::KrigingType;
 use vectors::areas::part;
 
 // The type of a number: 1 Ordinary, 2 Universal, and no record has another.
 fn kriging_type(number: u64) -> KrigingType {
-    match number {
-        1 => KrigingType::Ordinary,
-        _ => KrigingType::Universal,
-    }
+    let Ok(code) = u8::try_from(number) else {
+        return KrigingType::Universal;
+    };
+    KrigingType::try_from(code).unwrap_or(KrigingType::Universal)
 }
 
-// The number that a call ended by, 0 where it answers.
-fn number_of(answer: Interpolation) -> u64 {
-    match answer {
-        Interpolation::Done => 0,
-        Interpolation::Refused(refusal) => error::number(refusal) as u64,
-    }
-}
-
-// The call, with the lists of a record and the areas that it lends.
-pub(crate) fn answer(
-    head: Head,
-    numbers: &[f64],
-    work: &mut [f64],
-    figures: &mut [f64],
-    variances: &mut [f64],
-) -> u64 {
+// The call, with the lists of a record and the areas that it lends: the number that it ended by.
+pub(crate) fn answer(head: Head, numbers: &[f64], areas: &mut Areas<'_>) -> u8 {
     let lists = head.lists;
+    let query = Query {
+        values: part(numbers, 0, lists.values),
+        points: part(numbers, lists.values, lists.coords),
+        targets: part(numbers, lists.coords, lists.targets),
+        d: head.d,
+    };
     let interpolator = KrigingInterpolator::new(kriging_type(head.kind), head.variogram);
-    let answer = interpolator.interpolate(
-        part(numbers, 0, lists.values),
-        part(numbers, lists.values, lists.coords),
-        part(numbers, lists.coords, lists.targets),
-        head.d,
-        work,
-        figures,
-        variances,
-    );
-    number_of(answer)
+    error::ended_by(&interpolator.interpolate(&query, areas))
 }

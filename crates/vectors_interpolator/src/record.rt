@@ -1,7 +1,7 @@
 // A record: what an interpolation is called with, and how much of each area it lends.
 use variogram::Variogram;
 use vectors::models::next_variogram;
-use vectors::{next_end, next_size};
+use vectors::{next, next_end, next_word};
 
 // Where each list ends among a record's numbers, one after another.
 #[derive(Clone, Copy)]
@@ -13,7 +13,7 @@ pub struct Lists {
 
 // A number for each area: how much of it is lent, or written.
 #[derive(Clone, Copy)]
-pub struct Areas {
+pub struct Lengths {
     pub work: usize,
     pub figures: usize,
     pub variances: usize,
@@ -26,8 +26,7 @@ pub struct Head {
     pub kind: u64,
     pub d: usize,
     pub variogram: Variogram,
-    pub lent: Areas,
-    pub more: bool,
+    pub lent: Lengths,
 }
 
 fn next_lists(values: usize) -> Lists {
@@ -39,28 +38,22 @@ fn next_lists(values: usize) -> Lists {
     }
 }
 
-pub(crate) fn next_areas() -> Areas {
-    let work = next_size();
-    let figures = next_size();
-    Areas {
-        work,
-        figures,
-        variances: next_size(),
+pub(crate) fn next_lengths() -> Lengths {
+    Lengths {
+        work: next(),
+        figures: next(),
+        variances: next(),
     }
 }
 
-pub(crate) fn next_head() -> Head {
-    let first = vectors::next_word();
-    let lists = next_lists(first.size());
-    let kind = vectors::next_word().value;
-    let d = next_size();
-    let variogram = next_variogram();
-    Head {
-        lists,
-        kind,
-        d,
-        variogram,
-        lent: next_areas(),
-        more: first.more,
-    }
+// The next record's, and none at the input's end.
+pub(crate) fn next_head() -> Option<Head> {
+    let values = next_word()? as usize;
+    Some(Head {
+        lists: next_lists(values),
+        kind: next(),
+        d: next(),
+        variogram: next_variogram(),
+        lent: next_lengths(),
+    })
 }

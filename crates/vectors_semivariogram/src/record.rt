@@ -1,9 +1,9 @@
 // A record: what a semivariogram is calculated of, and how much of each area is lent.
-use vectors::{next_end, next_size};
+use vectors::{next, next_end, next_word};
 
 // A number for each area: how much of it is lent.
 #[derive(Clone, Copy)]
-pub struct Areas {
+pub struct Lengths {
     pub distances: usize,
     pub semivariances: usize,
     pub bin_counts: usize,
@@ -16,32 +16,25 @@ pub struct Head {
     pub coords: usize,
     pub d: usize,
     pub bins: usize,
-    pub lent: Areas,
-    pub more: bool,
+    pub lent: Lengths,
 }
 
-fn next_areas() -> Areas {
-    let distances = next_size();
-    let semivariances = next_size();
-    Areas {
-        distances,
-        semivariances,
-        bin_counts: next_size(),
+fn next_lengths() -> Lengths {
+    Lengths {
+        distances: next(),
+        semivariances: next(),
+        bin_counts: next(),
     }
 }
 
-pub(crate) fn next_head() -> Head {
-    let first = vectors::next_word();
-    let values = first.size();
-    let coords = next_end(values);
-    let d = next_size();
-    let bins = next_size();
-    Head {
+// The next record's, and none at the input's end.
+pub(crate) fn next_head() -> Option<Head> {
+    let values = next_word()? as usize;
+    Some(Head {
         values,
-        coords,
-        d,
-        bins,
-        lent: next_areas(),
-        more: first.more,
-    }
+        coords: next_end(values),
+        d: next(),
+        bins: next(),
+        lent: next_lengths(),
+    })
 }

@@ -3,21 +3,10 @@
 #![tactic(auto)]
 
 use variogram::{Variogram, VariogramModel};
-use vectors::Tally;
-
-// the descriptors of standard input and output, by the names of the C library
-const STDIN_FILENO: i32 = 0;
 
 // The seven numbers of a record, its words 1 to 7.
-fn numbers(bytes: &[u8]) -> [f64; 7] {
-    let a = patterns::float(patterns::word(bytes, 8));
-    let b = patterns::float(patterns::word(bytes, 16));
-    let c = patterns::float(patterns::word(bytes, 24));
-    let d = patterns::float(patterns::word(bytes, 32));
-    let e = patterns::float(patterns::word(bytes, 40));
-    let f = patterns::float(patterns::word(bytes, 48));
-    let g = patterns::float(patterns::word(bytes, 56));
-    [a, b, c, d, e, f, g]
+fn numbers(bytes: &[u8; 72]) -> [f64; 7] {
+    std::array::from_fn(|word| patterns::float(patterns::word(bytes, 8 + 8 * word)))
 }
 
 // The variogram of nugget x[0], sill x[1], range x[2] and same-spot distance x[6] at the distance x[3].
@@ -34,6 +23,7 @@ fn along(x: [f64; 7], d: usize) -> f64 {
 }
 
 // The pattern of the port's answer to a call. No call has another number, and no answer the pattern of the last line.
+// kept: the numbers stand once, beside what each calls; an enum would have them and the calls twice.
 fn answer(call: u64, x: [f64; 7]) -> u64 {
     match call {
         1 => patterns::pattern(evaluated(VariogramModel::Spherical, x)),
@@ -49,27 +39,13 @@ fn answer(call: u64, x: [f64; 7]) -> u64 {
     }
 }
 
-// One record more: what came of it, and at the input's end that there are no more.
-fn replayed(t: Tally) -> Tally {
-    let mut bytes = [0u8; 72];
-    if io::read_full(STDIN_FILENO, &mut bytes) < 72 {
-        return vectors::ended(t);
-    }
+// One record more: whether it agrees, and none at the input's end.
+fn replayed() -> Option<bool> {
+    let bytes = vectors::next_bytes::<72>()?;
     let got = answer(patterns::word(&bytes, 0), numbers(&bytes));
-    vectors::counted(t, got == patterns::word(&bytes, 64))
-}
-
-// A proved loop has to end, and nothing says that the input does: the loop counts its turns down.
-fn replay() -> Tally {
-    let mut t = vectors::begun();
-    let mut turns = u64::MAX;
-    while turns > 0 && t.more {
-        t = replayed(t);
-        turns -= 1;
-    }
-    t
+    Some(got == patterns::word(&bytes, 64))
 }
 
 fn main() {
-    vectors::totals(replay());
+    vectors::replay(replayed).write();
 }

@@ -1,19 +1,17 @@
 -- `vectors::areas::mark` meets its contract: after so many turns the first places hold their marks.
 use Rattle.std.proofs.Common.{◌≡◌, ℕ, length, take, sym, ◌∙◌, arith, take_all}
-use lib.Ieee.{Float, nan, binary64, of_bits}
 use Rattle.area.specs.Area.{written}
 use Rattle.area.proofs.Places.{all_turns}
 use Rattle.area.proofs.Turns.{length-written}
 use Rattle.area.proofs.Tables.{take_start}
-use Rattle.vectors.specs.Lent.{mark_at}
 use Rattle.vectors.proofs.areas.mark.Goals as goal
 
 pub returns : goal.returns
-returns c =
+returns g c =
     let l = c.loop-at in
     let area₀ = c.args.area.now in
     let all : l.at ≡ length area₀ = omega arith in
-    let marks : ℕ → Float = λ i. of_bits binary64 (mark_at i) in
+    let marks = λ (i : ℕ). g.T.Place.of_word (g.T.Place.marked i) in
     let whole : take (length area₀) (written 0 (length area₀) marks area₀) ≡ written 0 (length area₀) marks area₀ =
     take_all (length area₀) (written 0 (length area₀) marks area₀) (omega (arith, length-written 0 (length area₀) marks area₀)) in
-    all_turns 0 marks area₀ all l.invariant.0 ∙ sym whole ∙ take_start (length area₀) marks area₀ nan (omega arith)
+    all_turns 0 marks area₀ all l.invariant.0 ∙ sym whole ∙ take_start (length area₀) marks area₀ g.T.Place.none (omega arith)
