@@ -196,6 +196,12 @@ class Verdicts(unittest.TestCase):
     def test_an_open_goal(self):
         self.assertEqual(self.verdict(self.GOAL, self.OWN), ("refused", "src/lib.rt:142:9"))
 
+    def test_the_invariant_of_a_value(self):
+        """What a ghost field says of a value that is made there."""
+        made = "note: src/lib.rt:75:43: `search` found no proof (`invariant_of-known`); the facts known there allow values at which this goal is false\n"
+        self.assertEqual(self.verdict(made, self.OWN), ("refused", "src/lib.rt:75:43"))
+        self.assertEqual(self.verdict(self.GONE, made, self.OWN), ("refused", "src/lib.rt:75:43"))
+
     def test_an_open_goal_of_a_function_whose_proof_does_not_fit(self):
         """The goal's name is another in the changed code, so its answer goes by another name."""
         for line in (self.GONE, self.NO_STEP):

@@ -6,9 +6,10 @@ from typing import Optional
 REFUSED, SHAPE, SURVIVED, BAD = "refused", "refused only by the proof's shape", "SURVIVED", "BAD EDIT"
 UNPROVED = "not tried, since its crate is not proved as it stands"
 
-# an error in a file; of a function, a note on a goal that the prover found no answer to by itself; and what became of a function, below all such notes on it
+# an error in a file; of a function, a note on a goal that the prover found no answer to by itself, the invariant of a value that it makes among them; and what
+# became of a function, below all such notes on it
 LINE = re.compile(
-    r"^(?P<place>\S+?): error: (?P<said>.*)$|^note: (?P<at>\S+?): (?P<unproved>it is not proved that .*)$|^fn (?P<function>\S+): ", re.MULTILINE
+    r"^(?P<place>\S+?): error: (?P<said>.*)$|^note: (?P<at>\S+?): (?P<unproved>(it is not proved that |`search` found no proof \(`invariant_of-).*)$|^fn (?P<function>\S+): ", re.MULTILINE
 )
 # a proof names what is not there any more, most often a goal or a step of the code: both have their names from the code's text, so that of `if x > 9` is gone
 # where it says `if x > 8`. The proof does not fit the code then, and whatever else is wrong in its file may come from that
