@@ -592,7 +592,9 @@ pub struct FractionTable {
 }
 
 impl FractionTable {
-    pub fn new() -> Self {
+    pub fn new() -> Self
+        ensures { result.entries ≡ fraction_table }
+    {
         Self {
             entries: fraction_table(),
         }

@@ -38,14 +38,14 @@ pub(crate) struct Taken<'a> {
 
 impl Taken<'_> {
     // n + p
-    pub fn size(&self) -> usize
+    pub(crate) fn size(&self) -> usize
         ensures { result ≡ size (survey_lent self.now.survey.now) }
     {
         self.survey.wells() + self.p
     }
 
     // Where well i is.
-    pub fn well(&self, i: usize) -> Place
+    pub(crate) fn well(&self, i: usize) -> Place
         requires { i < wells (survey_lent self.now.survey.now) }
         ensures x { result.x ≡ well_x (survey_lent self.now.survey.now) i }
         ensures y { result.y ≡ well_y (survey_lent self.now.survey.now) i }
@@ -58,7 +58,7 @@ impl Taken<'_> {
     }
 
     // Where node q is.
-    pub fn node(&self, q: usize) -> Place
+    pub(crate) fn node(&self, q: usize) -> Place
         requires { q < node_count (survey_lent self.now.survey.now) }
         ensures x { result.x ≡ node_x (survey_lent self.now.survey.now) q }
         ensures y { result.y ≡ node_y (survey_lent self.now.survey.now) q }
