@@ -3,7 +3,7 @@ use Prim.Native.Nat.{ℕ, ◌*◌, ◌-◌, ◌<◌, ◌≤◌}
 use native.Mathlib.Omega.{arith}
 use mathlib.Core.Path.{◌≡◌, refl, ◌∙◌}
 use mathlib.Core.Logic.{◌≢◌}
-use mathlib.Core.List.{List}
+use mathlib.Core.List.{List, []}
 use borrow.Author.Tests.{lt-ltb, le-ltb}
 use lib.Ieee.{Float, nan, binary64, sub, mul}
 use lib.ListN.{get_or}
@@ -12,6 +12,7 @@ use Rattle.variogram.specs.Model.{semivariance}
 use Rattle.variogram.specs.Distance.{axis_from, distance}
 use Rattle.interpolator_theory.specs.declared.KrigingType.{KrigingType}
 use Rattle.interpolator_theory.specs.declared.KrigingType.TheVariants.{Ordinary, Universal}
+use Rattle.interpolator.specs.declared.KrigingInterpolator.{KrigingInterpolator}
 use Rattle.interpolator_theory.specs.Call.{Query, wells, added}
 use Rattle.interpolator_theory.specs.Assembly.{covariance, trend, trend_at, column, entry}
 
@@ -68,3 +69,24 @@ module _ (q : Query) (i j : ℕ) where
   pub lower_right : wells q ≤ j → wells q ≤ i → zero_float ≡ entry q i j
   unfolding entry
   lower_right h k = rw (le-ltb j (wells q) h, le-ltb i (wells q) k)
+
+-- ---- neither reads the targets: they are those of the same query with no target
+module _ (interpolator : KrigingInterpolator) (values points targets : List Float) (d : ℕ) where
+  -- a query of these, with whatever targets
+  abbrev pub asked : List Float → Query
+  asked ys = record {
+    kriging_type = interpolator.kriging_type;
+    variogram = interpolator.variogram;
+    dimension = d;
+    values = values;
+    points = points;
+    targets = ys;
+  }
+
+  pub column_unread : (ys : List Float) (j : ℕ) → column (asked []) ys j ≡ column (asked targets) ys j
+  unfolding column covariance trend_at
+  column_unread ys j = refl
+
+  pub entry_unread : entry (asked []) ≡ entry (asked targets)
+  unfolding entry column covariance trend_at
+  entry_unread = refl

@@ -1,11 +1,12 @@
 -- The areas node after node: what q nodes have left in them, one node more, and what all have left is the answer.
-use Rattle.std.proofs.Common.{ℕ, ◌+◌, ◌-◌, ◌*◌, ◌/◌, ◌%◌, ◌≡◌, refl, ap, sym, ◌∙◌, Bool, cond, eqb, List, get_or, set, arith}
+use Rattle.std.proofs.Common.{ℕ, ◌+◌, ◌-◌, ◌*◌, ◌/◌, ◌%◌, ◌≤◌, ◌<◌, ◌≡◌, refl, ap, sym, ◌∙◌, Bool, cond, eqb, List, get_or, set, arith}
 use native.Mathlib.Nat.{mul_comm}
 use borrow.Author.Tests.{ne_eqb}
 use lib.Ieee.{Float, nan}
 use Rattle.area.specs.Area.{written, filled}
 use Rattle.area.proofs.Start.{next_start}
 use Rattle.area.proofs.Places.{same_values, written_over}
+use Rattle.area.proofs.Rows.{row_end}
 use Rattle.area.proofs.Filled.{next_row, one_fill}
 use Rattle.ieee.specs.Floats.{zero_float}
 use Rattle.survey.specs.Survey.{Survey, wells, node_count, columns, size}
@@ -13,6 +14,10 @@ use Rattle.kriging_theory.specs.Areas.{Areas, areas_of}
 use Rattle.kriging_theory.specs.Node.{Node}
 use Rattle.system_theory.specs.Slopes.{slope}
 use Rattle.kriging_theory.specs.Fit.{answered}
+
+-- a row of so many of a list's numbers lies inside
+pub row_inside : (w q m len : ℕ) → q < m → w * m ≤ len → q * w + w ≤ len
+row_inside w q m len h k = omega (arith, row_end w q m h, mul_comm w m)
 
 -- multiplier j after q nodes: the last one's, and 0 where there is none
 abbrev last_of : Survey → (ℕ → Node) → ℕ → ℕ → Float

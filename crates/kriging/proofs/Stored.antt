@@ -6,6 +6,7 @@ use lib.Ieee.{Float, nan}
 use borrow.Rule.Slice.PartMut.{mid_of, put_mid}
 use Rattle.area.specs.Area.{written}
 use Rattle.area.proofs.Turns.{length-written}
+use Rattle.area.proofs.Places.{same_values}
 use Rattle.area.proofs.Start.{from_start}
 use Rattle.ieee.specs.Floats.{zero_float}
 use Rattle.elimination.proofs.Sections.{part_long, part_filled}
@@ -50,13 +51,12 @@ module _ (s : Survey) (p : ℕ) (is : columns s ≡ p) (area part : List Float) 
       ∙ ap (λ (k : ℕ). get_or z (k + j) nan) m ∙ same (wells s + j) (omega arith))
 
 -- row q of the weights, from the first places of z
-pub weights_stored : (s : Survey) (area part z of : List Float) → wells s ≤ length z → ((j : ℕ) → j < wells s → get_or z j nan ≡ get_or of j nan)
-    → (q n : ℕ) → n ≡ wells s → q * wells s + wells s ≤ length area → part ≡ take n z
-    → put_mid (q * n) ((q + 1) * n - q * n) area part ≡ written (q * wells s) (wells s) (λ j. get_or of j nan) area
-weights_stored s area part z of long same q n m room e =
-    let inside : q * n + n ≤ length area = rw m room in
-    let all : n ≡ (q + 1) * n - q * n = omega arith in
-    part_filled (q * n) ((q + 1) * n - q * n) (wells s) (λ j. get_or of j nan) area part nan (omega arith) (omega arith)
-    (ap length e ∙ length-take-le n z (omega arith) ∙ all)
-    (λ j b. ap (λ (xs : List Float). get_or xs j nan) e ∙ get_or-take n z j nan (omega arith) ∙ same j b)
-    ∙ ap (λ (k : ℕ). written (q * k) (wells s) (λ j. get_or of j nan) area) m
+pub weights_stored : (s : Survey) (area z of : List Float) → wells s ≤ length z → ((j : ℕ) → j < wells s → get_or z j nan ≡ get_or of j nan)
+    → (q n : ℕ) → n ≡ wells s
+    → written (q * n) (length (take n z)) (λ j. get_or (take n z) j nan) area ≡ written (q * wells s) (wells s) (λ j. get_or of j nan) area
+weights_stored s area z of long same q n m =
+    let l : length (take n z) ≡ n = length-take-le n z (omega arith) in
+    ap (λ (k : ℕ). written (q * n) k (λ j. get_or (take n z) j nan) area) l
+    ∙ same_values (q * n) n (λ j. get_or (take n z) j nan) (λ j. get_or of j nan) area
+    (λ j b. get_or-take n z j nan b ∙ same j (omega arith))
+    ∙ ap (λ (k : ℕ). written (q * k) k (λ j. get_or of j nan) area) m

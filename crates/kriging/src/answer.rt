@@ -1,5 +1,7 @@
 // The answer of an accepted fit, from the finished elimination into the lent areas.
-ghost use Rattle.std.specs.Prelude.{◌≡◌, ◌*◌, ◌≤◌, length};
+ghost use Rattle.std.specs.Prelude.{◌≡◌, ◌+◌, ◌*◌, ◌≤◌, length, get_or};
+ghost use Rattle.std.specs.Float.{nan};
+ghost use Rattle.area.specs.Area.{written};
 ghost use Rattle.error.specs.Short.{LongEnough};
 ghost use Rattle.survey.specs.Lent.{survey_lent};
 ghost use Rattle.survey.specs.Survey.{size};
@@ -12,6 +14,18 @@ use crate::Areas;
 use crate::call::WellDrift;
 use crate::node::krige_node;
 use survey::MOST_COLUMNS;
+
+// Numbers, stored to an area from place `at` on.
+// kept: number after number, since of a copy to a part of the weights the compiler does not see that `wellmap` reads none of them, and keeps room for them:
+// 36 KB of its stack.
+fn store(numbers: &[f64], area: &mut [f64], at: usize)
+    requires { at + length numbers.now ≤ length area.old }
+    ensures { area.new ≡ written at (length numbers.now) (λ j. get_or numbers.now j nan) area.old }
+{
+    for j in 0..numbers.len() {
+        area[at + j] = numbers[j];
+    }
+}
 
 // The trend, and every node. The multipliers are the last node's: each node's are stored over those of the one before, and the first
 // one's over zeros.
@@ -35,7 +49,7 @@ pub(crate) fn krige_nodes(drift: &WellDrift<'_>, areas: &mut Areas<'_>)
         areas.predicted[q] = node.figure;
         areas.variance[q] = node.variance;
         areas.verdicts[q] = node.finding.number() as u8;
-        areas.weights[q * n..(q + 1) * n].copy_from_slice(&node.z[..n]);
+        store(&node.z[..n], areas.weights, q * n);
         areas.multipliers[0..p].copy_from_slice(&node.z[n..n + p]);
     }
 }

@@ -8,13 +8,22 @@ mod assembly; // assembly.rt: the matrix beside the identity
 mod node; // node.rt: one node
 mod answer; // answer.rt: the trend and every node, into the areas
 
-ghost use Rattle.std.specs.Prelude.{◌≡◌};
+ghost use Rattle.std.specs.Prelude.{◌≡◌, ◌≢◌, ◌↔◌, true, ℕ};
 ghost use Rattle.error.specs.Outcome.{ended};
+ghost use Rattle.error.specs.Rules.{Ruled, NoneApplies};
+ghost use Rattle.elimination.specs.Elimination.{stepped, StopsAt, Through};
 ghost use Rattle.survey.specs.Limits.{library};
 ghost use Rattle.survey.specs.Lent.{survey_lent};
+ghost use Rattle.survey.specs.Survey.{size};
+ghost use Rattle.kriging_theory.specs.Areas.{with_work};
+ghost use Rattle.kriging_theory.specs.Assembly.{assembled};
+ghost use Rattle.kriging_theory.specs.Rules.{rules};
 ghost use Rattle.kriging_theory.specs.Refusals.{refusal};
 ghost use Rattle.kriging_theory.specs.Fit.{fitted};
 ghost use Rattle.kriging_theory.specs.Promise.{Promise};
+ghost use Rattle.kriging_theory.specs.Untouched.{Untouched};
+ghost use Rattle.kriging_theory.specs.System.{Kriged};
+ghost use Rattle.kriging_theory.specs.Trend.{TrendKept};
 ghost use Rattle.kriging.specs.Lent.{areas_lent, StillLent};
 
 use crate::answer::krige_nodes;
@@ -61,6 +70,28 @@ impl Areas<'_> {
 // node.
 pub fn universal_kriging_fit(survey: &Survey<'_>, areas: &mut Areas<'_>) -> Result<(), Refusal>
     ensures promise { Promise library (survey_lent survey.now) (areas_lent areas.old) (ended result (areas_lent areas.new)) }
+    ensures shown {  -- its seven fields: the survey, the areas as they were lent, and how the call ended: its number and the areas at exit
+        let s = survey_lent survey.now in
+        let a = areas_lent areas.old in
+        let e = ended result (areas_lent areas.new) in
+        let matrix = assembled s a.work in
+        -- the whole of it, refused calls too
+        let equation : Type 0 = e ≡ fitted library s a in
+        -- any number but 0 and 19 is that of the first rule that applies, and then nothing is written
+        let ruled : Type 0 = ((k : ℕ) → k ≢ 0 → k ≢ 19 → (e.number ≡ k) ↔ Ruled (rules library s a) k) × (e.number ≢ 0 → e.number ≢ 19 → e.areas ≡ a) in
+        -- 19 exactly where no rule applies and some step holds a magnitude below 2^-52; the work area is then as it was before that step
+        let stopped : Type 0 = ((e.number ≡ 19) ↔ (NoneApplies (rules library s a) × ((i : ℕ) × StopsAt true (size s) i matrix)))
+        × ((i : ℕ) → e.number ≡ 19 → StopsAt true (size s) i matrix → e.areas ≡ with_work a (stepped true (size s) i matrix)) in
+        -- 0 exactly where no rule applies and every step goes through
+        let accepted : Type 0 = (e.number ≡ 0) ↔ (NoneApplies (rules library s a) × Through true (size s) (size s) matrix) in
+        -- past the named lengths every area is as it was, however the call ends
+        let kept : Type 0 = Untouched s a e.areas in
+        -- the matrix of an accepted fit is the kriging system's, and its areas hold the unknowns: weights, figures, variances, multipliers; and the trend,
+        -- from the same inverse
+        let kriged : Type 0 = e.number ≡ 0 → Kriged s a e.areas in
+        -- demand 3: in an accepted fit each node has exactly the verdict of its own weights and figure, and one that passed keeps the trend bound
+        let bounded : Type 0 = TrendKept s e in
+        equation × ruled × stopped × accepted × kept × kriged × bounded }
     ensures lent { StillLent areas.old areas.new }
 {
     fit_refusal(Limits::library(), survey, areas)?;

@@ -3,12 +3,18 @@ use Prim.Native.Nat.{ℕ, zero, suc, ◌+◌, ◌-◌, ◌*◌, ◌^◌, ◌<◌
 use native.Mathlib.Omega.{arith}
 use mathlib.Core.Path.{◌≡◌, refl, ap, sym, ◌∙◌}
 use mathlib.Core.List.{List, [], ◌∷◌, ◌++◌}
+use mathlib.Core.Logic.{inl, inr, ◌⊎◌}
+use denote.Ref.{Bor}
+use Rattle.std.proofs.Common.{Option, Some, None}
+use Rattle.std.specs.Option.{MatchOption, unwrap_or}
+use Rattle.std.specs.List.{slice_range}
+use Rattle.std.proofs.lemmas.Slice.{between_to_end}
 use Rattle.std.specs.Int.{from_le_bytes}
 use Rattle.std.proofs.Common.{w64}
 use Rattle.ieee.specs.Bytes.{number_in}
 use lib.Dec.{lit<}
 use lib.ListN.{length, get_or, take, drop, replicate, length-append, length-replicate}
-use Rattle.std.proofs.lemmas.List.{drop-replicate}
+use Rattle.std.proofs.lemmas.List.{drop-replicate, drop_all}
 use lib.Seq.{take-length}
 use Rattle.std.proofs.Common.{pow-suc}
 use Rattle.ieee.proofs.Bytes.{number_more}
@@ -60,3 +66,12 @@ word_of_few xs k few h =
     let many : length zeros ≡ 8 - k = ap length past ∙ length-replicate {A = ℕ} (8 - k) 0 in
     let eight : length (xs ++ zeros) ≡ 8 = omega (arith, length-append xs zeros, many) in
     word_of_eight (xs ++ zeros) eight ∙ ap (λ (ys : List ℕ). number_in (xs ++ ys)) past ∙ zeros_after xs (8 - k)
+
+-- what `get` finds from a place on, and no byte where that is past the end
+pub from_place : (r : Option (Bor (List ℕ))) (none : Bor (List ℕ)) (bytes : List ℕ) (at : ℕ) → none.now ≡ []
+    → MatchOption r ((length bytes < at) ⊎ (length bytes < length bytes)) (λ x. (at ≤ length bytes) × (length bytes ≤ length bytes)
+    × (x.now ≡ slice_range bytes at (length bytes)) × (length x.now + at ≡ length bytes))
+    → (unwrap_or r none).now ≡ drop at bytes
+from_place None none bytes at e (inl h) = e ∙ sym (drop_all at bytes (omega arith))
+from_place None none bytes at e (inr h) = absurd (omega arith)
+from_place (Some x) none bytes at e h = h.2 ∙ between_to_end bytes at (length bytes) (omega arith)

@@ -24,7 +24,10 @@ pub fn number(bytes: &[u8], at: usize, width: usize) -> u64
 pub fn word(bytes: &[u8], at: usize) -> u64
     ensures { result ≡ word_at bytes.now at }
 {
-    number(bytes, at, 8)
+    match bytes.get(at..).unwrap_or(&[]).first_chunk::<8>() {
+        Some(eight) => u64::from_le_bytes(*eight),
+        None => number(bytes, at, 8),
+    }
 }
 
 // The float of a bit pattern: every pattern of a NaN is one.

@@ -34,5 +34,8 @@ pub(crate) fn read_codes(bytes: &[u8], count: usize, list: &mut [u8])
     requires { (count ≤ length bytes.now) × (count ≤ length list.old) }
     ensures { list.new ≡ copied 0 (take count bytes.now) list.old }
 {
-    list[..count].copy_from_slice(&bytes[..count]);
+    // kept: code after code, since a copy of one slice to another asks the C library for `memmove`, which the archive did not need
+    for i in 0..count {
+        list[i] = bytes[i];
+    }
 }

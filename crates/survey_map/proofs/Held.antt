@@ -67,7 +67,7 @@ module _ (bytes : List ℕ) (before after : Areas) (h : Header) (e : Ends newest
   pub read_holding : Holding h after
   read_holding = let r = e.reads refl in subst (λ (g : Header). Holding g after) told (holding bytes before after r.lengths r.filled)
 
-  read_held : survey_held h after ≡ survey_in bytes
+  pub read_held : survey_held h after ≡ survey_in bytes
   read_held =
       let r = e.reads refl in
       ap (λ (g : Header). survey_held g after) (sym told) ∙ held bytes before after r.lengths r.filled

@@ -1,31 +1,17 @@
 -- `patterns::number` meets its contract: the bytes from a place on, and of those so many.
 use native.Mathlib.Omega.{arith}
-use mathlib.Core.Path.{◌≡◌, refl, ap, sym, ◌∙◌}
-use mathlib.Core.List.{List, [], ◌++◌}
-use mathlib.Core.Logic.{inl, inr, ◌⊎◌}
-use Prim.Native.Nat.{ℕ, ◌+◌, ◌≤◌, ◌<◌, min}
+use mathlib.Core.Path.{◌≡◌, refl, ap, ◌∙◌}
+use mathlib.Core.List.{List, ◌++◌}
+use Prim.Native.Nat.{ℕ, ◌≤◌, min}
 use lib.ListN.{length, drop, take, replicate}
 use denote.Ref.{Bor}
-use Rattle.std.proofs.Common.{Option, Some, None}
-use Rattle.std.specs.Option.{MatchOption, unwrap_or}
-use Rattle.std.specs.List.{slice_range}
-use Rattle.std.proofs.lemmas.List.{take_min, length-take-le, drop_all}
-use Rattle.std.proofs.lemmas.Slice.{between_to_end}
+use Rattle.std.proofs.lemmas.List.{take_min, length-take-le}
 use Rattle.std.specs.Int.{from_le_bytes}
 use Rattle.std.proofs.Common.{w64}
 use Rattle.patterns.specs.Words.{number_at}
-use Rattle.patterns.proofs.Words.{number_below, word_of_few}
+use Rattle.patterns.proofs.Words.{number_below, word_of_few, from_place}
 use Rattle.ieee.specs.Bytes.{number_in}
 use Rattle.patterns.proofs.number.Goals as goal
-
--- what `get` finds from a place on, and no byte where that is past the end
-from : (r : Option (Bor (List ℕ))) (none : Bor (List ℕ)) (bytes : List ℕ) (at : ℕ) → none.now ≡ []
-    → MatchOption r ((length bytes < at) ⊎ (length bytes < length bytes)) (λ x. (at ≤ length bytes) × (length bytes ≤ length bytes)
-    × (x.now ≡ slice_range bytes at (length bytes)) × (length x.now + at ≡ length bytes))
-    → (unwrap_or r none).now ≡ drop at bytes
-from None none bytes at e (inl h) = e ∙ sym (drop_all at bytes (omega arith))
-from None none bytes at e (inr h) = absurd (omega arith)
-from (Some x) none bytes at e h = h.2 ∙ between_to_end bytes at (length bytes) (omega arith)
 
 pub returns : goal.returns
 returns c =
@@ -34,7 +20,7 @@ returns c =
     let rest = c.unwrap_or-rest.result.now in
     let count = c.min-count.result in
     let rest_is : rest ≡ drop c.args.at bytes =
-    ap (λ (r : Bor (List ℕ)). r.now) c.unwrap_or-rest.ensures ∙ from c.get.result _ bytes c.args.at refl c.get.ensures.lookup.0 in
+    ap (λ (r : Bor (List ℕ)). r.now) c.unwrap_or-rest.ensures ∙ from_place c.get.result _ bytes c.args.at refl c.get.ensures.lookup.0 in
     let taken_is : take count rest ≡ take width (drop c.args.at bytes) =
     ap (λ (n : ℕ). take n rest) (c.min-count.ensures ∙ ap (λ (n : ℕ). min n (length rest)) c.min.ensures)
     ∙ take_min width rest

@@ -51,14 +51,12 @@ loop-q-preserved c =
     let work = c.finished-in-loop-q.ensures ∙ v.progress.work in
     let same : (j : ℕ) → j < size s → get_or z j nan ≡ get_or (node q).z j nan =
     λ j l. sym (get_or-take (size s) z j nan l) ∙ ap (λ (zs : List Float). get_or zs j nan) (is.z ∙ ap (λ (w : List Float). (node_of s w q).z) work) in
-    let room : q * wells s + wells s ≤ length held.weights =
-    omega (arith, row_end (wells s) q (node_count s) (omega arith), mul_comm (wells s) (node_count s), c.requires.room.1.1.1.0, v.weights) in
     let weights =
-    weights_stored s held.weights _ z (node q).z (omega (arith, is.places, t.few, t.narrow)) (λ j l. same j (omega arith)) q
-    c.wells-n.result c.wells-n.ensures room c.copy_from_slice-in-loop-q.ensures.after in
+    c.store.ensures ∙ weights_stored s held.weights z (node q).z (omega (arith, is.places, t.few, t.narrow)) (λ j l. same j (omega arith)) q
+    c.wells-n.result c.wells-n.ensures in
     let multipliers =
     multipliers_stored s t.p t.columns held.multipliers _ (omega (arith, t.columns, c.requires.room.1.1.1.1.0, v.multipliers)) z (node q).z
-    (omega (arith, is.places, t.few, t.narrow)) same c.wells-n.result c.wells-n.ensures c.copy_from_slice-in-loop-q-2.ensures.after in
+    (omega (arith, is.places, t.few, t.narrow)) same c.wells-n.result c.wells-n.ensures c.copy_from_slice-in-loop-q.ensures.after in
     record {
       lent = record {
         work = v.lent.work;
